@@ -1,0 +1,75 @@
+-- How tests that decide claims are put together: each connective of Bool decides that of claims, and each search
+-- decides that some, every or the least number has the claim. A twin of a check is proved by composing these.
+-- Assumes nothing.
+use mathlib.Core.Path.{_≡_, refl, sym, _∙_}
+use mathlib.Core.Logic.{_⊎_, inl, inr, ⊎-elim}
+use mathlib.Core.Bool.{Bool, true, false, not, _&&_, _||_, true≢false}
+use Prim.Native.Nat.{ℕ, _<_, _≤_}
+use lib.Dec.{eqb, ltb, leb}
+use borrow.Author.Tests.{lt-ltb, le-leb, eq-eqb, ltb-true, leb-true, eqb-true}
+use Rattle.base.specs.Reflect.{Reflects}
+
+pub reflect-eq : (a b : ℕ) → Reflects (eqb a b) (a ≡ b)
+reflect-eq a b = record { sound = eqb-true a b; complete = eq-eqb a b }
+
+pub reflect-le : (a b : ℕ) → Reflects (leb a b) (a ≤ b)
+reflect-le a b = record { sound = leb-true a b; complete = le-leb a b }
+
+pub reflect-lt : (a b : ℕ) → Reflects (ltb a b) (a < b)
+reflect-lt a b = record { sound = ltb-true a b; complete = lt-ltb a b }
+
+-- a test decides that it is true
+pub reflect-true : (b : Bool) → Reflects b (b ≡ true)
+reflect-true b = record { sound = λ e. e; complete = λ e. e }
+
+pub and-true : (a b : Bool) → (a && b) ≡ true → (a ≡ true) × (b ≡ true)
+and-true true b e = (refl, e)
+and-true false b e = absurd (true≢false (sym e))
+
+pub or-true : (a b : Bool) → (a || b) ≡ true → (a ≡ true) ⊎ (b ≡ true)
+or-true true b e = inl refl
+or-true false b e = inr e
+
+pub or-intro : (a b : Bool) → (a ≡ true) ⊎ (b ≡ true) → (a || b) ≡ true
+or-intro true b e = refl
+or-intro false b (inl e) = absurd (true≢false (sym e))
+or-intro false b (inr e) = e
+
+-- what is not false is true
+pub not-false-true : (b : Bool) → (b ≡ false → ⊥) → b ≡ true
+not-false-true true h = refl
+not-false-true false h = absurd (h refl)
+
+pub not-true-false : (b : Bool) → (b ≡ true → ⊥) → b ≡ false
+not-true-false true h = absurd (h refl)
+not-true-false false h = refl
+
+-- a test that decides a claim is false exactly where the claim fails
+pub refuted : {b : Bool} {P : Type 0} → Reflects b P → b ≡ false → P → ⊥
+refuted r e p = true≢false (sym (r .complete p) ∙ e)
+
+pub refutes : {b : Bool} {P : Type 0} → Reflects b P → (P → ⊥) → b ≡ false
+refutes {b} r h = not-true-false b (λ e. h (r .sound e))
+
+pub reflect-and : {a b : Bool} {P Q : Type 0} → Reflects a P → Reflects b Q → Reflects (a && b) (P × Q)
+reflect-and {a} {b} p q = record {
+  sound = λ e. let h = and-true a b e in (p .sound (h .0), q .sound (h .1));
+  complete = λ h. simp (p .complete (h .0), q .complete (h .1));
+}
+
+pub reflect-or : {a b : Bool} {P Q : Type 0} → Reflects a P → Reflects b Q → Reflects (a || b) (P ⊎ Q)
+reflect-or {a} {b} p q = record {
+  sound = λ e. ⊎-elim (λ h. inl (p .sound h)) (λ h. inr (q .sound h)) (or-true a b e);
+  complete = λ h. or-intro a b (⊎-elim (λ x. inl (p .complete x)) (λ x. inr (q .complete x)) h);
+}
+
+pub reflect-not : {b : Bool} {P : Type 0} → Reflects b P → Reflects (not b) (P → ⊥)
+reflect-not {b} r = record { sound = λ e. refuted r (flip b e); complete = λ h. simp (refutes r h) }
+  where
+    flip : (b : Bool) → not b ≡ true → b ≡ false
+    flip true e = sym e
+    flip false e = refl
+
+-- the same test, of a claim that says the same
+pub reflect-as : {b : Bool} {P Q : Type 0} → Reflects b P → (P → Q) → (Q → P) → Reflects b Q
+reflect-as r f g = record { sound = λ e. f (r .sound e); complete = λ q. r .complete (g q) }

@@ -1,0 +1,2 @@
+pub mod Reflect
+pub mod Search

@@ -1,0 +1,1 @@
+// Definitions and laws that every crate above cites. There is no code.
