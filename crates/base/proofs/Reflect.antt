@@ -1,12 +1,12 @@
 -- How tests that decide claims are put together: each connective of Bool decides that of claims, and each search
 -- decides that some, every or the least number has the claim. A twin of a check is proved by composing these.
 -- Assumes nothing.
-use mathlib.Core.Path.{_≡_, refl, sym, _∙_}
+use mathlib.Core.Bool.{Bool, _&&_, _||_, cond, false, not, true, true≢false}
 use mathlib.Core.Logic.{_⊎_, inl, inr, ⊎-elim}
-use mathlib.Core.Bool.{Bool, true, false, not, _&&_, _||_, true≢false}
-use Prim.Native.Nat.{ℕ, _<_, _≤_}
-use lib.Dec.{eqb, ltb, leb}
-use borrow.Author.Tests.{lt-ltb, le-leb, eq-eqb, ltb-true, leb-true, eqb-true}
+use mathlib.Core.Path.{_∙_, _≡_, refl, sym}
+use Prim.Native.Nat.{_<_, _≤_, ℕ}
+use lib.Dec.{eqb, leb, ltb}
+use borrow.Author.Tests.{eq-eqb, eqb-true, le-leb, leb-true, lt-ltb, ltb-true}
 use Rattle.base.specs.Reflect.{Reflects}
 
 pub reflect-eq : (a b : ℕ) → Reflects (eqb a b) (a ≡ b)
@@ -73,3 +73,40 @@ reflect-not {b} r = record { sound = λ e. refuted r (flip b e); complete = λ h
 -- the same test, of a claim that says the same
 pub reflect-as : {b : Bool} {P Q : Type 0} → Reflects b P → (P → Q) → (Q → P) → Reflects b Q
 reflect-as r f g = record { sound = λ e. f (r .sound e); complete = λ q. r .complete (g q) }
+
+-- a choice by a test
+cond-by : {P Q R : Type 0} (a b c : Bool) → Reflects a P → Reflects b Q → Reflects c R
+    → Reflects (cond a b c) ((P × Q) ⊎ ((P → ⊥) × R))
+cond-by true b c p q r = record {
+  sound = λ e. inl (p .sound refl, q .sound e);
+  complete = λ h. ⊎-elim (λ x. q .complete (x .1)) (λ x. absurd (x .0 (p .sound refl))) h;
+}
+cond-by false b c p q r = record {
+  sound = λ e. inr (refuted p refl, r .sound e);
+  complete = λ h. ⊎-elim (λ x. absurd (refuted p refl (x .0))) (λ x. r .complete (x .1)) h;
+}
+
+pub reflect-cond : {a b c : Bool} {P Q R : Type 0} → Reflects a P → Reflects b Q → Reflects c R
+    → Reflects (cond a b c) ((P × Q) ⊎ ((P → ⊥) × R))
+reflect-cond {a} {b} {c} p q r = cond-by a b c p q r
+
+-- the same, said by what each side of the test asks
+if-by : {P Q R : Type 0} (a b c : Bool) → Reflects a P → Reflects b Q → Reflects c R
+    → Reflects (cond a b c) ((P → Q) × ((P → ⊥) → R))
+if-by true b c p q r = record {
+  sound = λ e. ((λ _. q .sound e), (λ n. absurd (n (p .sound refl))));
+  complete = λ h. q .complete (h .0 (p .sound refl));
+}
+if-by false b c p q r = record {
+  sound = λ e. ((λ x. absurd (refuted p refl x)), (λ _. r .sound e));
+  complete = λ h. r .complete (h .1 (refuted p refl));
+}
+
+pub reflect-if : {a b c : Bool} {P Q R : Type 0} → Reflects a P → Reflects b Q → Reflects c R
+    → Reflects (cond a b c) ((P → Q) × ((P → ⊥) → R))
+reflect-if {a} {b} {c} p q r = if-by a b c p q r
+
+-- a negated test decides that the test is false
+pub reflect-false : (b : Bool) → Reflects (not b) (b ≡ false)
+reflect-false true = record { sound = λ e. sym e; complete = λ e. sym e }
+reflect-false false = record { sound = λ e. refl; complete = λ e. refl }

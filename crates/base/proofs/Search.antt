@@ -188,8 +188,21 @@ module _ (p : ℕ → Bool) where
   pub all-end : (n i : ℕ) → allBelow i p ≡ true → i ≤ n → n ≤ i → true ≡ allBelow n p
   all-end n i h a b = sym (rw (le-antisymm a b) at h)
 
-pub ruleset searches =
-    (any-start, any-more, any-found, any-end, first-at, first-past, all-start, all-more, all-failed, all-end)
+-- `not-true` and `not-false` serve a flag that the loop negates
+pub ruleset searches = (
+  any-start,
+  any-more,
+  any-found,
+  any-end,
+  first-at,
+  first-past,
+  all-start,
+  all-more,
+  all-failed,
+  all-end,
+  not-true,
+  not-false,
+)
 
 -- ---- the loop `for i in 0..k { sum += f(n + i); }`, whose invariant is `sum + sumFrom f (n + i) (k - i) ≡ r`
 module _ (f : ℕ → ℕ) (n k r : ℕ) where

@@ -1,0 +1,72 @@
+-- Records: a step of each loop over the entries.
+-- Assumes nothing.
+use mathlib.Core.List.{List, [], _++_, _∷_, map}
+use mathlib.Core.Path.{_∙_, _≡_, ap, refl, sym}
+use Prim.Native.Nat.{_*_, _+_, _-_, _<_, _≤_, suc, ℕ}
+use native.Mathlib.Numerals.{add-one}
+use native.Mathlib.Omega.{arith}
+use lib.ListN.{List·getD-eq-default, drop, drop-of-length-le, getD, length, length-append, length-map, set}
+use lib.Seq.{drop-cons, sets, sets-eq}
+use borrow.Author.Tests.{le-leb}
+use Rattle.record.proofs.Numbers.{length-leBytes, sets-append}
+use Rattle.record.specs.Codec.{bytesOf, entriesAt, entriesBytes, entryAt, entryBytes, fitsRecord, leBytes, written}
+use Rattle.record.specs.Entries.{noEntry}
+use Rattle.record.specs.declared.Entry.{Entry}
+use Rattle.record.specs.declared.Job.{Job}
+
+pub entry-stores : (o o₁ o₂ : List ℕ) (at : ℕ) (e : Entry) → o₁ ≡ sets o at (leBytes 8 (e .label)) → o₂ ≡ sets o₁ (at + 8) (leBytes 4 (e .frames))
+    → o₂ ≡ sets o at (entryBytes e)
+unfolding entryBytes
+entry-stores o o₁ o₂ at e p q =
+    q ∙ ap (λ (l : List ℕ). sets l (at + 8) (leBytes 4 (e .frames))) p
+    ∙ sym (sets-append (leBytes 8 (e .label)) o at (leBytes 4 (e .frames)) ∙ rw (length-leBytes 8 (e .label)))
+
+pub read-step : (s : List ℕ) (l : List Entry) (i : ℕ) → i < 8
+    → sets (set l i (entryAt s (4 + 12 * i))) (i + 1) (entriesAt s (4 + 12 * (i + 1)) (8 - (i + 1))) ≡ sets l i (entriesAt s (4 + 12 * i) (8 - i))
+unfolding entriesAt
+read-step s l i h =
+    let n : 8 - i ≡ suc (8 - (i + 1)) = omega arith in
+    let p : 4 + 12 * i + 12 ≡ 4 + 12 * (i + 1) = omega arith in
+    rw (n, p, add-one i)
+
+pub read-done : (s : List ℕ) (l : List Entry) (i : ℕ) → 8 ≤ i → sets l i (entriesAt s (4 + 12 * i) (8 - i)) ≡ entriesAt s 4 8 → l ≡ entriesAt s 4 8
+unfolding entriesAt
+read-done s l i h e = let n : 8 - i ≡ 0 = omega arith in rw n at e
+
+pub length-entryBytes : (e : Entry) → length (entryBytes e) ≡ 12
+unfolding entryBytes
+length-entryBytes e = rw (length-append, length-leBytes 8, length-leBytes 4)
+
+pub write-step : (o : List ℕ) (es : List Entry) (d : Entry) (i : ℕ) → i < length es
+    → sets (sets o (4 + 12 * i) (entryBytes (getD es i d))) (4 + 12 * (i + 1)) (entriesBytes (drop (i + 1) es)) ≡ sets o (4 + 12 * i) (entriesBytes (drop i es))
+unfolding entriesBytes
+write-step o es d i h =
+    let p : 4 + 12 * (i + 1) ≡ 4 + 12 * i + 12 = omega arith in
+    rw (p, add-one i, drop-cons es i d h, sets-append, length-entryBytes)
+
+pub length-entriesBytes : (es : List Entry) → length (entriesBytes es) ≡ 12 * length es
+unfolding entriesBytes
+length-entriesBytes [] = refl
+length-entriesBytes (e ∷ es) = rw (length-append, length-entryBytes, length-entriesBytes es) (omega arith)
+
+pub length-bytesOf : (j : Job) → length (j .entries) ≡ 8 → length (bytesOf j) ≡ 100
+unfolding bytesOf
+length-bytesOf j h = omega (arith, length-entriesBytes (j .entries))
+
+-- the whole record stored at the front
+pub write-done : (o out : List ℕ) (j : Job) (i : ℕ) → 8 ≤ i → length (j .entries) ≡ 8 → 100 ≤ length o
+    → sets out (4 + 12 * i) (entriesBytes (drop i (j .entries))) ≡ sets o 0 (bytesOf j) → out ≡ written j o
+unfolding written fitsRecord entriesBytes
+write-done o out j i hi n h e =
+    let none : drop i (j .entries) ≡ [] = drop-of-length-le (j .entries) {i = i} (omega arith) in
+    let all : length (bytesOf j) ≡ 100 = length-bytesOf j n in
+    let stored : sets o 0 (bytesOf j) ≡ bytesOf j ++ drop 100 o = sets-eq (bytesOf j) o 0 (omega arith) ∙ rw all in
+    simp (le-leb 100 (length o) h) (rw none at e ∙ stored)
+
+-- a struct's array of structs has its length: `search length-mapped` finds the premise in a parameter's `.good`
+pub length-mapped : {X Y : Type 0} (f : X → Y) (l : List X) (n : ℕ) → length (map f l) ≡ n → length l ≡ n
+length-mapped f l n h = sym (length-map l f) ∙ h
+
+-- past the eighth entry there is none
+pub entry-past : (j : Job) (i : ℕ) → length (j .entries) ≡ 8 → 8 ≤ i → noEntry ≡ getD (j .entries) i noEntry
+entry-past j i n h = sym (List·getD-eq-default (j .entries) noEntry {n = i} (omega arith))

@@ -1,0 +1,24 @@
+-- Each return is one way through the tests of `countsFormed`.
+-- Assumes nothing.
+use borrow.Author.Needs.{needs}
+use Rattle.base.proofs.Tests.{chain}
+use Rattle.record.proofs.checks.counts_formed.Statement.{statement}
+use Rattle.record.specs.Checks.{countsFormed}
+use Rattle.record.proofs.checks.counts_formed.Tie as tie
+
+inputs-formed-requires : tie.Need-inputs-formed-requires
+inputs-formed-requires c κs = search needs
+
+between-requires : tie.Need-between-requires
+between-requires c κs = search needs
+
+returns : tie.Need-returns
+unfolding countsFormed
+returns c = search chain depth 8
+
+returns-2 : tie.Need-returns-2
+unfolding countsFormed
+returns-2 c = search chain depth 8
+
+pub counts-formed-spec : {M : Type 1} → statement M
+counts-formed-spec = tie.close (tie.spec inputs-formed-requires between-requires returns returns-2)

@@ -1,0 +1,25 @@
+-- Each return is one way through the tests of `examined`.
+-- Assumes nothing.
+use borrow.Author.Needs.{needs}
+use borrow.Author.Tests.{eq-eqb}
+use Rattle.base.proofs.Tests.{chain}
+use Rattle.record.proofs.checks.examine.Statement.{statement}
+use Rattle.record.specs.Checks.{examined}
+use Rattle.record.proofs.checks.examine.Tie as tie
+
+read-requires : tie.Need-read-requires
+read-requires c κs = search needs
+
+check-requires : tie.Need-check-requires
+check-requires c κs = search needs
+
+returns : tie.Need-returns
+unfolding examined
+returns c = simp (eq-eqb _ _ (c .before .before .if1 .taken), c .check .ensures, c .before .read .ensures)
+
+returns-2 : tie.Need-returns-2
+unfolding examined
+returns-2 c = search chain depth 6
+
+pub examine-spec : {M : Type 1} → statement M
+examine-spec = tie.close (tie.spec read-requires check-requires returns returns-2)

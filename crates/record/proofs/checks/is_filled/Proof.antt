@@ -1,0 +1,27 @@
+-- Each return is one way through the tests of `isFilled`.
+-- Assumes nothing.
+use borrow.Author.Needs.{needs}
+use Rattle.record.proofs.checks.is_filled.Statement.{statement}
+use Rattle.record.specs.Checks.{isFilled}
+use Rattle.record.proofs.checks.is_filled.Tie as tie
+
+label-requires : tie.Need-label-requires
+label-requires c κs = search needs
+
+is-label-requires : tie.Need-is-label-requires
+is-label-requires c κs = search needs
+
+frames-requires : tie.Need-frames-requires
+frames-requires c κs = search needs
+
+returns : tie.Need-returns
+unfolding isFilled
+returns c = simp (← c .before .before .before .label .ensures, ← c .before .before .is-label .ensures, c .before .if1 .taken, c .frames .ensures)
+
+returns-2 : tie.Need-returns-2
+unfolding isFilled
+returns-2 c = simp (← c .before .before .label .ensures, ← c .before .is-label .ensures, c .if1 .left)
+
+pub is-filled-spec : {M : Type 1} → statement M
+is-filled-spec =
+    tie.close (tie.spec label-requires is-label-requires frames-requires returns returns-2)

@@ -1,0 +1,39 @@
+-- Each return is one way through the tests of `wellFormed`.
+-- Assumes nothing.
+use borrow.Author.Needs.{needs}
+use Rattle.base.proofs.Tests.{chain}
+use Rattle.record.proofs.checks.well_formed.Statement.{statement}
+use Rattle.record.specs.Checks.{wellFormed}
+use Rattle.record.proofs.checks.well_formed.Tie as tie
+
+is-drive-requires : tie.Need-is-drive-requires
+is-drive-requires c κs = search needs
+
+counts-formed-requires : tie.Need-counts-formed-requires
+counts-formed-requires c κs = search needs
+
+entries-formed-requires : tie.Need-entries-formed-requires
+entries-formed-requires c κs = search needs
+
+returns : tie.Need-returns
+unfolding wellFormed
+returns c = search chain depth 8
+
+returns-2 : tie.Need-returns-2
+unfolding wellFormed
+returns-2 c = search chain depth 8
+
+returns-3 : tie.Need-returns-3
+unfolding wellFormed
+returns-3 c = search chain depth 8
+
+pub well-formed-spec : {M : Type 1} → statement M
+well-formed-spec =
+    tie.close
+    (tie.spec
+    is-drive-requires
+    counts-formed-requires
+    entries-formed-requires
+    returns
+    returns-2
+    returns-3)

@@ -1,0 +1,88 @@
+-- Each turn stores one entry, and what is stored with what remains is the whole list of entries.
+-- Assumes nothing.
+use mathlib.Core.Path.{_∙_, _≡_, refl}
+use Prim.Native.Nat.{_*_, _+_, _-_, _≤_}
+use native.Mathlib.Omega.{arith}
+use lib.ListN.{length, length-set}
+use lib.Seq.{sets}
+use borrow.Author.Needs.{needs}
+use Rattle.record.proofs.Jobs.{read-done, read-step}
+use Rattle.record.proofs.codec.read.Statement.{statement}
+use Rattle.record.specs.Codec.{entriesAt, jobOf}
+use Rattle.record.proofs.codec.read.Tie as tie
+
+abbrev Inv-loop : tie.InvT-loop
+Inv-loop bytes entries₀ i₀ entries i = (i ≤ 8) × ((length entries ≡ 8) × (sets entries i (entriesAt bytes (4 + 12 * i) (8 - i)) ≡ entriesAt bytes 4 8))
+
+abbrev μ-loop : tie.MeasureT-loop
+μ-loop bytes entries₀ i₀ entries i = 8 - i
+
+loop-holds : tie.Need-loop-holds Inv-loop μ-loop
+unfolding entriesAt
+loop-holds c = (omega arith, (refl, refl))
+
+mul-entry-at : tie.Need-mul-entry-at Inv-loop μ-loop
+mul-entry-at c = search needs
+
+add-entry-at : tie.Need-add-entry-at Inv-loop μ-loop
+add-entry-at c = search needs
+
+entry-at-requires : tie.Need-entry-at-requires Inv-loop μ-loop
+entry-at-requires c κs = search needs
+
+mul-entries : tie.Need-mul-entries Inv-loop μ-loop
+mul-entries c = search needs
+
+array-set-from-entries : tie.Need-array-set-from-entries Inv-loop μ-loop
+array-set-from-entries c = search needs
+
+add-i : tie.Need-add-i Inv-loop μ-loop
+add-i c = search needs
+
+loop-less : tie.Need-loop-less Inv-loop μ-loop
+loop-less c = search needs
+
+loop-again : tie.Need-loop-again Inv-loop μ-loop
+loop-again c =
+    let l = c .before .before .loop in
+    (omega arith, (simp length-set (l .inv .1 .0), rw (c .entry-at .ensures) (read-step _ _ (l .i) (c .before .loop-test .taken) ∙ l .inv .1 .1)))
+
+byte-at-requires : tie.Need-byte-at-requires Inv-loop μ-loop
+byte-at-requires c κs = search needs
+
+byte-at-requires-2 : tie.Need-byte-at-requires-2 Inv-loop μ-loop
+byte-at-requires-2 c κs = search needs
+
+byte-at-requires-3 : tie.Need-byte-at-requires-3 Inv-loop μ-loop
+byte-at-requires-3 c κs = search needs
+
+byte-at-requires-4 : tie.Need-byte-at-requires-4 Inv-loop μ-loop
+byte-at-requires-4 c κs = search needs
+
+returns : tie.Need-returns Inv-loop μ-loop
+unfolding jobOf
+returns c =
+    let l = c .before .before .before .before .before .loop in
+    let e = read-done _ _ (l .i) (c .before .before .before .before .loop-test .left) (l .inv .1 .1) in
+    simp (c .byte-at4 .ensures, c .before .byte-at3 .ensures, c .before .before .byte-at2 .ensures, c .before .before .before .byte-at .ensures, e)
+
+pub read-spec : {M : Type 1} → statement M
+read-spec =
+    tie.close
+    (tie.spec
+    Inv-loop
+    μ-loop
+    loop-holds
+    mul-entry-at
+    add-entry-at
+    entry-at-requires
+    mul-entries
+    array-set-from-entries
+    add-i
+    loop-less
+    loop-again
+    byte-at-requires
+    byte-at-requires-2
+    byte-at-requires-3
+    byte-at-requires-4
+    returns)

@@ -1,0 +1,104 @@
+-- Each turn stores one entry, and what is stored with what remains is the whole record. A buffer too short is not touched.
+-- Assumes nothing.
+use mathlib.Core.Path.{_∙_, _≡_, refl, sym}
+use Prim.Native.Nat.{_*_, _+_, _-_, _≤_}
+use native.Mathlib.Omega.{arith}
+use lib.ListN.{drop, length, length-set}
+use lib.Seq.{sets}
+use borrow.Author.Needs.{needs}
+use borrow.Author.Tests.{le-leb, lt-leb}
+use denote.Ref.{now}
+use Rattle.record.proofs.Jobs.{length-mapped, write-done, write-step}
+use Rattle.record.proofs.codec.write.Statement.{statement}
+use Rattle.record.specs.Codec.{bytesOf, entriesBytes, fitsRecord, written}
+use Rattle.record.proofs.codec.write.Tie as tie
+
+abbrev Inv-loop : tie.InvT-loop
+Inv-loop out₀ job i₀ out i = (i ≤ 8) × ((length out ≡ length out₀) × ((100 ≤ length out₀) × (sets out (4 + 12 * i) (entriesBytes (drop i (job .entries))) ≡ sets out₀ 4 (entriesBytes (job .entries)))))
+
+abbrev μ-loop : tie.MeasureT-loop
+μ-loop out₀ job i₀ out i = 8 - i
+
+returns : tie.Need-returns Inv-loop μ-loop
+unfolding written fitsRecord
+returns c = (sym (lt-leb _ _ (c .if1 .taken)), simp (lt-leb _ _ (c .if1 .taken)))
+
+slice-write-out : tie.Need-slice-write-out Inv-loop μ-loop
+slice-write-out c = search needs
+
+slice-write-out-2 : tie.Need-slice-write-out-2 Inv-loop μ-loop
+slice-write-out-2 c = simp length-set (omega arith)
+
+slice-write-out-3 : tie.Need-slice-write-out-3 Inv-loop μ-loop
+slice-write-out-3 c = simp length-set (omega arith)
+
+slice-write-out-4 : tie.Need-slice-write-out-4 Inv-loop μ-loop
+slice-write-out-4 c = simp length-set (omega arith)
+
+loop-holds : tie.Need-loop-holds Inv-loop μ-loop
+loop-holds c = (omega arith, (refl, (simp length-set (c .if1 .left), refl)))
+
+mul-put-entry : tie.Need-mul-put-entry Inv-loop μ-loop
+mul-put-entry c = search needs
+
+add-put-entry : tie.Need-add-put-entry Inv-loop μ-loop
+add-put-entry c = search needs
+
+mul-put-entry-2 : tie.Need-mul-put-entry-2 Inv-loop μ-loop
+mul-put-entry-2 c = search needs
+
+element-copy-out-put-entry : tie.Need-element-copy-out-put-entry Inv-loop μ-loop
+element-copy-out-put-entry c = search needs
+
+put-entry-requires : tie.Need-put-entry-requires Inv-loop μ-loop
+put-entry-requires c κs = search needs
+
+add-i : tie.Need-add-i Inv-loop μ-loop
+add-i c = search needs
+
+loop-less : tie.Need-loop-less Inv-loop μ-loop
+loop-less c = search needs
+
+loop-again : tie.Need-loop-again Inv-loop μ-loop
+loop-again c =
+    let l = c .before .before .before .before .before .before .loop in
+    let a = c .before .before .before .before .before .before .before .before .before .args in
+    let p = c .before .before .put-entry in
+    let n : length (a .t1 .entries) ≡ 8 = search length-mapped in
+    (omega arith, (p .kept .0 ∙ l .inv .1 .0, (l .inv .1 .1 .0, rw (p .ensures) (write-step _ _ _ (l .i) (omega arith) ∙ l .inv .1 .1 .1))))
+
+same-length : tie.Need-same-length Inv-loop μ-loop
+same-length c = c .before .loop .inv .1 .0 ∙ simp length-set
+
+returns-2 : tie.Need-returns-2 Inv-loop μ-loop
+unfolding fitsRecord bytesOf
+returns-2 c =
+    let l = c .before .loop in
+    let a = c .before .before .before .before .args in
+    let n : length (a .t1 .entries) ≡ 8 = search length-mapped in (
+      sym (le-leb _ _ (c .before .before .if1 .left)),
+      write-done (now (a .out)) (l .out) (a .t1) (l .i) (c .loop-test .left) n (c .before .before .if1 .left) (l .inv .1 .1 .1),
+    )
+
+pub write-spec : {M : Type 1} → statement M
+write-spec =
+    tie.close
+    (tie.spec
+    Inv-loop
+    μ-loop
+    returns
+    slice-write-out
+    slice-write-out-2
+    slice-write-out-3
+    slice-write-out-4
+    loop-holds
+    mul-put-entry
+    add-put-entry
+    mul-put-entry-2
+    element-copy-out-put-entry
+    put-entry-requires
+    add-i
+    loop-less
+    loop-again
+    same-length
+    returns-2)

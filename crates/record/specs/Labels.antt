@@ -1,0 +1,45 @@
+-- A label is six of A–Z or 0–9, then `L` and a digit 5 to 9, the medium ("Records").
+use mathlib.Core.Bool.{Bool, cond, _&&_, _||_}
+use Prim.Native.Nat.{ℕ, _-_, _*_, _/_, _%_, _^_}
+use lib.Dec.{eqb, leb, ltb}
+use Rattle.base.specs.Search.{allBelow}
+
+-- low ≤ x ≤ high
+unfoldable pub isBetween : ℕ → ℕ → ℕ → Bool
+isBetween low high x = leb low x && leb x high
+
+-- character i of a label
+unfoldable pub charAt : ℕ → ℕ → ℕ
+charAt label i = label / 2 ^ (8 * i) % 256
+
+-- one of 0–9 or A–Z
+unfoldable pub isAlphanumeric : ℕ → Bool
+isAlphanumeric c = isBetween 48 57 c || isBetween 65 90 c
+
+-- ---- media, as columns of the drive table
+
+abbrev pub L5 : ℕ
+L5 = 0
+
+abbrev pub L6 : ℕ
+L6 = 1
+
+abbrev pub L7 : ℕ
+L7 = 2
+
+abbrev pub L8 : ℕ
+L8 = 3
+
+abbrev pub L9 : ℕ
+L9 = 4
+
+-- how many media there are
+abbrev pub media : ℕ
+media = 5
+
+-- the medium that a label names by its last two characters, `L` and 5 to 9; else `media`, which is none
+unfoldable pub mediumOf : ℕ → ℕ
+mediumOf label = cond (eqb (charAt label 6) 76 && isBetween 53 57 (charAt label 7)) (charAt label 7 - 53) media
+
+unfoldable pub isLabel : ℕ → Bool
+isLabel label = allBelow 6 (λ i. isAlphanumeric (charAt label i)) && ltb (mediumOf label) media

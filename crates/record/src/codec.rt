@@ -1,0 +1,105 @@
+// Reading a record and writing one.
+ghost use mathlib.Core.Path.{_≡_};
+ghost use Prim.Native.Nat.{_+_, _*_, _≤_, _<_, _^_};
+ghost use lib.ListN.{length, getD};
+ghost use lib.Seq.{sets};
+ghost use Rattle.record.specs.Codec.{leAt, leBytes, entryAt, entryBytes, jobOf, fitsRecord, written};
+use crate::Entry;
+use crate::Job;
+
+// How many bytes a record has, an entry, and what stands before the entries.
+pub const RECORD: usize = 100;
+
+const ENTRY: usize = 12;
+
+const HEAD: usize = 4;
+
+// The byte at i; past the end it counts as 0.
+fn byte_at(s: &[u8], i: usize) -> u8
+    ensures { λ r. ⌜ r ≡ getD (now (s .entry)) i 0 ⌝ }
+{
+    if i < s.len() {
+        return s[i];
+    }
+    0
+}
+
+// The little-endian number of count bytes from at on.
+fn number_at(s: &[u8], at: usize, count: usize) -> u64
+    requires { ⌜ (at < 65536) × (count ≤ 8) ⌝ }
+    ensures { λ r. ⌜ (r ≡ leAt (now (s .entry)) at count) × (r < 2 ^ (8 * count)) ⌝ }
+{
+    let mut acc: u64 = 0;
+    let mut k = count;
+    while 0 < k {
+        k -= 1;
+        acc = acc * 256 + byte_at(s, at + k) as u64;
+    }
+    acc
+}
+
+fn entry_at(s: &[u8], at: usize) -> Entry
+    requires { ⌜ at < 60000 ⌝ }
+    ensures { λ r. ⌜ r ≡ entryAt (now (s .entry)) at ⌝ }
+{
+    Entry {
+        label: number_at(s, at, 8),
+        frames: number_at(s, at + 8, 4) as u32,
+    }
+}
+
+// The job that the bytes say; bytes past the end count as 0.
+pub fn read(bytes: &[u8]) -> Job
+    ensures { λ r. ⌜ r ≡ jobOf (now (bytes .entry)) ⌝ }
+{
+    let mut entries = [Entry {
+        label: 0,
+        frames: 0,
+    }; 8];
+    for i in 0..8 {
+        entries[i] = entry_at(bytes, HEAD + ENTRY * i);
+    }
+    Job {
+        kind: byte_at(bytes, 0),
+        drive: byte_at(bytes, 1),
+        inputs: byte_at(bytes, 2),
+        outputs: byte_at(bytes, 3),
+        entries,
+    }
+}
+
+fn put_number(out: &mut [u8], at: usize, count: usize, value: u64)
+    requires { ⌜ at + count ≤ length (now out) ⌝ }
+    ensures { λ _. ⌜ now (out .exit) ≡ sets (now (out .entry)) at (leBytes count value) ⌝ }
+{
+    let mut v = value;
+    for k in 0..count {
+        out[at + k] = (v % 256) as u8;
+        v = v / 256;
+    }
+}
+
+fn put_entry(out: &mut [u8], at: usize, entry: Entry)
+    requires { ⌜ at + 12 ≤ length (now out) ⌝ }
+    ensures { λ _. ⌜ now (out .exit) ≡ sets (now (out .entry)) at (entryBytes entry) ⌝ }
+{
+    put_number(out, at, 8, entry.label);
+    put_number(out, at + 8, 4, entry.frames as u64);
+}
+
+// Puts the job's record at the front of out. An out that is too short is left as it was, and the answer is false.
+pub fn write(job: Job, out: &mut [u8]) -> bool
+    ensures { λ r. ⌜ (r ≡ fitsRecord (now (out .entry))) × (now (out .exit) ≡ written job (now (out .entry))) ⌝ }
+{
+    if out.len() < RECORD {
+        return false;
+    }
+    out[0] = job.kind;
+    out[1] = job.drive;
+    out[2] = job.inputs;
+    out[3] = job.outputs;
+    for i in 0..8 {
+        put_entry(out, HEAD + ENTRY * i, job.entries[i]);
+    }
+    true
+}
