@@ -2,18 +2,17 @@
 -- A loop tests a callee's flag r, which is p i, and returns at the first that decides; its invariant says that none
 -- below i has. Each rule takes the flag as the code has it, so `search (searches, needs)` closes every need.
 -- Assumes nothing.
-use mathlib.Core.Path.{_≡_, refl, sym, ap, ap₂, _∙_}
+use mathlib.Core.Bool.{Bool, _||_, false, true, true≢false}
 use mathlib.Core.Logic.{_⊎_, inl, inr, ⊎-elim}
-use mathlib.Core.Bool.{Bool, true, false, not, cond, _&&_, _||_, true≢false}
-use Prim.Native.Nat.{ℕ, zero, suc, _+_, _-_, _*_, _<_, _≤_}
-use native.Mathlib.Nat.{not-suc-le-zero, eq-or-lt-of-le, le-of-suc-le-suc, le-antisymm, le-refl, add-zero}
+use mathlib.Core.Path.{_∙_, _≡_, ap, refl, sym}
+use Prim.Native.Nat.{_+_, _-_, _<_, _≤_, suc, zero, ℕ}
+use native.Mathlib.Nat.{eq-or-lt-of-le, le-antisymm, le-of-suc-le-suc, le-refl, not-suc-le-zero, suc-add, zero-add}
 use native.Mathlib.Numerals.{add-one}
 use native.Mathlib.Omega.{arith}
-use lib.Dec.{ltb}
-use borrow.Author.Tests.{not-true, not-false, ltb-true, lt-ltb, le-ltb, ltb-false}
+use borrow.Author.Tests.{not-false, not-true}
+use Rattle.base.proofs.Reflect.{and-true, not-true-false, or-intro, or-true}
 use Rattle.base.specs.Reflect.{Reflects}
-use Rattle.base.specs.Search.{anyBelow, allBelow, firstBelow, sumFrom, Some, Every, Least}
-use Rattle.base.proofs.Reflect.{and-true, or-true, or-intro, not-true-false, refuted}
+use Rattle.base.specs.Search.{Every, Least, Some, allBelow, anyBelow, firstBelow, sumFrom}
 
 -- a number below suc n is n or below n
 last-or-below : {n i : ℕ} → i < suc n → (i ≡ n) ⊎ (i < n)
@@ -225,3 +224,22 @@ pub sum-same : (f g : ℕ → ℕ) (n k : ℕ) → ((i : ℕ) → n ≤ i → i 
 unfolding sumFrom
 sum-same f g n zero h = refl
 sum-same f g n (suc k) h = rw (h n (omega arith) (omega arith), sum-same f g (suc n) k (λ i a b. h i (omega arith) (omega arith)))
+
+-- the start of a sum, at another number
+from-at : (f : ℕ → ℕ) (k n m : ℕ) → n ≡ m → sumFrom f n k ≡ sumFrom f m k
+from-at f k n m e = ap (λ (a : ℕ). sumFrom f a k) e
+
+-- a sum from n + m on is one from m on of what stands n further
+pub sum-from : (f : ℕ → ℕ) (n m k : ℕ) → sumFrom f (n + m) k ≡ sumFrom (λ i. f (n + i)) m k
+unfolding sumFrom
+sum-from f n m zero = refl
+sum-from f n m (suc k) =
+    ap (λ (x : ℕ). f (n + m) + x) (from-at f k (suc (n + m)) (n + suc m) (omega arith) ∙ sum-from f n (suc m) k)
+
+-- a sum of k + m terms is one of k and one of m
+pub sum-append : (f : ℕ → ℕ) (n k m : ℕ) → sumFrom f n (k + m) ≡ sumFrom f n k + sumFrom f (n + k) m
+unfolding sumFrom
+sum-append f n zero m =
+    rw (zero-add m) (omega (arith, from-at f m n (n + 0) (omega arith)))
+sum-append f n (suc k) m =
+    rw suc-add (omega (arith, sum-append f (suc n) k m, from-at f m (suc n + k) (n + suc k) (omega arith)))

@@ -1,0 +1,4 @@
+pub mod Bits
+pub mod Jobs
+pub mod Quorum
+pub mod Cases

@@ -1,0 +1,3 @@
+pub mod Bits
+pub mod Jobs
+pub mod Quorum
