@@ -1,0 +1,248 @@
+// Examines a table of records and prints a line for each: the record, the byte that is off and by how much, and the two
+// figures of the answer. Document 01 decides what they must be; `stdout` holds them.
+ghost use Prim.Native.Nat.{_<_};
+use libc::STDOUT_FILENO;
+use outcome::Outcome;
+use outcome::Verdict;
+use record::Entry;
+use record::Job;
+
+const RECORD: usize = 100;
+
+// A label as a number, its first character lowest.
+fn label(s: &[u8; 8]) -> u64 {
+    let mut sum: u64 = 0;
+    for i in 0..8 {
+        sum = sum / 256 + wide(s[i]) * 72057594037927936;
+    }
+    sum
+}
+
+fn wide(x: u8) -> u64
+    ensures { λ r. ⌜ r < 256 ⌝ }
+{
+    x as u64
+}
+
+fn tape(s: &[u8; 8], frames: u32) -> Entry {
+    Entry {
+        label: label(s),
+        frames,
+    }
+}
+
+fn none() -> Entry {
+    Entry {
+        label: 0,
+        frames: 0,
+    }
+}
+
+fn accession() -> Job {
+    let z = none();
+    Job {
+        kind: 0,
+        drive: 7,
+        inputs: 0,
+        outputs: 1,
+        entries: [z, z, z, z, tape(b"VAA001L5", 1000), z, z, z],
+    }
+}
+
+fn migration() -> Job {
+    let z = none();
+    Job {
+        kind: 1,
+        drive: 7,
+        inputs: 1,
+        outputs: 1,
+        entries: [
+            tape(b"VAA001L5", 1000),
+            z,
+            z,
+            z,
+            tape(b"VAB001L7", 1000),
+            z,
+            z,
+            z,
+        ],
+    }
+}
+
+// Four inputs and four outputs, some labels one character apart.
+fn full() -> Job {
+    Job {
+        kind: 1,
+        drive: 6,
+        inputs: 4,
+        outputs: 4,
+        entries: [
+            tape(b"RZ9001L5", 256),
+            tape(b"RZ9002L5", 65535),
+            tape(b"RZ9003L6", 1),
+            tape(b"RZA004L6", 4294967295),
+            tape(b"SZ9001L5", 4294967295),
+            tape(b"SZ9001L6", 65280),
+            tape(b"RZB004L6", 500),
+            tape(b"000000L6", 12),
+        ],
+    }
+}
+
+// The figures of a verdict, those of a step with the value 0 where all checks pass.
+fn report(verdict: Verdict) {
+    let outcome = match verdict {
+        Verdict::Pass => Outcome::Done(0),
+        Verdict::Fail(why) => Outcome::Refused(why),
+    };
+    io::print_decimal(STDOUT_FILENO, outcome.number() as u64);
+    io::write_all(STDOUT_FILENO, b" ");
+    io::print_decimal(STDOUT_FILENO, outcome.value() as u64);
+    io::write_all(STDOUT_FILENO, b"\n");
+}
+
+fn examined(bytes: &[u8; 100]) -> Verdict {
+    record::examine(bytes)
+}
+
+fn nudge(bytes: &mut [u8; 100], at: usize, step: u8) {
+    if at < RECORD {
+        bytes[at] = std::num::wrapping_add_u8(bytes[at], step);
+    }
+}
+
+// The record, with one byte moved by a step.
+fn off_by(job: Job, name: &[u8], at: usize, step: u8) {
+    let mut bytes = [0u8; 100];
+    record::write(job, &mut bytes);
+    nudge(&mut bytes, at, step);
+    io::write_all(STDOUT_FILENO, name);
+    io::write_all(STDOUT_FILENO, b" ");
+    io::print_decimal(STDOUT_FILENO, at as u64);
+    io::write_all(STDOUT_FILENO, b" ");
+    io::print_decimal(STDOUT_FILENO, step as u64);
+    io::write_all(STDOUT_FILENO, b" ");
+    report(examined(&bytes));
+}
+
+// The record as it is, then with each byte one up and one down.
+fn sweep(job: Job, name: &[u8]) {
+    off_by(job, name, RECORD, 0);
+    for at in 0..100 {
+        off_by(job, name, at, 1);
+        off_by(job, name, at, 255);
+    }
+}
+
+// One input and one output, of these frames.
+fn move_one(drive: u8, from: Entry, to: Entry) -> Job {
+    let z = none();
+    Job {
+        kind: 1,
+        drive,
+        inputs: 1,
+        outputs: 1,
+        entries: [from, z, z, z, to, z, z, z],
+    }
+}
+
+fn accession_of(drive: u8, to: Entry) -> Job {
+    let z = none();
+    Job {
+        kind: 0,
+        drive,
+        inputs: 0,
+        outputs: 1,
+        entries: [z, z, z, z, to, z, z, z],
+    }
+}
+
+// The input frames wrap to the output's in 32 bits.
+fn wrapped() -> Job {
+    let z = none();
+    Job {
+        kind: 1,
+        drive: 5,
+        inputs: 2,
+        outputs: 1,
+        entries: [
+            tape(b"AAAAAAL5", 4294967295),
+            tape(b"BBBBBBL5", 2),
+            z,
+            z,
+            tape(b"CCCCCCL5", 1),
+            z,
+            z,
+            z,
+        ],
+    }
+}
+
+// The migration, with other counts.
+fn counted(inputs: u8, outputs: u8) -> Job {
+    let entries = migration().entries;
+    Job {
+        kind: 1,
+        drive: 7,
+        inputs,
+        outputs,
+        entries,
+    }
+}
+
+fn whole(job: Job, name: &[u8]) {
+    off_by(job, name, RECORD, 0);
+}
+
+// Cases that document 01 names.
+fn edges() {
+    whole(wrapped(), b"wide");
+    whole(accession_of(5, tape(b"AAAAAAL5", 4294967295)), b"most");
+    whole(counted(5, 1), b"inputs5");
+    whole(counted(255, 1), b"inputs255");
+    whole(counted(1, 5), b"outputs5");
+    whole(counted(1, 255), b"outputs255");
+}
+
+fn drives() {
+    whole(
+        move_one(8, tape(b"AAAAAAL6", 5), tape(b"BBBBBBL8", 5)),
+        b"drive8L6",
+    );
+    whole(
+        move_one(7, tape(b"AAAAAAL7", 5), tape(b"BBBBBBL5", 5)),
+        b"drive7L5",
+    );
+    whole(accession_of(7, tape(b"BBBBBBL5", 5)), b"accession7L5");
+    whole(
+        move_one(7, tape(b"AAAAAAL7", 5), tape(b"AAAAAAL7", 5)),
+        b"across",
+    );
+}
+
+// The first n of these bytes, too few or too many.
+fn first(bytes: &[u8], n: usize, name: &[u8]) {
+    io::write_all(STDOUT_FILENO, name);
+    io::write_all(STDOUT_FILENO, b" 100 0 ");
+    if n <= bytes.len() {
+        report(record::examine(&bytes[0..n]));
+    }
+}
+
+fn lengths() {
+    let mut bytes = [0u8; 101];
+    record::write(migration(), &mut bytes);
+    let all: &[u8] = &bytes;
+    first(all, 0, b"empty");
+    first(all, 99, b"short");
+    first(all, 101, b"long");
+}
+
+fn main() {
+    sweep(accession(), b"accession");
+    sweep(migration(), b"migration");
+    sweep(full(), b"full");
+    edges();
+    drives();
+    lengths();
+}
