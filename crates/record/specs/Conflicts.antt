@@ -1,12 +1,15 @@
 -- Which labels a job has on which side, and when two jobs conflict (document 02's rivals).
-use mathlib.Core.Bool.{Bool, _&&_, _||_}
-use Prim.Native.Nat.{ℕ, _+_}
+use mathlib.Core.Bool.{Bool, _&&_, _||_, false, true}
+use Prim.Native.Nat.{_+_, ℕ}
 use lib.Dec.{eqb}
 use Rattle.base.specs.Search.{anyBelow}
+use Rattle.record.specs.Entries.{framesOf, isUsed, labelOf}
 use Rattle.record.specs.declared.Job.{Job}
-use Rattle.record.specs.Entries.{labelOf, framesOf, isUsed}
 
--- Inputs are the half from entry 0 on, outputs the half from entry 4 on.
+-- inputs are the half from entry 0 on, outputs the half from entry 4 on
+abbrev pub halfOf : Bool → ℕ
+halfOf true = 4
+halfOf false = 0
 
 -- entry half + i is used and has the label
 unfoldable pub isLabelAt : ℕ → Job → ℕ → ℕ → Bool
@@ -15,12 +18,6 @@ isLabelAt half j label i = isUsed j (half + i) && eqb (labelOf j (half + i)) lab
 -- the half has the label
 unfoldable pub labelIn : ℕ → Job → ℕ → Bool
 labelIn half j label = anyBelow 4 (isLabelAt half j label)
-
-abbrev pub inputIs : Job → ℕ → Bool
-inputIs = labelIn 0
-
-abbrev pub outputIs : Job → ℕ → Bool
-outputIs = labelIn 4
 
 -- output i is the tape, label and frames
 unfoldable pub isTapeAt : Job → ℕ → ℕ → ℕ → Bool

@@ -4,7 +4,7 @@ ghost use Prim.Native.Nat.{_+_, _≤_};
 ghost use mathlib.Core.Bool.{_&&_};
 ghost use lib.Dec.{eqb};
 ghost use Rattle.record.specs.Entries.{isUsed, labelOf};
-ghost use Rattle.record.specs.Conflicts.{isLabelAt, isTapeAt, labelIn, inputIs, outputIs, makesTape, sharesAt, sharesIn, conflicting};
+ghost use Rattle.record.specs.Conflicts.{isLabelAt, isTapeAt, halfOf, labelIn, makesTape, sharesAt, sharesIn, conflicting};
 use crate::Job;
 use crate::entries;
 
@@ -36,18 +36,21 @@ fn label_in(half: usize, job: Job, label: u64) -> bool
     false
 }
 
-// Whether the job has the label as an input.
-pub fn input_is(job: Job, label: u64) -> bool
-    ensures { λ r. ⌜ r ≡ inputIs job label ⌝ }
+// Where a half begins.
+fn start(outputs: bool) -> usize
+    ensures { λ r. ⌜ (r ≡ halfOf outputs) × (r ≤ 4) ⌝ }
 {
-    label_in(INPUTS, job, label)
+    if outputs {
+        return OUTPUTS;
+    }
+    INPUTS
 }
 
-// Whether the job has the label as an output.
-pub fn output_is(job: Job, label: u64) -> bool
-    ensures { λ r. ⌜ r ≡ outputIs job label ⌝ }
+// Whether the job has the label as an output, or as an input.
+pub fn lists(job: Job, outputs: bool, label: u64) -> bool
+    ensures { λ r. ⌜ r ≡ labelIn (halfOf outputs) job label ⌝ }
 {
-    label_in(OUTPUTS, job, label)
+    label_in(start(outputs), job, label)
 }
 
 // Entry 4 + i is used and is the tape.

@@ -1,0 +1,7 @@
+pub mod Admission
+pub mod Federation
+pub mod Journal
+pub mod Meaning
+pub mod State
+pub mod Steps
+pub mod Vaults

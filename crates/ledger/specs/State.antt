@@ -1,0 +1,124 @@
+-- What the ledger keeps: the settings, how many records are booked, for each job the vaults whose signature and whose
+-- acknowledgement are recorded, the arrival order, and the vaults. Each change goes through one definition here.
+use mathlib.Core.Bool.{Bool, cond, _&&_, _||_}
+use mathlib.Core.List.{List}
+use Prim.Native.Nat.{ℕ, suc, _+_}
+use lib.Dec.{eqb, leb, ltb}
+use lib.Count.{ones}
+use lib.ListN.{getD, set, replicate, take}
+use Rattle.base.specs.Search.{anyBelow}
+use Rattle.sets.specs.Bits.{withMember}
+use Rattle.ledger.specs.declared.Settings.{Settings}
+use Rattle.ledger.specs.declared.Vault.{Vault}
+use Rattle.ledger.specs.declared.Ledger.{Ledger}
+use Rattle.ledger.specs.Federation.{isLawful}
+use Rattle.ledger.specs.Journal.{capacity}
+use Rattle.ledger.specs.Vaults.{newVault, holding}
+
+-- ---- views
+
+abbrev pub vaultAt : Ledger → ℕ → Vault
+vaultAt l v = getD (l .vaults) v newVault
+
+-- the vaults whose signature of the job is recorded, and those whose acknowledgement is
+unfoldable pub signersOf : Ledger → ℕ → ℕ
+signersOf l job = getD (l .signatures) job 0
+
+unfoldable pub holdersOf : Ledger → ℕ → ℕ
+holdersOf l job = getD (l .acknowledgements) job 0
+
+-- the jobs in arrival order
+abbrev pub arrived : Ledger → List ℕ
+arrived l = take (l .arrivals) (l .order)
+
+unfoldable pub isArrival : Ledger → ℕ → ℕ → Bool
+isArrival l job i = eqb (getD (l .order) i 0) job
+
+-- the job is in the arrival order
+unfoldable pub hasArrived : Ledger → ℕ → Bool
+hasArrived l job = anyBelow (l .arrivals) (isArrival l job)
+
+-- a state that a run can reach has lawful settings and counts within the capacity
+unfoldable pub isSane : Ledger → Bool
+isSane l = isLawful (l .settings) && (leb (l .booked) capacity && leb (l .arrivals) capacity)
+
+-- ---- changes
+
+-- "no record booked, nothing held, signed or acknowledged, counts 0 and no arrivals"
+unfoldable pub newLedger : ℕ → ℕ → ℕ → Ledger
+newLedger n b faulty =
+    record {
+      settings = record { n = n; b = b; faulty = faulty };
+      booked = 0;
+      arrivals = 0;
+      signatures = replicate 128 0;
+      acknowledgements = replicate 128 0;
+      order = replicate 128 0;
+      vaults = replicate 16 newVault;
+    }
+
+-- one record more
+unfoldable pub booking : Ledger → Ledger
+booking l =
+    record {
+      settings = l .settings;
+      booked = l .booked + 1;
+      arrivals = l .arrivals;
+      signatures = l .signatures;
+      acknowledgements = l .acknowledgements;
+      order = l .order;
+      vaults = l .vaults;
+    }
+
+-- the vault's signature of the job recorded
+unfoldable pub countersigned : Ledger → ℕ → ℕ → Ledger
+countersigned l v job =
+    record {
+      settings = l .settings;
+      booked = l .booked;
+      arrivals = l .arrivals;
+      signatures = set (l .signatures) job (withMember 16 (signersOf l job) v);
+      acknowledgements = l .acknowledgements;
+      order = l .order;
+      vaults = l .vaults;
+    }
+
+-- the vault's acknowledgement of the job recorded
+unfoldable pub acknowledged : Ledger → ℕ → ℕ → Ledger
+acknowledged l v job =
+    record {
+      settings = l .settings;
+      booked = l .booked;
+      arrivals = l .arrivals;
+      signatures = l .signatures;
+      acknowledgements = set (l .acknowledgements) job (withMember 16 (holdersOf l job) v);
+      order = l .order;
+      vaults = l .vaults;
+    }
+
+-- another state of a vault
+unfoldable pub withVault : Ledger → ℕ → Vault → Ledger
+withVault l v state =
+    record {
+      settings = l .settings;
+      booked = l .booked;
+      arrivals = l .arrivals;
+      signatures = l .signatures;
+      acknowledgements = l .acknowledgements;
+      order = l .order;
+      vaults = set (l .vaults) v state;
+    }
+
+-- "Arrival order is the order in which jobs are first held by a sound vault": a job that has not arrived goes to its end
+unfoldable pub arriving : Ledger → ℕ → Ledger
+arriving l job =
+    cond (hasArrived l job || leb capacity (l .arrivals)) l
+    (record {
+      settings = l .settings;
+      booked = l .booked;
+      arrivals = l .arrivals + 1;
+      signatures = l .signatures;
+      acknowledgements = l .acknowledgements;
+      order = set (l .order) (l .arrivals) job;
+      vaults = l .vaults;
+    })

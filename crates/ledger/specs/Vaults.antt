@@ -1,0 +1,39 @@
+-- A vault ("Vaults"): the jobs that it holds and those that it signed. Both sets go into a step and come back from it.
+use mathlib.Core.Bool.{cond}
+use mathlib.Core.List.{List}
+use Prim.Native.Nat.{ℕ}
+use Rattle.outcome.specs.declared.Verdict.{Verdict}
+use Rattle.outcome.specs.declared.Verdict.the-variants.{Pass, Fail}
+use Rattle.sets.specs.Jobs.{jobHas, jobWith, jobWithout}
+use Rattle.ledger.specs.declared.Vault.{Vault}
+use Rattle.ledger.specs.declared.Signing.{Signing}
+use Rattle.ledger.specs.declared.Consent.{Consent}
+use Rattle.ledger.specs.declared.Consent.the-variants.{Already, Fresh, Denied}
+use Rattle.ledger.specs.Journal.{jobAt}
+use Rattle.ledger.specs.Admission.{admission}
+
+-- "both empty at first"
+abbrev pub newVault : Vault
+newVault = record { held = record { low = 0; high = 0 }; signed = record { low = 0; high = 0 } }
+
+unfoldable pub signing : Vault → ℕ → Vault
+signing v k = record { held = v .held; signed = jobWith (v .signed) k }
+
+unfoldable pub holding : Vault → ℕ → Vault
+holding v k = record { held = jobWith (v .held) k; signed = v .signed }
+
+-- checks 11 to 14 at a vault
+unfoldable pub admissionAt : Vault → List ℕ → ℕ → ℕ → Verdict
+admissionAt v journal booked k =
+    admission (jobAt journal booked) booked (v .held) (jobWithout (v .signed) k) (jobAt journal booked k)
+
+-- the vault's answer where checks 11 to 14 are what decides
+abbrev pub consented : Verdict → Vault → ℕ → Signing
+consented Pass v k = record { consent = Fresh; vault = signing v k }
+consented (Fail why) v k = record { consent = Denied why; vault = v }
+
+-- "A job signed here before is accepted again and changes nothing. Otherwise the vault signs if and only if checks 11 to
+-- 14 pass."
+unfoldable pub vaultPreflight : Vault → List ℕ → ℕ → ℕ → Signing
+vaultPreflight v journal booked k =
+    cond (jobHas (v .signed) k) (record { consent = Already; vault = v }) (consented (admissionAt v journal booked k) v k)
