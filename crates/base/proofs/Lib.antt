@@ -1,4 +1,5 @@
 pub mod Lists
+pub mod Members
 pub mod Reflect
 pub mod Search
 pub mod Tests

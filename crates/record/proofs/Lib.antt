@@ -4,3 +4,4 @@ pub mod Numbers
 pub mod Ranges
 pub mod RoundTrip
 pub mod Table
+pub mod Tapes

@@ -5,3 +5,4 @@ pub mod Drives
 pub mod Entries
 pub mod Labels
 pub mod Meaning
+pub mod Tapes
