@@ -91,6 +91,10 @@ module _ {A : Type 0} where
   distinct-right [] m d = d
   distinct-right (x ∷ l) m (nx, d) = distinct-right l m d
 
+  pub distinct-apart : (l m : List A) → Distinct (l ++ m) → (x : A) → In x l → In x m → ⊥
+  distinct-apart (y ∷ l) m (ny, d) x (inl e) b = ny (in-right l m y (subst (λ (z : A). In z m) e b))
+  distinct-apart (y ∷ l) m (ny, d) x (inr a) b = distinct-apart l m d x a b
+
   pub total-append : (w : A → ℕ) (l m : List A) → total w (l ++ m) ≡ total w l + total w m
   total-append w [] m = omega arith
   total-append w (x ∷ l) m = omega (arith, total-append w l m)

@@ -110,3 +110,7 @@ reflect-if {a} {b} {c} p q r = if-by a b c p q r
 pub reflect-false : (b : Bool) → Reflects (not b) (b ≡ false)
 reflect-false true = record { sound = λ e. sym e; complete = λ e. sym e }
 reflect-false false = record { sound = λ e. refl; complete = λ e. refl }
+
+-- a decided claim that can't fail holds
+pub decided : {b : Bool} {P : Type 0} → Reflects b P → ((P → ⊥) → ⊥) → P
+decided {b} r h = r .sound (not-false-true b (λ e. h (refuted r e)))

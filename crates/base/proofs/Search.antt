@@ -9,7 +9,8 @@ use Prim.Native.Nat.{_+_, _-_, _<_, _≤_, suc, zero, ℕ}
 use native.Mathlib.Nat.{eq-or-lt-of-le, le-antisymm, le-of-suc-le-suc, le-refl, not-suc-le-zero, suc-add, zero-add}
 use native.Mathlib.Numerals.{add-one}
 use native.Mathlib.Omega.{arith}
-use borrow.Author.Tests.{not-false, not-true}
+use lib.Dec.{ltb}
+use borrow.Author.Tests.{le-ltb, ltb-false, not-false, not-true}
 use Rattle.base.proofs.Reflect.{and-true, not-true-false, or-intro, or-true}
 use Rattle.base.specs.Reflect.{Reflects}
 use Rattle.base.specs.Search.{Every, Least, Some, allBelow, anyBelow, firstBelow, sumFrom}
@@ -101,6 +102,13 @@ module _ (p : ℕ → Bool) where
   pub first-any : (n : ℕ) → anyBelow n p ≡ true → firstBelow n p < n
   first-any n e =
       ⊎-elim (λ s. rw (least-first n (s .0) (s .1)) (s .1 .below)) (λ none. absurd (true≢false (sym e ∙ none))) (search-view n)
+
+  -- a search that ends past the bound found none
+  pub unfound : (n : ℕ) → ltb (firstBelow n p) n ≡ false → firstBelow n p ≡ n
+  unfound n e = omega (arith, ltb-false (firstBelow n p) n e, first-le n)
+
+  pub found-none : (n : ℕ) → firstBelow n p ≡ n → ltb (firstBelow n p) n ≡ false
+  found-none n e = le-ltb (firstBelow n p) n (omega (arith, e))
 
 -- ---- searches decide what they say
 module _ {p : ℕ → Bool} {P : ℕ → Type 0} (n : ℕ) (r : (i : ℕ) → i < n → Reflects (p i) (P i)) where

@@ -1,5 +1,6 @@
 pub mod Admission
 pub mod Federation
+pub mod Graph
 pub mod Journal
 pub mod Meaning
 pub mod State

@@ -1,15 +1,27 @@
 -- What the checks of specs/ mean, said without a search. proofs/Meaning.antt shows that they decide these claims.
-use mathlib.Core.Bool.{Bool}
+use mathlib.Core.Bool.{Bool, true}
 use mathlib.Core.List.{List}
+use mathlib.Core.Logic.{_⊎_}
 use mathlib.Core.Path.{_≡_}
 use Prim.Native.Nat.{_*_, _+_, _<_, _^_, _≤_, ℕ}
 use lib.Count.{ones}
-use lib.ListN.{length}
-use Rattle.outcome.specs.declared.Verdict.the-variants.{Pass}
+use lib.ListN.{length, set}
+use Rattle.base.specs.Search.{Least}
+use Rattle.outcome.specs.declared.Refusal.the-variants.{InputReserved, NotCreated, OutputReserved, Retired}
+use Rattle.outcome.specs.declared.Verdict.{Verdict}
+use Rattle.outcome.specs.declared.Verdict.the-variants.{Fail, Pass}
 use Rattle.record.specs.Checks.{examined}
 use Rattle.record.specs.Codec.{recordSize}
+use Rattle.record.specs.Entries.{framesOf, labelOf}
+use Rattle.record.specs.Meaning.{Nowhere, Used}
+use Rattle.record.specs.declared.Job.{Job}
 use Rattle.sets.specs.Bits.{hasBit}
+use Rattle.sets.specs.declared.job_set.JobSet.{JobSet}
+use Rattle.ledger.specs.Federation.{thresholdOf}
+use Rattle.ledger.specs.Graph.{Consumer, Creator, Maker}
 use Rattle.ledger.specs.Journal.{capacity, equalIn, insideOf}
+use Rattle.ledger.specs.State.{signersOf}
+use Rattle.ledger.specs.Steps.{held}
 use Rattle.ledger.specs.declared.Ledger.{Ledger}
 use Rattle.ledger.specs.declared.Settings.{Settings}
 
@@ -52,3 +64,30 @@ pub record NewAt (l : Ledger) (journal bytes : List ℕ) : Type 0 where
   pub unknown : insideOf journal (l .booked) ≤ equalIn journal (l .booked) bytes
   pub below : l .booked < capacity
   pub fits : recordSize * l .booked + recordSize ≤ length journal
+
+-- ---- checks 11 to 14, at entry i, by creators and consumers
+module _ (job : ℕ → Job) (booked : ℕ) where
+  abbrev pub NotCreatedAt : JobSet → Job → ℕ → Type 0
+  NotCreatedAt held j i = (i < 4) × (Used j i × (Creator job booked held (record { label = labelOf j i; frames = framesOf j i }) → ⊥))
+
+  abbrev pub ConsumedAt : JobSet → Job → ℕ → Type 0
+  ConsumedAt set j i = (i < 4) × (Used j i × Consumer job booked set (labelOf j i))
+
+  abbrev pub RemadeAt : JobSet → JobSet → Job → ℕ → Type 0
+  RemadeAt held others j i = (4 ≤ i) × (Used j i × (Maker job booked held (labelOf j i) ⊎ Maker job booked others (labelOf j i)))
+
+  -- what each answer of checks 11 to 14 means: the first check that fails, at the first entry that offends
+  pub data Admission (held others : JobSet) (j : Job) : Verdict → Type 0 where
+    admitted : Nowhere (NotCreatedAt held j) → Nowhere (ConsumedAt held j) → Nowhere (ConsumedAt others j) → Nowhere (RemadeAt held others j)
+        → Admission held others j Pass
+    missing : (e : ℕ) → Least 8 (NotCreatedAt held j) e → Admission held others j (Fail (NotCreated e))
+    consumed : (e : ℕ) → Nowhere (NotCreatedAt held j) → Least 8 (ConsumedAt held j) e → Admission held others j (Fail (Retired e))
+    reserved : (e : ℕ) → Nowhere (NotCreatedAt held j) → Nowhere (ConsumedAt held j) → Least 8 (ConsumedAt others j) e
+        → Admission held others j (Fail (InputReserved e))
+    remade : (e : ℕ) → Nowhere (NotCreatedAt held j) → Nowhere (ConsumedAt held j) → Nowhere (ConsumedAt others j) → Least 8 (RemadeAt held others j) e
+        → Admission held others j (Fail (OutputReserved e))
+
+-- ---- checks 15 and 16, by vaults: each named signer has signed, and they are at least n − b. Algorithm 2's "valid threshold signature".
+pub record Certificate (l : Ledger) (job signers : ℕ) : Type 0 where
+  pub signed : (v : ℕ) → hasBit signers v ≡ true → hasBit (signersOf l job) v ≡ true
+  pub enough : thresholdOf (l .settings) ≤ ones signers

@@ -7,9 +7,9 @@ use mathlib.Core.Path.{_≡_, refl, subst, sym}
 use Prim.Native.Nat.{_+_, _-_, _<_, _≤_, ℕ}
 use native.Mathlib.Omega.{arith}
 use lib.Dec.{ltb}
-use borrow.Author.Tests.{le-ltb, lt-ltb, ltb-false, ltb-true}
+use borrow.Author.Tests.{lt-ltb, ltb-true}
 use Rattle.base.proofs.Reflect.{reflect-and, reflect-as, reflect-cond, reflect-eq, reflect-false, reflect-if, reflect-le, reflect-lt, reflect-or, reflect-true, refuted, refutes}
-use Rattle.base.proofs.Search.{first-complete, first-end-complete, first-end-sound, first-le, first-sound, reflect-all, reflect-any}
+use Rattle.base.proofs.Search.{first-complete, first-end-complete, first-end-sound, first-sound, found-none, reflect-all, reflect-any, unfound}
 use Rattle.base.specs.Reflect.{Reflects}
 use Rattle.base.specs.Search.{firstBelow, sumFrom}
 use Rattle.outcome.specs.declared.Refusal.the-variants.{Malformed, Repeated, Unbalanced, Unsupported}
@@ -112,9 +112,6 @@ module _ (j : Job) where
   fails : (i : ℕ) → i < 8 → Reflects (unsupportedAt j i) (UnsupportedAt j i)
   fails i h = reflect-unsupported j i
 
-  none : (p : ℕ → Bool) → ltb (firstBelow 8 p) 8 ≡ false → firstBelow 8 p ≡ 8
-  none p e = omega (arith, ltb-false (firstBelow 8 p) 8 e, first-le p 8)
-
   -- `checkOf` with its tests apart, so that each can be decided
   answer : Bool → Bool → Bool → Bool → Verdict
   answer formed again without level =
@@ -131,12 +128,12 @@ module _ (j : Job) where
   answered true true u b ef er eu eb =
       repeated _ (reflect-formed j .sound ef) (first-sound 8 repeats _ (ltb-true _ _ er) refl)
   answered true false true b ef er eu eb =
-      unsupported _ (reflect-formed j .sound ef) (first-end-sound 8 repeats (none _ er)) (first-sound 8 fails _ (ltb-true _ _ eu) refl)
+      unsupported _ (reflect-formed j .sound ef) (first-end-sound 8 repeats (unfound _ 8 er)) (first-sound 8 fails _ (ltb-true _ _ eu) refl)
   answered true false false true ef er eu eb =
-      passes (reflect-formed j .sound ef) (first-end-sound 8 repeats (none _ er)) (first-end-sound 8 fails (none _ eu))
+      passes (reflect-formed j .sound ef) (first-end-sound 8 repeats (unfound _ 8 er)) (first-end-sound 8 fails (unfound _ 8 eu))
       (reflect-balanced j .sound eb)
   answered true false false false ef er eu eb =
-      unbalanced (reflect-formed j .sound ef) (first-end-sound 8 repeats (none _ er)) (first-end-sound 8 fails (none _ eu))
+      unbalanced (reflect-formed j .sound ef) (first-end-sound 8 repeats (unfound _ 8 er)) (first-end-sound 8 fails (unfound _ 8 eu))
       (refuted (reflect-balanced j) eb)
 
   pub check-answers : Answer j (checkOf j)
@@ -144,9 +141,6 @@ module _ (j : Job) where
   check-answers = answered (wellFormed j) _ _ (balanced j) refl refl refl refl
 
   -- and no other answer is meant
-  past : (p : ℕ → Bool) → firstBelow 8 p ≡ 8 → ltb (firstBelow 8 p) 8 ≡ false
-  past p e = le-ltb (firstBelow 8 p) 8 (omega (arith, e))
-
   pub answers-check : (v : Verdict) → Answer j v → checkOf j ≡ v
   unfolding checkOf
   answers-check v (malformed f) = simp (refutes (reflect-formed j) f)
@@ -155,11 +149,11 @@ module _ (j : Job) where
       simp (reflect-formed j .complete f, at, lt-ltb e 8 (r .below))
   answers-check v (unsupported e f r u) =
       let at : firstBelow 8 (unsupportedAt j) ≡ e = first-complete 8 fails e u in
-      simp (reflect-formed j .complete f, past (repeatedAt j) (first-end-complete 8 repeats r), at, lt-ltb e 8 (u .below))
+      simp (reflect-formed j .complete f, found-none (repeatedAt j) 8 (first-end-complete 8 repeats r), at, lt-ltb e 8 (u .below))
   answers-check v (passes f r u b) =
-      simp (reflect-formed j .complete f, past (repeatedAt j) (first-end-complete 8 repeats r), past (unsupportedAt j) (first-end-complete 8 fails u), reflect-balanced j .complete b)
+      simp (reflect-formed j .complete f, found-none (repeatedAt j) 8 (first-end-complete 8 repeats r), found-none (unsupportedAt j) 8 (first-end-complete 8 fails u), reflect-balanced j .complete b)
   answers-check v (unbalanced f r u b) =
-      simp (reflect-formed j .complete f, past (repeatedAt j) (first-end-complete 8 repeats r), past (unsupportedAt j) (first-end-complete 8 fails u), refutes (reflect-balanced j) b)
+      simp (reflect-formed j .complete f, found-none (repeatedAt j) 8 (first-end-complete 8 repeats r), found-none (unsupportedAt j) 8 (first-end-complete 8 fails u), refutes (reflect-balanced j) b)
 
 -- ---- conflicts
 pub reflect-label-in : (half : ℕ) (j : Job) (label : ℕ) → Reflects (labelIn half j label) (LabelIn half j label)

@@ -1,0 +1,114 @@
+-- Preflight and commit are the paper's Algorithms 1 and 2 with document 01's mends: checks 11 to 14 of a job that passes 6 to 9
+-- pass exactly where Algorithm 1 signs, and checks 15 and 16 exactly where Algorithm 2's signature is valid. The entries are
+-- read as the lists of tapes that the paper's In and Out are.
+-- Assumes nothing.
+use mathlib.Core.List.{List, _++_}
+use mathlib.Core.Logic.{_⊎_, inl, inr, ⊎-elim}
+use mathlib.Core.Path.{_∙_, _≡_, ap, subst, sym}
+use Prim.Native.Nat.{_<_, _≤_, zero-le, ℕ}
+use native.Mathlib.Omega.{arith}
+use lib.ListN.{set}
+use Rattle.base.proofs.Members.{distinct-apart, distinct-left, distinct-right, in-map, map-append, map-in}
+use Rattle.base.proofs.Reflect.{decided}
+use Rattle.base.specs.Lists.{Distinct, In}
+use Rattle.outcome.specs.declared.Verdict.{Verdict}
+use Rattle.outcome.specs.declared.Verdict.the-variants.{Pass}
+use Rattle.record.proofs.Meaning.{reflect-used}
+use Rattle.record.proofs.Tapes.{at-used, checked-sound, used-at}
+use Rattle.record.specs.Checks.{checkOf}
+use Rattle.record.specs.Entries.{framesOf, labelOf}
+use Rattle.record.specs.Meaning.{Nowhere, Used}
+use Rattle.record.specs.Tapes.{inputTapes, labels, outputTapes}
+use Rattle.record.specs.declared.Entry.{Entry}
+use Rattle.record.specs.declared.Job.{Job}
+use Rattle.sets.specs.declared.job_set.JobSet.{JobSet}
+use Rattle.ledger.proofs.Meaning.{admission-answers, answers-admission, reflect-made}
+use Rattle.ledger.specs.Admission.{admission}
+use Rattle.ledger.specs.Graph.{Algorithm1, Consumer, Creator, Maker}
+use Rattle.ledger.specs.Meaning.{Admission, ConsumedAt, NotCreatedAt, RemadeAt, admitted, consumed, missing, remade, reserved}
+use Rattle.ledger.specs.Steps.{held}
+
+module _ (job : ℕ → Job) (booked : ℕ) (held others : JobSet) (j : Job) where
+  -- the place of an input tape, and of an output's label
+  input-place : (t : Entry) → In t (inputTapes j) → (i : ℕ) × ((i < 4) × (Used j i × (record { label = labelOf j i; frames = framesOf j i } ≡ t)))
+  unfolding labelOf framesOf
+  input-place t m = let a = used-at j 0 4 t m in (a .place, (omega (arith, a .until), (reflect-used j (a .place) .sound (a .used), a .is)))
+
+  output-place : (x : ℕ) → In x (labels (outputTapes j)) → (i : ℕ) × ((i < 8) × ((4 ≤ i) × (Used j i × (labelOf j i ≡ x))))
+  unfolding labelOf
+  output-place x m =
+      let q = map-in (λ (t : Entry). t .label) (outputTapes j) x m in
+      let a = used-at j 4 4 (q .0) (q .1) in
+      (a .place, (omega (arith, a .until), (a .from, (reflect-used j (a .place) .sound (a .used), ap (λ (t : Entry). t .label) (a .is) ∙ sym (q .2)))))
+
+  input-label : (x : ℕ) → In x (labels (inputTapes j)) → (i : ℕ) × ((i < 4) × (Used j i × (labelOf j i ≡ x)))
+  input-label x m =
+      let q = map-in (λ (t : Entry). t .label) (inputTapes j) x m in
+      let p = input-place (q .0) (q .1) in
+      (p .0, (p .1 .0, (p .1 .1 .0, ap (λ (t : Entry). t .label) (p .1 .1 .1) ∙ sym (q .2))))
+
+  -- a check that offends nowhere lets every tape through
+  module _ (n11 : Nowhere (NotCreatedAt job booked held j)) (n12 : Nowhere (ConsumedAt job booked held j))
+      (n13 : Nowhere (ConsumedAt job booked others j)) (n14 : Nowhere (RemadeAt job booked held others j)) where
+    created : (t : Entry) → In t (inputTapes j) → Creator job booked held t
+    created t m =
+        let p = input-place t m in
+        subst (λ (x : Entry). Creator job booked held x) (p .1 .1 .1)
+        (decided (reflect-made job booked held (record { label = labelOf j (p .0); frames = framesOf j (p .0) }))
+        (λ n. n11 (p .0) (omega (arith, p .1 .0)) (p .1 .0, (p .1 .1 .0, n))))
+
+    unconsumed : (set : JobSet) → Nowhere (ConsumedAt job booked set j) → (x : ℕ) → In x (labels (inputTapes j)) → Consumer job booked set x → ⊥
+    unconsumed set none x m c =
+        let p = input-label x m in
+        none (p .0) (omega (arith, p .1 .0)) (p .1 .0, (p .1 .1 .0, subst (λ (y : ℕ). Consumer job booked set y) (sym (p .1 .1 .1)) c))
+
+    unmade : (x : ℕ) → In x (labels (outputTapes j)) → Maker job booked held x ⊎ Maker job booked others x → ⊥
+    unmade x m c =
+        let p = output-place x m in
+        n14 (p .0) (p .1 .0) (p .1 .1 .0, (p .1 .1 .1 .0, subst (λ (y : ℕ). Maker job booked held y ⊎ Maker job booked others y) (sym (p .1 .1 .1 .1)) c))
+
+    signs : checkOf j ≡ Pass → Algorithm1 job booked held others j
+    signs e =
+        let s = checked-sound j e in
+        let d : Distinct (labels (inputTapes j) ++ labels (outputTapes j)) =
+        subst (λ (l : List ℕ). Distinct l) (map-append (λ (t : Entry). t .label) (inputTapes j) (outputTapes j)) (s .distinct) in
+        record {
+          admissible = record {
+            valid = e;
+            inputs-once = distinct-left (labels (inputTapes j)) (labels (outputTapes j)) d;
+            outputs-once = distinct-right (labels (inputTapes j)) (labels (outputTapes j)) d;
+            apart = distinct-apart (labels (inputTapes j)) (labels (outputTapes j)) d;
+            frontier = λ t m. record { created = created t m; unconsumed = unconsumed held n12 (t .label) (in-map (λ (t : Entry). t .label) (inputTapes j) t m) };
+            fresh = λ x m c. unmade x m (inl c);
+          };
+          unmarked-inputs = unconsumed others n13;
+          unmarked-outputs = λ x m c. unmade x m (inr c);
+        }
+
+  admitted-signs : (v : Verdict) → v ≡ Pass → Admission job booked held others j v → checkOf j ≡ Pass → Algorithm1 job booked held others j
+  admitted-signs v e (admitted a b c d) h = signs a b c d h
+  admitted-signs v e (missing i m) h = let z : _≡_ {A = ℕ} 0 1 = cc in absurd (omega arith)
+  admitted-signs v e (consumed i a m) h = let z : _≡_ {A = ℕ} 0 1 = cc in absurd (omega arith)
+  admitted-signs v e (reserved i a b m) h = let z : _≡_ {A = ℕ} 0 1 = cc in absurd (omega arith)
+  admitted-signs v e (remade i a b c m) h = let z : _≡_ {A = ℕ} 0 1 = cc in absurd (omega arith)
+
+  -- checks 11 to 14 pass exactly where Algorithm 1 signs
+  pub admission-signs : checkOf j ≡ Pass → admission job booked held others j ≡ Pass → Algorithm1 job booked held others j
+  admission-signs h e = admitted-signs (admission job booked held others j) e (admission-answers job booked held others j) h
+
+  input-in : (i : ℕ) → i < 4 → Used j i → In (record { label = labelOf j i; frames = framesOf j i }) (inputTapes j)
+  unfolding labelOf framesOf
+  input-in i h u = at-used j 0 4 i zero-le (omega arith) (reflect-used j i .complete u)
+
+  output-in : (i : ℕ) → i < 8 → 4 ≤ i → Used j i → In (labelOf j i) (labels (outputTapes j))
+  unfolding labelOf
+  output-in i h l u = in-map (λ (t : Entry). t .label) (outputTapes j) _ (at-used j 4 4 i l (omega arith) (reflect-used j i .complete u))
+
+  pub signs-admission : Algorithm1 job booked held others j → admission job booked held others j ≡ Pass
+  signs-admission a =
+      answers-admission job booked held others j Pass
+      (admitted
+      (λ i h n. n .1 .1 (a .admissible .frontier _ (input-in i (n .0) (n .1 .0)) .created))
+      (λ i h n. a .admissible .frontier _ (input-in i (n .0) (n .1 .0)) .unconsumed (n .1 .1))
+      (λ i h n. a .unmarked-inputs (labelOf j i) (in-map (λ (t : Entry). t .label) (inputTapes j) _ (input-in i (n .0) (n .1 .0))) (n .1 .1))
+      (λ i h n. ⊎-elim (a .admissible .fresh (labelOf j i) (output-in i h (n .0) (n .1 .0))) (a .unmarked-outputs (labelOf j i) (output-in i h (n .0) (n .1 .0))) (n .1 .1)))
