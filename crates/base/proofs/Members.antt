@@ -185,10 +185,12 @@ module _ {A B : Type 0} (f : A → B) where
   distinct-map-keep p (x ∷ l) (nx, d) = by (p x) (distinct-map-keep p l d)
     where
       by : (b : Bool) → Distinct (map f (keepIf p l)) → Distinct (map f (cond b (x ∷ keepIf p l) (keepIf p l)))
-      by true r =
-          ((λ (i : In (f x) (map f (keepIf p l))).
-          let q = map-in (keepIf p l) (f x) i in
-          nx (subst (λ (b : B). In b (map f l)) (sym (q .2)) (in-map l (q .0) (keep-in p l (q .0) (q .1) .0)))), r)
+      by true r = (
+        (λ (i : In (f x) (map f (keepIf p l))).
+            let q = map-in (keepIf p l) (f x) i in
+            nx (subst (λ (b : B). In b (map f l)) (sym (q .2)) (in-map l (q .0) (keep-in p l (q .0) (q .1) .0)))),
+        r,
+      )
       by false r = r
 
 -- ---- taking distinct elements away

@@ -1,8 +1,12 @@
 pub mod Admission
+pub mod Demand3
 pub mod Federation
+pub mod Generations
 pub mod Graph
 pub mod Journal
 pub mod Meaning
+pub mod Register
 pub mod State
 pub mod Steps
 pub mod Vaults
+pub mod Worlds

@@ -173,9 +173,9 @@ statusOf l job =
     cond (leb (thresholdOf (l .settings)) (ones (holdersOf l job))) 2
     (cond (leb (thresholdOf (l .settings)) (ones (signersOf l job))) 1 0)
 
-abbrev pub shown : Verdict → ℕ → Outcome
-shown Pass value = Done value
-shown (Fail why) value = Refused why
+abbrev pub shown : Verdict → Outcome → Outcome
+shown Pass outcome = outcome
+shown (Fail why) outcome = Refused why
 
 unfoldable pub showOf : Ledger → List ℕ → ℕ → Outcome
-showOf l journal job = shown (bookedGate l journal job) (statusOf l job)
+showOf l journal job = shown (bookedGate l journal job) (Done (statusOf l job))

@@ -144,15 +144,20 @@ module _ (j : Job) where
     where
       by : (b : Bool) → isUsed j i ≡ b → Distinct (labels (usedFrom j (suc i) n)) → Distinct (labels (cond b (entry i ∷ usedFrom j (suc i) n) (usedFrom j (suc i) n)))
       by false e d = d
-      by true e d =
-          ((λ (m : In (entry i .label) (labels (usedFrom j (suc i) n))).
-          let q = map-in (λ (t : Entry). t .label) (usedFrom j (suc i) n) (entry i .label) m in
-          let a = used-at (suc i) n (q .0) (q .1) in
-          none (a .place) (omega (arith, a .until)) (reflect-used j (a .place) .sound (a .used), record {
-            which = i;
-            below = a .from;
-            has = (reflect-used j i .sound e, q .2 ∙ sym (ap (λ (t : Entry). t .label) (a .is)));
-          })), d)
+      by true e d = (
+        (λ (m : In (entry i .label) (labels (usedFrom j (suc i) n))).
+            let q = map-in (λ (t : Entry). t .label) (usedFrom j (suc i) n) (entry i .label) m in
+            let a = used-at (suc i) n (q .0) (q .1) in
+            none (a .place) (omega (arith, a .until)) (
+              reflect-used j (a .place) .sound (a .used),
+              record {
+                which = i;
+                below = a .from;
+                has = (reflect-used j i .sound e, q .2 ∙ sym (ap (λ (t : Entry). t .label) (a .is)));
+              },
+            )),
+        d,
+      )
 
 -- ---- what checks 6 to 9 say of the tapes
 abbrev pub accessionFrames : Job → ℕ

@@ -1,0 +1,103 @@
+-- Demand 3: after any list of steps, with any arguments and any lent journal, the jobs held by correct vaults are exactly those that the
+-- single register has taken; the register never stops; frames standing equal frames accessioned. The only premise is that the settings are
+-- lawful.
+use mathlib.Core.Bool.{false, not, true}
+use mathlib.Core.List.{List, [], _++_, _∷_}
+use mathlib.Core.Path.{_≡_}
+use Prim.Native.Nat.{_<_, _≤_, suc, zero, ℕ}
+use lib.Count.{ones}
+use lib.Dec.{eqb}
+use lib.ListN.{drop, length, take}
+use Rattle.base.specs.Lists.{Distinct, In, anyIn, keepIf, total}
+use Rattle.outcome.specs.Figures.{numberOf}
+use Rattle.outcome.specs.declared.Outcome.{Outcome}
+use Rattle.record.specs.Codec.{recordSize}
+use Rattle.record.specs.Tapes.{framesIn, inputTapes, labels, outputTapes}
+use Rattle.record.specs.declared.Entry.{Entry}
+use Rattle.record.specs.declared.Job.{Job}
+use Rattle.sets.specs.Bits.{hasBit}
+use Rattle.sets.specs.Jobs.{jobHas}
+use Rattle.ledger.specs.Federation.{thresholdOf}
+use Rattle.ledger.specs.Meaning.{Lawful}
+use Rattle.ledger.specs.Register.{Register, accessionOf, feedAll, log, newRegister, tabled}
+use Rattle.ledger.specs.State.{arrived, holdersOf, signersOf, vaultAt}
+use Rattle.ledger.specs.Worlds.{Event, World, afterAll, outcomes, start}
+use Rattle.ledger.specs.declared.Ledger.{Ledger}
+use Rattle.ledger.specs.declared.Settings.{Settings}
+
+-- "The others are sound": a vault below n that the faulty set does not name
+pub record Correct (s : Settings) (v : ℕ) : Type 0 where
+  pub below : v < s .n
+  pub sound : hasBit (s .faulty) v ≡ false
+
+-- the vault is correct and holds the job
+pub record HeldBy (l : Ledger) (k v : ℕ) : Type 0 where
+  pub correct : Correct (l .settings) v
+  pub held : jobHas (vaultAt l v .held) k ≡ true
+
+-- some correct vault holds the job
+pub record Held (l : Ledger) (k : ℕ) : Type 0 where
+  pub vault : ℕ
+  pub by : HeldBy l k vault
+
+-- the booked records, a list of each one's bytes
+unfoldable pub recordsIn : ℕ → List ℕ → List (List ℕ)
+recordsIn zero bytes = []
+recordsIn (suc n) bytes = take recordSize bytes ∷ recordsIn n (drop recordSize bytes)
+
+-- ---- along the arrival order: "a tape stands once a job has made it and until one retires its label"
+abbrev pub retire : Job → List Entry → List Entry
+retire j standing = keepIf (λ t. not (anyIn (eqb (t .label)) (labels (inputTapes j)))) standing
+
+abbrev pub standingFrom : (ℕ → Job) → List Entry → List ℕ → List Entry
+standingFrom job standing [] = standing
+standingFrom job standing (k ∷ ks) = standingFrom job (retire (job k) standing ++ outputTapes (job k)) ks
+
+abbrev pub standingAlong : (ℕ → Job) → List ℕ → List Entry
+standingAlong job ks = standingFrom job [] ks
+
+-- "Frames accessioned are the output frames of the accessions along it, each job counted once"
+abbrev pub accessionedAlong : (ℕ → Job) → List ℕ → ℕ
+accessionedAlong job ks = total (λ k. accessionOf (job k)) ks
+
+-- the job k of the list made the tape, and stands before the job m in it
+pub record MadeBefore (job : ℕ → Job) (ks : List ℕ) (m : ℕ) (t : Entry) (k : ℕ) : Type 0 where
+  pub earlier : List ℕ
+  pub later : List ℕ
+  pub split : ks ≡ earlier ++ (m ∷ later)
+  pub before : In k earlier
+  pub makes : In t (outputTapes (job k))
+
+-- exactly one job of the list made the tape, and it stands before m
+pub record OneCreator (job : ℕ → Job) (ks : List ℕ) (m : ℕ) (t : Entry) : Type 0 where
+  pub creator : ℕ
+  pub made : MadeBefore job ks m t creator
+  pub only : (k : ℕ) → In k ks → In t (outputTapes (job k)) → k ≡ creator
+
+-- ---- the statement
+pub record Holds (w : World) (r : Register) : Type 0 where
+  -- "the register never stops"
+  pub running : r .running ≡ true
+  -- jobs held and jobs taken, "compared by number and by record"
+  pub taken : r .taken ≡ arrived (w .ledger)
+  pub taken-held : (k : ℕ) → In k (r .taken) → Held (w .ledger) k
+  pub held-taken : (k : ℕ) → Held (w .ledger) k → In k (r .taken)
+  pub table : r .table ≡ recordsIn (w .ledger .booked) (w .booked)
+  pub known : (k : ℕ) → In k (r .taken) → k < length (r .table)
+  -- "each job counted once"
+  pub once : Distinct (r .taken)
+  -- the tapes standing and the frames accessioned are those that are defined along the arrival order
+  pub standing : r .standing ≡ standingAlong (tabled (r .table)) (arrived (w .ledger))
+  pub accessioned : r .accessioned ≡ accessionedAlong (tabled (r .table)) (arrived (w .ledger))
+  -- "frames standing equal frames accessioned"
+  pub frames : framesIn (r .standing) ≡ r .accessioned
+  -- generations rest on it
+  pub creators : (k : ℕ) → In k (r .taken) → (t : Entry) → In t (inputTapes (tabled (r .table) k)) → OneCreator (tabled (r .table)) (r .taken) k t
+  -- a finished job is certified
+  pub certified : (k : ℕ) → thresholdOf (w .ledger .settings) ≤ ones (holdersOf (w .ledger) k) → thresholdOf (w .ledger .settings) ≤ ones (signersOf (w .ledger) k)
+
+abbrev pub Demand3 : Type 0
+Demand3 =
+    (n b faulty : ℕ) → Lawful (record { n = n; b = b; faulty = faulty }) → (es : List Event)
+    → Holds (afterAll (start n b faulty) es) (feedAll newRegister (log (start n b faulty) es))
+    × ((o : Outcome) → In o (outcomes (start n b faulty) es) → numberOf o ≡ 1 → ⊥)

@@ -1,0 +1,88 @@
+-- Lists of steps ("The list of demand 3"): a step with its arguments and the journal that is lent for it, and what lasts from one
+-- step to the next. The steps are the functions that the contracts of src/ cite.
+use mathlib.Core.List.{List, [], _++_, _∷_}
+use Prim.Native.Nat.{_*_, ℕ}
+use lib.ListN.{drop, length, take}
+use Rattle.outcome.specs.declared.Outcome.{Outcome}
+use Rattle.record.specs.Codec.{recordSize}
+use Rattle.ledger.specs.Generations.{generationsOf}
+use Rattle.ledger.specs.State.{newLedger}
+use Rattle.ledger.specs.Steps.{commitOf, faultyAcknowledgeOf, faultySignOf, journalAfter, preflightOf, proposeOf, showOf}
+use Rattle.ledger.specs.declared.Ledger.{Ledger}
+use Rattle.ledger.specs.declared.Reply.{Reply}
+
+-- kinds 1 to 6 and 8. "A draw neither reads nor changes what the engine keeps and stays out".
+pub data Request : Type 0 where
+  propose : List ℕ → Request
+  preflight : ℕ → ℕ → Request
+  commit : ℕ → ℕ → ℕ → Request
+  faultySign : ℕ → ℕ → Request
+  faultyAcknowledge : ℕ → ℕ → Request
+  show : ℕ → Request
+  generations : ℕ → Request
+
+-- a step that only reads
+abbrev pub reads : Outcome → Ledger → Reply
+reads outcome l = record { outcome = outcome; ledger = l }
+
+abbrev pub stepOf : Ledger → List ℕ → Request → Reply
+stepOf l journal (propose bytes) = proposeOf l journal bytes
+stepOf l journal (preflight v job) = preflightOf l journal v job
+stepOf l journal (commit v job signers) = commitOf l journal v job signers
+stepOf l journal (faultySign v job) = faultySignOf l journal v job
+stepOf l journal (faultyAcknowledge v job) = faultyAcknowledgeOf l journal v job
+stepOf l journal (show job) = reads (showOf l journal job) l
+stepOf l journal (generations job) = reads (generationsOf l journal job) l
+
+-- the lent journal after a step: only a proposal writes it
+abbrev pub leftBy : Ledger → List ℕ → Request → List ℕ
+leftBy l journal (propose bytes) = journalAfter l journal bytes
+leftBy l journal (preflight v job) = journal
+leftBy l journal (commit v job signers) = journal
+leftBy l journal (faultySign v job) = journal
+leftBy l journal (faultyAcknowledge v job) = journal
+leftBy l journal (show job) = journal
+leftBy l journal (generations job) = journal
+
+-- "each step gets all that the engine keeps and the booked bytes as the step before left them"
+pub record World : Type 0 where
+  pub ledger : Ledger
+  pub booked : List ℕ
+
+-- a step, how many bytes are lent for it, and the free ones among them: "only the length of the book that the caller lends may differ"
+pub record Event : Type 0 where
+  pub request : Request
+  pub size : ℕ
+  pub beyond : List ℕ
+
+-- the lent journal: the booked bytes, then any others, cut at the size
+unfoldable pub lend : List ℕ → ℕ → List ℕ → List ℕ
+lend booked size beyond = take size (booked ++ beyond)
+
+abbrev pub lent : World → Event → List ℕ
+lent w e = lend (w .booked) (e .size) (e .beyond)
+
+abbrev pub replyTo : World → Event → Reply
+replyTo w e = stepOf (w .ledger) (lent w e) (e .request)
+
+-- the booked bytes after a step that left the journal so: those of the journal, and the old ones that lie outside it
+unfoldable pub overlay : List ℕ → List ℕ → List ℕ
+overlay journal booked = journal ++ drop (length journal) booked
+
+unfoldable pub after : World → Event → World
+after w e =
+    let next = replyTo w e .ledger in
+    record { ledger = next; booked = take (recordSize * next .booked) (overlay (leftBy (w .ledger) (lent w e) (e .request)) (w .booked)) }
+
+-- "The list starts with no record booked, nothing held, signed or acknowledged, counts 0 and no arrivals"
+unfoldable pub start : ℕ → ℕ → ℕ → World
+start n b faulty = record { ledger = newLedger n b faulty; booked = [] }
+
+abbrev pub afterAll : World → List Event → World
+afterAll w [] = w
+afterAll w (e ∷ es) = afterAll (after w e) es
+
+-- what each step of a list was answered
+abbrev pub outcomes : World → List Event → List Outcome
+outcomes w [] = []
+outcomes w (e ∷ es) = replyTo w e .outcome ∷ outcomes (after w e) es
