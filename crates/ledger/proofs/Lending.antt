@@ -1,0 +1,136 @@
+-- What lending a journal does: where the lent bytes overlap the booked ones they agree, so the booked records that lie inside are
+-- read as they are; a step that books nothing leaves the booked bytes, however short the lent journal, and one that books a record
+-- appends it. Every journal that agrees with the booked bytes is lent by some event, and only such.
+-- Assumes nothing.
+use mathlib.Core.Bool.{Bool, cond, false, true}
+use mathlib.Core.List.{List, [], _++_, _∷_, append-assoc}
+use mathlib.Core.Path.{_∙_, _≡_, ap, ap₂, refl, sym}
+use Prim.Native.Nat.{_*_, _+_, _<_, _≤_, suc, zero, ℕ}
+use native.Mathlib.Nat.{le-of-suc-le-suc, not-suc-le-zero, suc-add, zero-add}
+use native.Mathlib.Numerals.{add-one}
+use native.Mathlib.Omega.{arith}
+use lib.ListN.{List·getD-eq-default, drop, getD, length, length-append, length-drop, length-take, take}
+use lib.Seq.{drop-append-le, drop-drop, take-append-le, take-at, take-length, take-nil, take-take}
+use Rattle.base.proofs.Reflect.{refuted}
+use Rattle.record.specs.Codec.{jobOf, recordSize}
+use Rattle.ledger.proofs.Gates.{reflect-booked}
+use Rattle.ledger.specs.Demand3.{recordsIn}
+use Rattle.ledger.specs.Journal.{isBooked, jobAt, putAt, recordAt, slotAt}
+use Rattle.ledger.specs.Register.{tabled}
+use Rattle.ledger.specs.Worlds.{lend, overlay}
+
+take-drop : (m r : ℕ) (l : List ℕ) → take r (drop m l) ≡ drop m (take (m + r) l)
+take-drop zero r l = rw zero-add
+take-drop (suc m) r [] = take-nil r ∙ sym (ap (drop (suc m)) (take-nil (suc m + r)))
+take-drop (suc m) r (x ∷ l) = rw suc-add (take-drop m r l)
+
+-- ---- the lent journal and the booked bytes
+prefix : (c size : ℕ) (bs xs : List ℕ) → c ≤ length bs → c ≤ length (lend bs size xs) → take c (lend bs size xs) ≡ take c bs
+unfolding lend
+prefix c size bs xs h h′ =
+    let s : c ≤ size = omega (arith, length-take size (bs ++ xs)) in
+    take-take c size (bs ++ xs) s ∙ take-append-le c bs xs h
+
+pub slot-agrees : (k size : ℕ) (bs xs : List ℕ) → recordSize * k + recordSize ≤ length bs → recordSize * k + recordSize ≤ length (lend bs size xs)
+    → slotAt (lend bs size xs) k ≡ slotAt bs k
+unfolding slotAt
+slot-agrees k size bs xs h h′ =
+    take-drop (recordSize * k) recordSize (lend bs size xs)
+    ∙ ap (drop (recordSize * k)) (prefix (recordSize * k + recordSize) size bs xs h h′)
+    ∙ sym (take-drop (recordSize * k) recordSize bs)
+
+-- nothing booked: the booked bytes stay
+pub kept-bytes : (size : ℕ) (bs xs : List ℕ) → take (length bs) (overlay (lend bs size xs) bs) ≡ bs
+unfolding lend overlay
+kept-bytes zero bs xs = take-length bs
+kept-bytes (suc n) [] xs = refl
+kept-bytes (suc n) (x ∷ bs) xs = ap (λ (t : List ℕ). x ∷ t) (kept-bytes n bs xs)
+
+-- a record put after them: they are followed by it
+pub grown-bytes : (size : ℕ) (bs xs bytes : List ℕ) (k : ℕ) → length bs ≡ recordSize * k → length bytes ≡ recordSize
+    → recordSize * k + recordSize ≤ length (lend bs size xs)
+    → take (recordSize * (k + 1)) (overlay (putAt (lend bs size xs) k bytes) bs) ≡ bs ++ bytes
+unfolding overlay putAt
+grown-bytes size bs xs bytes k e b h =
+    let js : List ℕ = lend bs size xs in
+    let m : ℕ = recordSize * k in
+    let front : take m js ≡ bs = prefix m size bs xs (omega (arith, e)) (omega arith) ∙ ap (λ (n : ℕ). take n bs) (sym e) ∙ take-length bs in
+    let rest : List ℕ = drop (m + recordSize) js in
+    let tail : List ℕ = drop (length (take m js ++ (bytes ++ rest))) bs in
+    let size′ : recordSize * (k + 1) ≡ length (bs ++ bytes) = omega (arith, length-append bs bytes) in
+    ap (λ (t : List ℕ). take (recordSize * (k + 1)) ((t ++ (bytes ++ rest)) ++ tail)) front
+    ∙ ap (take (recordSize * (k + 1))) (ap (λ (t : List ℕ). t ++ tail) (sym (append-assoc bs bytes rest)) ∙ append-assoc (bs ++ bytes) rest tail)
+    ∙ take-at (bs ++ bytes) (rest ++ tail) (recordSize * (k + 1)) (sym size′)
+
+-- ---- the booked records
+pub records-length : (n : ℕ) (bs : List ℕ) → length (recordsIn n bs) ≡ n
+unfolding recordsIn
+records-length zero bs = refl
+records-length (suc n) bs = ap suc (records-length n (drop recordSize bs))
+
+pub records-at : (n k : ℕ) (bs : List ℕ) → k < n → getD (recordsIn n bs) k [] ≡ slotAt bs k
+unfolding recordsIn slotAt
+records-at zero k bs h = absurd (not-suc-le-zero h)
+records-at (suc n) zero bs h = refl
+records-at (suc n) (suc k) bs h =
+    records-at n k (drop recordSize bs) (le-of-suc-le-suc h)
+    ∙ ap (take recordSize) (drop-drop (recordSize * k) recordSize bs ∙ ap (λ (m : ℕ). drop m bs) next)
+  where
+    next : recordSize + recordSize * k ≡ recordSize * suc k
+    next = omega arith
+
+one-more : (n : ℕ) (bs bytes : List ℕ) → length bs ≡ recordSize * n → length bytes ≡ recordSize
+    → recordsIn (suc n) (bs ++ bytes) ≡ recordsIn n bs ++ (bytes ∷ [])
+unfolding recordsIn
+one-more zero [] bytes e b = ap (λ (x : List ℕ). x ∷ []) (ap (λ (m : ℕ). take m bytes) (sym b) ∙ take-length bytes)
+one-more zero (y ∷ bs) bytes e b = absurd (omega (arith, e))
+one-more (suc n) bs bytes e b =
+    let h : recordSize ≤ length bs = omega (arith, e) in
+    ap₂ (λ (x : List ℕ) (l : List (List ℕ)). x ∷ l) (take-append-le recordSize bs bytes h)
+    (ap (recordsIn (suc n)) (drop-append-le recordSize bs bytes h)
+    ∙ one-more n (drop recordSize bs) bytes (omega (arith, length-drop recordSize bs, e)) b)
+
+pub records-snoc : (n : ℕ) (bs bytes : List ℕ) → length bs ≡ recordSize * n → length bytes ≡ recordSize
+    → recordsIn (n + 1) (bs ++ bytes) ≡ recordsIn n bs ++ (bytes ∷ [])
+records-snoc n bs bytes e b = rw add-one (one-more n bs bytes e b)
+
+-- ---- the booked jobs are read as they are, whatever is lent, where check 4 passes
+module _ (n size : ℕ) (bs xs : List ℕ) (e : length bs ≡ recordSize * n) (h : recordSize * n ≤ length (lend bs size xs)) where
+  pub slot-read : (k : ℕ) → k < n → slotAt (lend bs size xs) k ≡ getD (recordsIn n bs) k []
+  slot-read k l = slot-agrees k size bs xs (omega (arith, e)) (omega arith) ∙ sym (records-at n k bs l)
+
+  record-read : (k : ℕ) → recordAt (lend bs size xs) n k ≡ getD (recordsIn n bs) k []
+  unfolding recordAt
+  record-read k = by (isBooked (lend bs size xs) n k) refl
+    where
+      by : (b : Bool) → isBooked (lend bs size xs) n k ≡ b → cond b (slotAt (lend bs size xs) k) [] ≡ getD (recordsIn n bs) k []
+      by true t = slot-read k (reflect-booked (lend bs size xs) n k .sound t .below)
+      by false t =
+          let past : n ≤ k = not-below (λ (l : k < n). refuted (reflect-booked (lend bs size xs) n k) t (record { inside = h; below = l })) in
+          sym (List·getD-eq-default (recordsIn n bs) [] {n = k} (omega (arith, records-length n bs)))
+        where
+          not-below : (k < n → ⊥) → n ≤ k
+          not-below f = omega (arith, f)
+
+  pub jobs-read : jobAt (lend bs size xs) n ≡ tabled (recordsIn n bs)
+  unfolding jobAt
+  jobs-read = λ i k. ap jobOf (record-read k) i
+
+-- ---- every journal that agrees with the booked bytes where the two overlap is lent by some event, and only such
+abbrev pub Agree : List ℕ → List ℕ → Type 0
+Agree [] journal = Unit {0}
+Agree (x ∷ bs) [] = Unit {0}
+Agree (x ∷ bs) (y ∷ journal) = (y ≡ x) × Agree bs journal
+
+pub lend-agrees : (size : ℕ) (bs xs : List ℕ) → Agree bs (lend bs size xs)
+unfolding lend
+lend-agrees zero [] xs = tt
+lend-agrees zero (x ∷ bs) xs = tt
+lend-agrees (suc n) [] xs = tt
+lend-agrees (suc n) (x ∷ bs) xs = (refl, lend-agrees n bs xs)
+
+pub agrees-lend : (bs journal : List ℕ) → Agree bs journal → journal ≡ lend bs (length journal) (drop (length bs) journal)
+unfolding lend
+agrees-lend [] journal a = sym (take-length journal)
+agrees-lend (x ∷ bs) [] a = refl
+agrees-lend (x ∷ bs) (y ∷ journal) (e, a) = ap₂ (λ (z : ℕ) (t : List ℕ). z ∷ t) e (agrees-lend bs journal a)
