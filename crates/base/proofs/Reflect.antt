@@ -114,3 +114,12 @@ reflect-false false = record { sound = λ e. refl; complete = λ e. refl }
 -- a decided claim that can't fail holds
 pub decided : {b : Bool} {P : Type 0} → Reflects b P → ((P → ⊥) → ⊥) → P
 decided {b} r h = r .sound (not-false-true b (λ e. h (refuted r e)))
+
+-- tests of one claim are equal
+pub reflects-same : {a b : Bool} {P : Type 0} → Reflects a P → Reflects b P → a ≡ b
+reflects-same {a} {b} p q = by a b (λ e. q .complete (p .sound e)) (λ e. p .complete (q .sound e))
+  where
+    by : (a b : Bool) → (a ≡ true → b ≡ true) → (b ≡ true → a ≡ true) → a ≡ b
+    by true b f g = sym (f refl)
+    by false true f g = g refl
+    by false false f g = refl

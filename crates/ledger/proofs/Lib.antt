@@ -1,7 +1,9 @@
+pub mod Account
 pub mod Gates
 pub mod Lending
 pub mod Meaning
 pub mod Paper
 pub mod Places
+pub mod Safety
 pub mod Slots
 pub mod Views
