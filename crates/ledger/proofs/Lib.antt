@@ -1,4 +1,5 @@
 pub mod Account
+pub mod Changes
 pub mod Gates
 pub mod Lending
 pub mod Meaning

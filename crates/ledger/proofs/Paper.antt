@@ -24,7 +24,7 @@ use Rattle.record.specs.declared.Job.{Job}
 use Rattle.sets.specs.declared.job_set.JobSet.{JobSet}
 use Rattle.ledger.proofs.Meaning.{admission-answers, answers-admission, reflect-made}
 use Rattle.ledger.specs.Admission.{admission}
-use Rattle.ledger.specs.Graph.{Algorithm1, Consumer, Creator, Maker}
+use Rattle.ledger.specs.Graph.{Algorithm1, Consumer, Creator, Maker, Unblocked}
 use Rattle.ledger.specs.Meaning.{Admission, ConsumedAt, NotCreatedAt, RemadeAt, admitted, consumed, missing, remade, reserved}
 use Rattle.ledger.specs.Steps.{held}
 
@@ -67,34 +67,38 @@ module _ (job : ℕ → Job) (booked : ℕ) (held others : JobSet) (j : Job) whe
         let p = output-place x m in
         n14 (p .0) (p .1 .0) (p .1 .1 .0, (p .1 .1 .1 .0, subst (λ (y : ℕ). Maker job booked held y ⊎ Maker job booked others y) (sym (p .1 .1 .1 .1)) c))
 
-    signs : checkOf j ≡ Pass → Algorithm1 job booked held others j
-    signs e =
-        let s = checked-sound j e in
-        let d : Distinct (labels (inputTapes j) ++ labels (outputTapes j)) =
-        subst (λ (l : List ℕ). Distinct l) (map-append (λ (t : Entry). t .label) (inputTapes j) (outputTapes j)) (s .distinct) in
-        record {
-          admissible = record {
-            valid = e;
-            inputs-once = distinct-left (labels (inputTapes j)) (labels (outputTapes j)) d;
-            outputs-once = distinct-right (labels (inputTapes j)) (labels (outputTapes j)) d;
-            apart = distinct-apart (labels (inputTapes j)) (labels (outputTapes j)) d;
-            frontier = λ t m. record { created = created t m; unconsumed = unconsumed held n12 (t .label) (in-map (λ (t : Entry). t .label) (inputTapes j) t m) };
-            fresh = λ x m c. unmade x m (inl c);
-          };
-          unmarked-inputs = unconsumed others n13;
-          unmarked-outputs = λ x m c. unmade x m (inr c);
-        }
+    unblocked : Unblocked job booked held others j
+    unblocked = record { created = created; unconsumed = unconsumed held n12; unmarked = unconsumed others n13; unmade = unmade }
 
-  admitted-signs : (v : Verdict) → v ≡ Pass → Admission job booked held others j v → checkOf j ≡ Pass → Algorithm1 job booked held others j
-  admitted-signs v e (admitted a b c d) h = signs a b c d h
-  admitted-signs v e (missing i m) h = let z : _≡_ {A = ℕ} 0 1 = cc in absurd (omega arith)
-  admitted-signs v e (consumed i a m) h = let z : _≡_ {A = ℕ} 0 1 = cc in absurd (omega arith)
-  admitted-signs v e (reserved i a b m) h = let z : _≡_ {A = ℕ} 0 1 = cc in absurd (omega arith)
-  admitted-signs v e (remade i a b c m) h = let z : _≡_ {A = ℕ} 0 1 = cc in absurd (omega arith)
+  admitted-unblocked : (v : Verdict) → v ≡ Pass → Admission job booked held others j v → Unblocked job booked held others j
+  admitted-unblocked v e (admitted a b c d) = unblocked a b c d
+  admitted-unblocked v e (missing i m) = let z : _≡_ {A = ℕ} 0 1 = cc in absurd (omega arith)
+  admitted-unblocked v e (consumed i a m) = let z : _≡_ {A = ℕ} 0 1 = cc in absurd (omega arith)
+  admitted-unblocked v e (reserved i a b m) = let z : _≡_ {A = ℕ} 0 1 = cc in absurd (omega arith)
+  admitted-unblocked v e (remade i a b c m) = let z : _≡_ {A = ℕ} 0 1 = cc in absurd (omega arith)
+
+  pub admission-unblocked : admission job booked held others j ≡ Pass → Unblocked job booked held others j
+  admission-unblocked e = admitted-unblocked (admission job booked held others j) e (admission-answers job booked held others j)
 
   -- checks 11 to 14 pass exactly where Algorithm 1 signs
   pub admission-signs : checkOf j ≡ Pass → admission job booked held others j ≡ Pass → Algorithm1 job booked held others j
-  admission-signs h e = admitted-signs (admission job booked held others j) e (admission-answers job booked held others j) h
+  admission-signs h e =
+      let s = checked-sound j h in
+      let u = admission-unblocked e in
+      let d : Distinct (labels (inputTapes j) ++ labels (outputTapes j)) =
+      subst (λ (l : List ℕ). Distinct l) (map-append (λ (t : Entry). t .label) (inputTapes j) (outputTapes j)) (s .distinct) in
+      record {
+        admissible = record {
+          valid = h;
+          inputs-once = distinct-left (labels (inputTapes j)) (labels (outputTapes j)) d;
+          outputs-once = distinct-right (labels (inputTapes j)) (labels (outputTapes j)) d;
+          apart = distinct-apart (labels (inputTapes j)) (labels (outputTapes j)) d;
+          frontier = λ t m. record { created = u .created t m; unconsumed = u .unconsumed (t .label) (in-map (λ (t : Entry). t .label) (inputTapes j) t m) };
+          fresh = λ x m c. u .unmade x m (inl c);
+        };
+        unmarked-inputs = u .unmarked;
+        unmarked-outputs = λ x m c. u .unmade x m (inr c);
+      }
 
   input-in : (i : ℕ) → i < 4 → Used j i → In (record { label = labelOf j i; frames = framesOf j i }) (inputTapes j)
   unfolding labelOf framesOf

@@ -1,6 +1,7 @@
 -- A vault's jobs as the paper's local graph (paper 2.2 and 2.3): who created a tape and who consumed a label. Document 01's
 -- mends are marked.
 use mathlib.Core.Bool.{true}
+use mathlib.Core.Logic.{_⊎_}
 use mathlib.Core.Path.{_≡_}
 use Prim.Native.Nat.{_<_, ℕ}
 use lib.ListN.{set}
@@ -56,3 +57,10 @@ module _ (job : ℕ → Job) (booked : ℕ) where
     pub admissible : Admissible held j
     pub unmarked-inputs : (x : ℕ) → In x (labels (inputTapes j)) → Consumer others x → ⊥
     pub unmarked-outputs : (x : ℕ) → In x (labels (outputTapes j)) → Maker others x → ⊥
+
+  -- the same without what the record alone decides: what checks 11 to 14 ask
+  pub record Unblocked (held others : JobSet) (j : Job) : Type 0 where
+    pub created : (t : Entry) → In t (inputTapes j) → Creator held t
+    pub unconsumed : (x : ℕ) → In x (labels (inputTapes j)) → Consumer held x → ⊥
+    pub unmarked : (x : ℕ) → In x (labels (inputTapes j)) → Consumer others x → ⊥
+    pub unmade : (x : ℕ) → In x (labels (outputTapes j)) → Maker held x ⊎ Maker others x → ⊥

@@ -1,0 +1,270 @@
+-- What a step does: one effect under its guard, or nothing. One case analysis of the steps, from which the invariant, what only
+-- grows and that a refused step changes nothing all follow. The steps that read only what is booked do so whatever journal is lent.
+-- Assumes nothing.
+use mathlib.Core.Bool.{Bool, cond, false, true}
+use mathlib.Core.List.{List, [], _++_}
+use mathlib.Core.Path.{_∙_, _≡_, ap, refl, subst, sym}
+use Prim.Native.Nat.{_*_, _<_, _^_, _≤_, ℕ}
+use native.Mathlib.Nat.{le-trans}
+use native.Mathlib.Omega.{arith}
+use lib.Bits.{and-le-r, bitAnd}
+use lib.Count.{ones}
+use lib.ListN.{getD, length, take}
+use borrow.Author.Tests.{eqb-true, leb-true}
+use Rattle.base.proofs.Lists.{reflect-same}
+use Rattle.base.proofs.Members.{getD-in, in-getD}
+use Rattle.base.proofs.Search.{any-intro, first-any, first-least}
+use Rattle.base.specs.Lists.{In}
+use Rattle.outcome.specs.declared.Outcome.{Outcome}
+use Rattle.outcome.specs.declared.Outcome.the-variants.{Done, Refused}
+use Rattle.outcome.specs.declared.Verdict.{Verdict}
+use Rattle.outcome.specs.declared.Verdict.the-variants.{Fail, Pass}
+use Rattle.record.specs.Checks.{examined}
+use Rattle.record.specs.Codec.{recordSize}
+use Rattle.record.specs.declared.Job.{Job}
+use Rattle.sets.proofs.Bits.{ones-subset}
+use Rattle.sets.specs.Bits.{hasBit, subsetOf}
+use Rattle.sets.specs.Jobs.{jobHas, jobWithout}
+use Rattle.ledger.proofs.Gates.{entered, first-passed, passed-rest, passed-test, rest-passed}
+use Rattle.ledger.proofs.Lending.{grown-bytes, jobs-read, kept-bytes, records-at, records-length, slot-agrees}
+use Rattle.ledger.proofs.Paper.{admission-unblocked}
+use Rattle.ledger.proofs.Places.{examined-length, placed-known, placed-new}
+use Rattle.ledger.proofs.Views.{arrives}
+use Rattle.ledger.specs.Demand3.{Correct, HeldBy, recordsIn}
+use Rattle.ledger.specs.Federation.{thresholdOf}
+use Rattle.ledger.specs.Generations.{generationsOf}
+use Rattle.ledger.specs.Graph.{Unblocked}
+use Rattle.ledger.specs.Journal.{equalAt, equalIn, insideOf, jobAt, slotAt}
+use Rattle.ledger.specs.Meaning.{Entered, KnownAt, Lawful, NewAt, Sane}
+use Rattle.ledger.specs.Register.{isDone, tabled}
+use Rattle.ledger.specs.State.{acknowledged, booking, countersigned, holdersOf, signersOf, vaultAt, withVault}
+use Rattle.ledger.specs.Steps.{andThen, answered, certificate, commitChecks, commitOf, committed, consulted, faultyAcknowledgeOf, faultySignOf, held, journalAfter, journalWith, placeOf, preflightOf, preflighted, proposeOf, proposed, refused, settle, showOf, vaultGate}
+use Rattle.ledger.specs.Vaults.{admissionAt, consented, holding, signing, vaultPreflight}
+use Rattle.ledger.specs.Worlds.{Event, Request, World, after, commit, faultyAcknowledge, faultySign, generations, leftBy, lend, overlay, preflight, propose, reads, replyTo, show, stepOf}
+use Rattle.ledger.specs.declared.Consent.the-variants.{Already}
+use Rattle.ledger.specs.declared.Ledger.{Ledger}
+use Rattle.ledger.specs.declared.Place.{Place}
+use Rattle.ledger.specs.declared.Place.the-variants.{Known, New, Turned}
+use Rattle.ledger.specs.declared.Reply.{Reply}
+use Rattle.ledger.specs.declared.Signing.{Signing}
+
+-- the shape of what a list of steps leaves
+pub record Shape (l : Ledger) (bs : List ℕ) : Type 0 where
+  pub lawful : Lawful (l .settings)
+  pub vaults : length (l .vaults) ≡ 16
+  pub signatures : length (l .signatures) ≡ 128
+  pub acknowledgements : length (l .acknowledgements) ≡ 128
+  pub order : length (l .order) ≡ 128
+  pub arrivals : l .arrivals ≤ 128
+  pub records : length bs ≡ recordSize * l .booked
+  pub room : l .booked ≤ 128
+  pub signers-below : (k : ℕ) → signersOf l k < 2 ^ l .settings .n
+  pub holders-below : (k : ℕ) → holdersOf l k < 2 ^ l .settings .n
+
+pub shape-sane : {l : Ledger} {bs : List ℕ} → Shape l bs → Sane l
+shape-sane s = record { lawful = s .lawful; booked = s .room; arrivals = s .arrivals }
+
+abbrev pub withLedger : World → Ledger → World
+withLedger w l = record { ledger = l; booked = w .booked }
+
+-- the table of the booked records, and its jobs
+abbrev pub tableOf : World → List (List ℕ)
+tableOf w = recordsIn (w .ledger .booked) (w .booked)
+
+-- a vault signs: its set grows and its signature is recorded
+abbrev pub signedBy : Ledger → ℕ → ℕ → Ledger
+signedBy l v k = countersigned (withVault l v (signing (vaultAt l v) k)) v k
+
+-- a request that is answered 0 and changes nothing
+abbrev pub Idle : World → Request → Type 0
+Idle w (propose bytes) = In bytes (tableOf w)
+Idle w (preflight v k) = Unit {0}
+Idle w (commit v k signers) = HeldBy (w .ledger) k v
+Idle w (faultySign v k) = ⊥
+Idle w (faultyAcknowledge v k) = ⊥
+Idle w (show k) = Unit {0}
+Idle w (generations k) = Unit {0}
+
+pub data Change (w : World) : Request → Bool → World → Type 0 where
+  -- refused
+  nothing : (q : Request) → Change w q false w
+  -- answered 0, and nothing changes
+  idle : (q : Request) → Idle w q → Change w q true w
+  -- answered 0, with one effect
+  books : (bytes : List ℕ) → examined bytes ≡ Pass → w .ledger .booked < 128 → (In bytes (tableOf w) → ⊥)
+      → Change w (propose bytes) true (record { ledger = booking (w .ledger); booked = w .booked ++ bytes })
+  signs : (v k : ℕ) → Correct (w .ledger .settings) v → k < w .ledger .booked
+      → Unblocked (tabled (tableOf w)) (w .ledger .booked) (vaultAt (w .ledger) v .held) (jobWithout (vaultAt (w .ledger) v .signed) k) (tabled (tableOf w) k)
+      → Change w (preflight v k) true (withLedger w (signedBy (w .ledger) v k))
+  countersigns : (v k : ℕ) → v < w .ledger .settings .n → hasBit (w .ledger .settings .faulty) v ≡ true → k < w .ledger .booked
+      → Change w (faultySign v k) true (withLedger w (countersigned (w .ledger) v k))
+  acknowledges : (v k : ℕ) → v < w .ledger .settings .n → hasBit (w .ledger .settings .faulty) v ≡ true → k < w .ledger .booked
+      → Change w (faultyAcknowledge v k) true (withLedger w (acknowledged (w .ledger) v k))
+  holds : (v k signers : ℕ) → Correct (w .ledger .settings) v → k < w .ledger .booked → thresholdOf (w .ledger .settings) ≤ ones (signersOf (w .ledger) k)
+      → Change w (commit v k signers) true (withLedger w (held (w .ledger) v k))
+
+-- ---- each step is a change
+module _ (w : World) (sh : Shape (w .ledger) (w .booked)) (size : ℕ) (beyond : List ℕ) where
+  abbrev l : Ledger
+  l = w .ledger
+
+  abbrev bs : List ℕ
+  bs = w .booked
+
+  abbrev journal : List ℕ
+  journal = lend bs size beyond
+
+  -- the world that a reply leaves, with the journal as it is then
+  abbrev left : Reply → List ℕ → World
+  left r js = record { ledger = r .ledger; booked = take (recordSize * r .ledger .booked) (overlay js bs) }
+
+  abbrev Moves : Request → Reply → Type 0
+  Moves q r = Change w q (isDone (r .outcome)) (left r journal)
+
+  -- a step that books nothing leaves the booked bytes
+  moves : (q : Request) (r : Reply) → r .ledger .booked ≡ l .booked → Change w q (isDone (r .outcome)) (withLedger w (r .ledger)) → Moves q r
+  moves q r e c =
+      subst (λ (bytes : List ℕ). Change w q (isDone (r .outcome)) (record { ledger = r .ledger; booked = bytes }))
+      (sym (ap (λ (n : ℕ). take n (overlay journal bs)) (ap (λ (n : ℕ). recordSize * n) e ∙ sym (sh .records)) ∙ kept-bytes size bs beyond)) c
+
+  -- a row of checks that fails
+  settled : (q : Request) (v : Verdict) (r : Reply) → (v ≡ Pass → Moves q r) → Moves q (settle v r l)
+  settled q Pass r h = h refl
+  settled q (Fail why) r h = moves q (refused why l) refl (nothing q)
+
+  correct : (v k : ℕ) → Entered l journal v k false → Correct (l .settings) v
+  correct v k h = record { below = h .vault; sound = h .role }
+
+  -- the booked jobs, as they are read behind a gate
+  jobs : {v k : ℕ} {f : Bool} → Entered l journal v k f → jobAt journal (l .booked) ≡ tabled (tableOf w)
+  jobs h = jobs-read (l .booked) size bs beyond (sh .records) (h .known .inside)
+
+  -- ---- preflight
+  abbrev reply : Bool → Verdict → ℕ → ℕ → Reply
+  reply b d v k =
+      let answer : Signing = cond b (record { consent = Already; vault = vaultAt l v }) (consented d (vaultAt l v) k) in
+      preflighted (answer .consent) (answer .vault) l v k
+
+  unblocked : (v k : ℕ) → Entered l journal v k false → admissionAt (vaultAt l v) journal (l .booked) k ≡ Pass
+      → Unblocked (tabled (tableOf w)) (l .booked) (vaultAt l v .held) (jobWithout (vaultAt l v .signed) k) (tabled (tableOf w) k)
+  unfolding admissionAt
+  unblocked v k h e =
+      subst (λ (job : ℕ → Job). Unblocked job (l .booked) (vaultAt l v .held) (jobWithout (vaultAt l v .signed) k) (job k)) (jobs h)
+      (admission-unblocked (jobAt journal (l .booked)) (l .booked) (vaultAt l v .held) (jobWithout (vaultAt l v .signed) k) (jobAt journal (l .booked) k) e)
+
+  signed-booked : (v k : ℕ) → signedBy l v k .booked ≡ l .booked
+  unfolding countersigned withVault
+  signed-booked v k = refl
+
+  consents : (v k : ℕ) (b : Bool) (d : Verdict) → admissionAt (vaultAt l v) journal (l .booked) k ≡ d → Entered l journal v k false
+      → Moves (preflight v k) (reply b d v k)
+  consents v k true d e h = moves (preflight v k) (answered (ones (signersOf l k)) l) refl (idle (preflight v k) tt)
+  consents v k false (Fail why) e h = moves (preflight v k) (refused why l) refl (nothing (preflight v k))
+  consents v k false Pass e h =
+      moves (preflight v k) (answered (ones (signersOf (signedBy l v k) k)) (signedBy l v k)) (signed-booked v k)
+      (signs v k (correct v k h) (h .known .below) (unblocked v k h e))
+
+  change-preflight : (v k : ℕ) → Moves (preflight v k) (preflightOf l journal v k)
+  unfolding preflightOf consulted vaultPreflight
+  change-preflight v k =
+      settled (preflight v k) (vaultGate l journal v k false) _
+      (λ g. consents v k (jobHas (vaultAt l v .signed) k) (admissionAt (vaultAt l v) journal (l .booked) k) refl (entered l journal v k false g))
+
+  -- ---- commit
+  subset-ones : (k signers : ℕ) → subsetOf signers (signersOf l k) ≡ true → ones signers ≤ ones (signersOf l k)
+  unfolding subsetOf
+  subset-ones k signers e =
+      let q : bitAnd signers (signersOf l k) ≡ signers = eqb-true (bitAnd signers (signersOf l k)) signers e in
+      ones-subset (l .settings .n) signers (signersOf l k) (omega (arith, and-le-r signers (signersOf l k), sh .signers-below k)) e
+
+  quorum : (k signers : ℕ) → certificate l k signers ≡ Pass → thresholdOf (l .settings) ≤ ones (signersOf l k)
+  unfolding certificate
+  quorum k signers e =
+      let sub = passed-test (subsetOf signers (signersOf l k)) _ _ e in
+      let enough = leb-true (thresholdOf (l .settings)) (ones signers) (passed-test _ _ _ (passed-rest (subsetOf signers (signersOf l k)) _ _ e)) in
+      le-trans enough (subset-ones k signers sub)
+
+  held-booked : (v k : ℕ) → held l v k .booked ≡ l .booked
+  unfolding held acknowledged withVault
+  held-booked v k = arrives (acknowledged (withVault l v (holding (vaultAt l v) k)) v k) k .booked
+
+  commits : (v k signers : ℕ) → Entered l journal v k false → thresholdOf (l .settings) ≤ ones (signersOf l k) → (b : Bool) → jobHas (vaultAt l v .held) k ≡ b
+      → Moves (commit v k signers) (cond b (answered (ones (holdersOf l k)) l) (answered (ones (holdersOf (held l v k) k)) (held l v k)))
+  commits v k signers h q true e =
+      moves (commit v k signers) (answered (ones (holdersOf l k)) l) refl (idle (commit v k signers) (record { correct = correct v k h; held = e }))
+  commits v k signers h q false e =
+      moves (commit v k signers) (answered (ones (holdersOf (held l v k) k)) (held l v k)) (held-booked v k) (holds v k signers (correct v k h) (h .known .below) q)
+
+  change-commit : (v k signers : ℕ) → Moves (commit v k signers) (commitOf l journal v k signers)
+  unfolding commitOf commitChecks committed
+  change-commit v k signers =
+      settled (commit v k signers) (andThen (vaultGate l journal v k false) (certificate l k signers)) _
+      (λ g. commits v k signers (entered l journal v k false (first-passed _ _ g)) (quorum k signers (rest-passed (vaultGate l journal v k false) _ g)) (jobHas (vaultAt l v .held) k) refl)
+
+  -- ---- faulty vaults
+  change-sign : (v k : ℕ) → Moves (faultySign v k) (faultySignOf l journal v k)
+  unfolding faultySignOf countersigned
+  change-sign v k =
+      settled (faultySign v k) (vaultGate l journal v k true) _
+      (λ g. let h = entered l journal v k true g in
+      moves (faultySign v k) (answered (ones (signersOf (countersigned l v k) k)) (countersigned l v k)) refl (countersigns v k (h .vault) (h .role) (h .known .below)))
+
+  change-acknowledge : (v k : ℕ) → Moves (faultyAcknowledge v k) (faultyAcknowledgeOf l journal v k)
+  unfolding faultyAcknowledgeOf acknowledged
+  change-acknowledge v k =
+      settled (faultyAcknowledge v k) (vaultGate l journal v k true) _
+      (λ g. let h = entered l journal v k true g in
+      moves (faultyAcknowledge v k) (answered (ones (holdersOf (acknowledged l v k) k)) (acknowledged l v k)) refl (acknowledges v k (h .vault) (h .role) (h .known .below)))
+
+  -- ---- steps that only read
+  change-read : (q : Request) (o : Outcome) → Idle w q → Moves q (reads o l)
+  change-read q (Done value) i = moves q (reads (Done value) l) refl (idle q i)
+  change-read q (Refused why) i = moves q (reads (Refused why) l) refl (nothing q)
+
+  -- ---- propose
+  -- a record inside the journal is a booked one
+  slot-tabled : (k : ℕ) → k < insideOf journal (l .booked) → slotAt journal k ≡ getD (tableOf w) k []
+  unfolding insideOf
+  slot-tabled k h =
+      slot-agrees k size bs beyond (omega (arith, sh .records)) (omega arith) ∙ sym (records-at (l .booked) k bs (omega arith))
+
+  found : (bytes : List ℕ) (k : ℕ) → KnownAt l journal bytes k → In bytes (tableOf w)
+  unfolding equalIn equalAt insideOf
+  found bytes k h =
+      let f = first-least (equalAt journal bytes) (insideOf journal (l .booked)) (rw (h .found) (h .inside)) in
+      let same : slotAt journal k ≡ bytes = reflect-same (slotAt journal k) bytes .sound (ap (equalAt journal bytes) (sym (h .found)) ∙ f .has) in
+      subst (λ (x : List ℕ). In x (tableOf w)) (sym (slot-tabled k (h .inside)) ∙ same)
+      (in-getD (tableOf w) [] k (omega (arith, h .inside, records-length (l .booked) bs)))
+
+  unknown : (bytes : List ℕ) → NewAt l journal bytes → In bytes (tableOf w) → ⊥
+  unfolding equalIn equalAt insideOf
+  unknown bytes h m =
+      let q = getD-in (tableOf w) [] bytes m in
+      let b : q .0 < insideOf journal (l .booked) = omega (arith, q .1, records-length (l .booked) bs, h .fits) in
+      let same : equalAt journal bytes (q .0) ≡ true = reflect-same (slotAt journal (q .0)) bytes .complete (slot-tabled (q .0) b ∙ q .2) in
+      absurd (omega (arith, h .unknown, first-any (equalAt journal bytes) (insideOf journal (l .booked)) (any-intro (equalAt journal bytes) (insideOf journal (l .booked)) (q .0) b same)))
+
+  change-propose : (bytes : List ℕ) (p : Place) → placeOf l journal bytes ≡ p
+      → Change w (propose bytes) (isDone (proposed p l .outcome)) (left (proposed p l) (journalWith p l journal bytes))
+  unfolding booking
+  change-propose bytes (Known k) e = moves (propose bytes) (answered k l) refl (idle (propose bytes) (found bytes k (placed-known l journal bytes k e)))
+  change-propose bytes (Turned why) e = moves (propose bytes) (refused why l) refl (nothing (propose bytes))
+  change-propose bytes New e =
+      let h = placed-new l journal bytes e in
+      subst (λ (b : List ℕ). Change w (propose bytes) true (record { ledger = booking l; booked = b }))
+      (sym (grown-bytes size bs beyond bytes (l .booked) (sh .records) (examined-length bytes (h .passes)) (h .fits)))
+      (books bytes (h .passes) (h .below) (unknown bytes h))
+
+  pub change : (q : Request) → Change w q (isDone (stepOf l journal q .outcome)) (left (stepOf l journal q) (leftBy l journal q))
+  unfolding proposeOf journalAfter
+  change (propose bytes) = change-propose bytes (placeOf l journal bytes) refl
+  change (preflight v k) = change-preflight v k
+  change (commit v k signers) = change-commit v k signers
+  change (faultySign v k) = change-sign v k
+  change (faultyAcknowledge v k) = change-acknowledge v k
+  change (show k) = change-read (show k) (showOf l journal k) tt
+  change (generations k) = change-read (generations k) (generationsOf l journal k) tt
+
+pub changes : (w : World) → Shape (w .ledger) (w .booked) → (e : Event) → Change w (e .request) (isDone (replyTo w e .outcome)) (after w e)
+unfolding after
+changes w sh e = change w sh (e .size) (e .beyond) (e .request)
