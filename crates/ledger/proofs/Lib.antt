@@ -1,5 +1,7 @@
 pub mod Account
 pub mod Changes
+pub mod Demand3
+pub mod Effects
 pub mod Gates
 pub mod Lending
 pub mod Meaning
