@@ -2,23 +2,42 @@
 -- before, and two quorums share a correct vault, so the newcomer conflicts with none of them; its inputs were made by jobs that a correct
 -- vault holds, and none of those has retired them. So the register takes it, and never stops.
 -- Assumes nothing.
-use mathlib.Core.Bool.{true}
-use mathlib.Core.List.{List}
-use mathlib.Core.Path.{_∙_, _≡_, ap}
-use Prim.Native.Nat.{ℕ}
-use lib.ListN.{length}
+use mathlib.Core.Bool.{Bool, true, true≢false}
+use mathlib.Core.List.{List, [], _++_, _∷_}
+use mathlib.Core.Logic.{inr, ⊎-elim}
+use mathlib.Core.Path.{_∙_, _≡_, ap, refl, subst, sym}
+use Prim.Native.Nat.{_<_, _≤_, ℕ}
+use native.Mathlib.Omega.{arith}
+use lib.Count.{ones}
+use lib.ListN.{List·getD-append, getD, length}
+use lib.Seq.{length-take-le}
+use Rattle.base.proofs.Members.{in-getD, in-map, in-snoc, pigeons}
 use Rattle.base.specs.Lists.{Distinct, In}
 use Rattle.outcome.specs.declared.Verdict.the-variants.{Pass}
 use Rattle.record.specs.Checks.{examined}
-use Rattle.ledger.proofs.Account.{Books}
-use Rattle.ledger.proofs.Changes.{Shape, tableOf}
-use Rattle.ledger.proofs.Lending.{records-length}
-use Rattle.ledger.proofs.Safety.{Safe}
+use Rattle.record.specs.Codec.{jobOf, recordSize}
+use Rattle.record.specs.Tapes.{inputTapes, outputTapes}
+use Rattle.record.specs.declared.Entry.{Entry}
+use Rattle.record.specs.declared.Job.{Job}
+use Rattle.sets.proofs.Jobs.{job-without-other}
+use Rattle.sets.specs.Bits.{hasBit}
+use Rattle.sets.specs.Jobs.{jobWithout}
+use Rattle.ledger.proofs.Account.{Books, CanTake, books-enter}
+use Rattle.ledger.proofs.Changes.{Shape, holds, signedBy, tableOf, withLedger}
+use Rattle.ledger.proofs.Effects.{ack-acked, counter-ones, counter-recorded, shape-acknowledge, shape-book, shape-countersign, shape-sign, sign-held, sign-ones, sign-recorded, sign-signed}
+use Rattle.ledger.proofs.Lending.{records-length, records-snoc}
+use Rattle.ledger.proofs.Places.{examined-length}
+use Rattle.ledger.proofs.Safety.{Apart, Clear, Safe, certified-apart, certified-rooted, safe-acknowledge, safe-book, safe-countersign, safe-sign}
 use Rattle.ledger.proofs.Views.{ackedAt, heldAt, recordedAt, signedAt}
-use Rattle.ledger.specs.Demand3.{Held}
-use Rattle.ledger.specs.Register.{Register, tabled}
-use Rattle.ledger.specs.State.{arrived, signersOf}
+use Rattle.ledger.specs.Demand3.{Correct, Held}
+use Rattle.ledger.specs.Federation.{thresholdOf}
+use Rattle.ledger.specs.Graph.{Unblocked}
+use Rattle.ledger.specs.Register.{Register, entering, tabled}
+use Rattle.ledger.specs.State.{acknowledged, arrived, booking, countersigned, holdersOf, signersOf, vaultAt, withVault}
+use Rattle.ledger.specs.Steps.{held}
 use Rattle.ledger.specs.Worlds.{World}
+use Rattle.ledger.specs.declared.Ledger.{Ledger}
+use Rattle.ledger.specs.declared.Settings.{Settings}
 
 pub record Inv (w : World) (r : Register) : Type 0 where
   pub shape : Shape (w .ledger) (w .booked)
@@ -35,3 +54,159 @@ pub record Inv (w : World) (r : Register) : Type 0 where
 pub table-length : {w : World} {r : Register} → Inv w r → length (r .table) ≡ w .ledger .booked
 table-length {w} i = ap length (i .table) ∙ records-length (w .ledger .booked) (w .booked)
 
+-- ---- what is held stays held
+abbrev Keeps : Ledger → Ledger → Type 0
+Keeps l l′ = (v k : ℕ) → heldAt l v k ≡ true → heldAt l′ v k ≡ true
+
+still : (l l′ : Ledger) → l′ .settings ≡ l .settings → Keeps l l′ → (k : ℕ) → Held l k → Held l′ k
+unfolding heldAt
+still l l′ e h k x = record {
+  vault = x .vault;
+  by = record { correct = subst (λ (s : Settings). Correct s (x .vault)) (sym e) (x .by .correct); held = h (x .vault) k (x .by .held) };
+}
+
+held-by : (l : Ledger) (k : ℕ) → Held l k → (v : ℕ) × (heldAt l v k ≡ true)
+unfolding heldAt
+held-by l k x = (x .vault, x .by .held)
+
+-- ---- the effects keep the invariant
+module _ {w : World} {r : Register} (i : Inv w r) where
+  abbrev l : Ledger
+  l = w .ledger
+
+  abbrev job : ℕ → Job
+  job = tabled (r .table)
+
+  in-vaults : (v : ℕ) → v < l .settings .n → v < length (l .vaults)
+  in-vaults v h = omega (arith, i .shape .vaults, i .shape .lawful .vaults)
+
+  is-vault : (v : ℕ) → v < l .settings .n → v < 16
+  is-vault v h = omega (arith, i .shape .lawful .vaults)
+
+  is-job : (k : ℕ) → k < l .booked → k < 128
+  is-job k h = omega (arith, i .shape .room)
+
+  -- ---- a correct vault signs
+  clear : (v k : ℕ) → Unblocked (tabled (tableOf w)) (l .booked) (vaultAt l v .held) (jobWithout (vaultAt l v .signed) k) (tabled (tableOf w) k)
+      → Clear job (heldAt l) (signedAt l) v k
+  unfolding heldAt signedAt
+  clear v k u = subst (λ (t : List (List ℕ)). Clear (tabled t) (heldAt l) (signedAt l) v k) (sym (i .table)) (record {
+    rooted = λ t m. let c = u .created t m in record { maker = c .which; holds = c .member; makes = c .makes };
+    apart = λ m s ne. record {
+      inputs = λ x a b. u .unmarked x a (record { which = m; below = below m s; member = job-without-other (vaultAt l v .signed) k m ne ∙ s; lists = b });
+      outputs = λ x a b. u .unmade x a (inr (record { which = m; below = below m s; member = job-without-other (vaultAt l v .signed) k m ne ∙ s; lists = b }));
+    };
+  })
+    where
+      below : (m : ℕ) → signedAt l v m ≡ true → m < l .booked
+      below m s = i .safe .booked-recorded v m (i .safe .backed v m s)
+
+  inv-sign : (v k : ℕ) → Correct (l .settings) v → k < l .booked → Clear job (heldAt l) (signedAt l) v k → Inv (withLedger w (signedBy l v k)) r
+  unfolding countersigned withVault ackedAt holdersOf
+  inv-sign v k c hk cl = record {
+    shape = shape-sign v k (i .shape) (c .below);
+    safe = subst (λ (h : ℕ → ℕ → Bool). Safe (l .settings) (l .booked) job h (signedAt (signedBy l v k)) (recordedAt (signedBy l v k)) (ackedAt l) (signersOf (signedBy l v k)))
+        (sym (sign-held l v k))
+        (safe-sign (i .safe) v k hk (sign-signed l v k (in-vaults v (c .below)) (is-job k hk))
+        (sign-recorded l v k (omega (arith, i .shape .signatures, is-job k hk)) (is-vault v (c .below))) (sign-ones l v k) cl);
+    fit = i .fit;
+    books = i .books;
+    running = i .running;
+    table = i .table;
+    taken = i .taken;
+    once = i .once;
+    taken-held = λ m x. still l (signedBy l v k) refl (λ u m t. ap (λ (f : ℕ → ℕ → Bool). f u m) (sign-held l v k) ∙ t) m (i .taken-held m x);
+    held-taken = λ u m t. i .held-taken u m (ap (λ (f : ℕ → ℕ → Bool). f u m) (sym (sign-held l v k)) ∙ t);
+  }
+
+  -- ---- faulty vaults
+  not-correct : (v : ℕ) → hasBit (l .settings .faulty) v ≡ true → Correct (l .settings) v → ⊥
+  not-correct v f c = true≢false (sym f ∙ c .sound)
+
+  inv-countersign : (v k : ℕ) → v < l .settings .n → hasBit (l .settings .faulty) v ≡ true → k < l .booked → Inv (withLedger w (countersigned l v k)) r
+  unfolding countersigned heldAt signedAt ackedAt holdersOf
+  inv-countersign v k hv f hk = record {
+    shape = shape-countersign v k (i .shape) hv;
+    safe = safe-countersign (i .safe) v k hk (not-correct v f) (counter-recorded l v k (omega (arith, i .shape .signatures, is-job k hk)) (is-vault v hv)) (counter-ones l v k);
+    fit = i .fit;
+    books = i .books;
+    running = i .running;
+    table = i .table;
+    taken = i .taken;
+    once = i .once;
+    taken-held = λ m x. still l (countersigned l v k) refl (λ u m t. t) m (i .taken-held m x);
+    held-taken = i .held-taken;
+  }
+
+  inv-acknowledge : (v k : ℕ) → v < l .settings .n → hasBit (l .settings .faulty) v ≡ true → k < l .booked → Inv (withLedger w (acknowledged l v k)) r
+  unfolding acknowledged heldAt signedAt recordedAt signersOf
+  inv-acknowledge v k hv f hk = record {
+    shape = shape-acknowledge v k (i .shape) hv;
+    safe = safe-acknowledge (i .safe) v k (not-correct v f) (ack-acked l v k (omega (arith, i .shape .acknowledgements, is-job k hk)) (is-vault v hv));
+    fit = i .fit;
+    books = i .books;
+    running = i .running;
+    table = i .table;
+    taken = i .taken;
+    once = i .once;
+    taken-held = λ m x. still l (acknowledged l v k) refl (λ u m t. t) m (i .taken-held m x);
+    held-taken = i .held-taken;
+  }
+
+  -- ---- a record is booked
+  inv-book : (bytes : List ℕ) → examined bytes ≡ Pass → l .booked < 128 → Inv (record { ledger = booking l; booked = w .booked ++ bytes }) (entering r bytes)
+  unfolding booking entering heldAt signedAt recordedAt ackedAt signersOf holdersOf
+  inv-book bytes e h =
+      let size : length bytes ≡ recordSize = examined-length bytes e in
+      record {
+        shape = shape-book bytes (i .shape) h size;
+        safe = safe-book (i .safe) (λ k b. ap jobOf (List·getD-append (r .table) (bytes ∷ []) [] k (omega (arith, table-length i))));
+        fit = λ x m. ⊎-elim (i .fit x) (λ (q : x ≡ bytes). rw q e) (in-snoc (r .table) bytes x m);
+        books = books-enter r bytes (i .books);
+        running = i .running;
+        table = ap (λ (t : List (List ℕ)). t ++ (bytes ∷ [])) (i .table) ∙ sym (records-snoc (l .booked) (w .booked) bytes (i .shape .records) size);
+        taken = i .taken;
+        once = i .once;
+        taken-held = λ m x. still l (booking l) refl (λ u m t. t) m (i .taken-held m x);
+        held-taken = i .held-taken;
+      }
+
+  -- ---- a certified job that has not arrived is admissible
+  is-recorded : (v k : ℕ) → hasBit (signersOf l k) v ≡ true → recordedAt l v k ≡ true
+  unfolding recordedAt
+  is-recorded v k t = t
+
+  quorum-of : (k : ℕ) → In k (r .taken) → thresholdOf (l .settings) ≤ ones (signersOf l k)
+  quorum-of k m = let h = held-by l k (i .taken-held k m) in i .safe .certified (h .0) k (h .1)
+
+  module _ (k : ℕ) (hk : k < l .booked) (quorum : thresholdOf (l .settings) ≤ ones (signersOf l k)) (new : In k (r .taken) → ⊥) where
+    apart : (m : ℕ) → In m (r .taken) → Apart (job m) (job k)
+    apart m x =
+        certified-apart (i .safe) (i .shape .lawful) (i .shape .signers-below) is-recorded m k (quorum-of m x) quorum
+        (λ (e : m ≡ k). new (subst (λ (z : ℕ). In z (r .taken)) e x))
+
+    pub can-take : CanTake r (getD (r .table) k [])
+    can-take = record {
+      fits = i .fit (getD (r .table) k []) (in-getD (r .table) [] k (omega (arith, table-length i)));
+      standing = λ t m.
+          let q = certified-rooted (i .safe) (i .shape .lawful) (i .shape .signers-below) is-recorded k quorum t m in
+          let p = q .1 .1 in
+          i .books .stands (p .maker) t (i .held-taken (q .0) (p .maker) (p .holds)) (p .makes)
+          (λ n x y. apart n x .inputs (t .label) y (in-map (λ (t : Entry). t .label) (inputTapes (job k)) t m));
+      new = λ t m x.
+          let q = i .books .made-by (t .label) x in
+          apart (q .0) (q .1 .0) .outputs (t .label) (q .1 .1) (in-map (λ (t : Entry). t .label) (outputTapes (job k)) t m);
+    }
+
+    -- and there is room for it in the order
+    space : l .arrivals < 128
+    space =
+        let below : (m : ℕ) → In m (k ∷ r .taken) → m < l .booked = λ (m : ℕ) (x : In m (k ∷ r .taken)).
+        ⊎-elim (λ (e : m ≡ k). rw e hk) (λ (y : In m (r .taken)). omega (arith, i .books .known m y, table-length i)) x in
+        omega (
+          arith,
+          pigeons (l .booked) (k ∷ r .taken) (new, i .once) below,
+          ap length (i .taken),
+          length-take-le (l .arrivals) (l .order) (omega (arith, i .shape .order, i .shape .arrivals)),
+          i .shape .room,
+        )
