@@ -91,7 +91,7 @@ pub data Change (w : World) : Request → Bool → World → Type 0 where
   -- answered 0, and nothing changes
   idle : (q : Request) → Idle w q → Change w q true w
   -- answered 0, with one effect
-  books : (bytes : List ℕ) → examined bytes ≡ Pass → w .ledger .booked < 128 → (In bytes (tableOf w) → ⊥)
+  appends : (bytes : List ℕ) → examined bytes ≡ Pass → w .ledger .booked < 128 → (In bytes (tableOf w) → ⊥)
       → Change w (propose bytes) true (record { ledger = booking (w .ledger); booked = w .booked ++ bytes })
   signs : (v k : ℕ) → Correct (w .ledger .settings) v → k < w .ledger .booked
       → Unblocked (tabled (tableOf w)) (w .ledger .booked) (vaultAt (w .ledger) v .held) (jobWithout (vaultAt (w .ledger) v .signed) k) (tabled (tableOf w) k)
@@ -253,7 +253,7 @@ module _ (w : World) (sh : Shape (w .ledger) (w .booked)) (size : ℕ) (beyond :
       let h = placed-new l journal bytes e in
       subst (λ (b : List ℕ). Change w (propose bytes) true (record { ledger = booking l; booked = b }))
       (sym (grown-bytes size bs beyond bytes (l .booked) (sh .records) (examined-length bytes (h .passes)) (h .fits)))
-      (books bytes (h .passes) (h .below) (unknown bytes h))
+      (appends bytes (h .passes) (h .below) (unknown bytes h))
 
   pub change : (q : Request) → Change w q (isDone (stepOf l journal q .outcome)) (left (stepOf l journal q) (leftBy l journal q))
   unfolding proposeOf journalAfter

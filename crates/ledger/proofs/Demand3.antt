@@ -2,17 +2,22 @@
 -- before, and two quorums share a correct vault, so the newcomer conflicts with none of them; its inputs were made by jobs that a correct
 -- vault holds, and none of those has retired them. So the register takes it, and never stops.
 -- Assumes nothing.
-use mathlib.Core.Bool.{Bool, true, true≢false}
+use mathlib.Core.Bool.{Bool, _&&_, cond, false, true, true≢false}
 use mathlib.Core.List.{List, [], _++_, _∷_}
 use mathlib.Core.Logic.{inr, ⊎-elim}
 use mathlib.Core.Path.{_∙_, _≡_, ap, refl, subst, sym}
 use Prim.Native.Nat.{_<_, _≤_, ℕ}
 use native.Mathlib.Omega.{arith}
 use lib.Count.{ones}
+use lib.Dec.{eqb, ltb}
 use lib.ListN.{List·getD-append, getD, length}
 use lib.Seq.{length-take-le}
-use Rattle.base.proofs.Members.{in-getD, in-map, in-snoc, pigeons}
-use Rattle.base.specs.Lists.{Distinct, In}
+use borrow.Author.Tests.{lt-ltb}
+use Rattle.base.proofs.Lists.{reflect-same}
+use Rattle.base.proofs.Members.{any-in, distinct-snoc, in-getD, in-last, in-left, in-map, in-none, in-snoc, pigeons, reflect-member}
+use Rattle.base.proofs.Reflect.{reflect-eq, refuted, refutes}
+use Rattle.base.specs.Lists.{Distinct, In, anyIn, sameList}
+use Rattle.base.specs.Reflect.{Reflects}
 use Rattle.outcome.specs.declared.Verdict.the-variants.{Pass}
 use Rattle.record.specs.Checks.{examined}
 use Rattle.record.specs.Codec.{jobOf, recordSize}
@@ -22,20 +27,20 @@ use Rattle.record.specs.declared.Job.{Job}
 use Rattle.sets.proofs.Jobs.{job-without-other}
 use Rattle.sets.specs.Bits.{hasBit}
 use Rattle.sets.specs.Jobs.{jobWithout}
-use Rattle.ledger.proofs.Account.{Books, CanTake, books-enter}
-use Rattle.ledger.proofs.Changes.{Shape, holds, signedBy, tableOf, withLedger}
-use Rattle.ledger.proofs.Effects.{ack-acked, counter-ones, counter-recorded, shape-acknowledge, shape-book, shape-countersign, shape-sign, sign-held, sign-ones, sign-recorded, sign-signed}
+use Rattle.ledger.proofs.Account.{Books, CanTake, books-enter, books-take, reflect-admissible}
+use Rattle.ledger.proofs.Changes.{Change, Idle, Shape, acknowledges, appends, changes, countersigns, holds, idle, nothing, signedBy, signs, tableOf, withLedger}
+use Rattle.ledger.proofs.Effects.{ack-acked, counter-ones, counter-recorded, hold-acked, hold-again, hold-booked, hold-first, hold-held, hold-recorded, hold-settings, hold-signed, hold-signers, shape-acknowledge, shape-book, shape-countersign, shape-hold, shape-sign, sign-held, sign-ones, sign-recorded, sign-signed}
 use Rattle.ledger.proofs.Lending.{records-length, records-snoc}
 use Rattle.ledger.proofs.Places.{examined-length}
-use Rattle.ledger.proofs.Safety.{Apart, Clear, Safe, certified-apart, certified-rooted, safe-acknowledge, safe-book, safe-countersign, safe-sign}
-use Rattle.ledger.proofs.Views.{ackedAt, heldAt, recordedAt, signedAt}
-use Rattle.ledger.specs.Demand3.{Correct, Held}
+use Rattle.ledger.proofs.Safety.{Apart, Clear, Safe, certified-apart, certified-rooted, safe-acknowledge, safe-book, safe-countersign, safe-hold, safe-sign}
+use Rattle.ledger.proofs.Views.{Grown, ackedAt, heldAt, recordedAt, reflect-arrived, signedAt}
+use Rattle.ledger.specs.Demand3.{Correct, Held, recordsIn}
 use Rattle.ledger.specs.Federation.{thresholdOf}
 use Rattle.ledger.specs.Graph.{Unblocked}
-use Rattle.ledger.specs.Register.{Register, entering, tabled}
+use Rattle.ledger.specs.Register.{Register, entering, feed, feedAll, feedCommit, feedDone, feedProposal, isAdmissible, isDone, log, stopped, tabled, taking}
 use Rattle.ledger.specs.State.{acknowledged, arrived, booking, countersigned, holdersOf, signersOf, vaultAt, withVault}
 use Rattle.ledger.specs.Steps.{held}
-use Rattle.ledger.specs.Worlds.{World}
+use Rattle.ledger.specs.Worlds.{Event, Request, World, after, afterAll, commit, faultyAcknowledge, faultySign, generations, preflight, propose, replyTo, show}
 use Rattle.ledger.specs.declared.Ledger.{Ledger}
 use Rattle.ledger.specs.declared.Settings.{Settings}
 
@@ -210,3 +215,121 @@ module _ {w : World} {r : Register} (i : Inv w r) where
           length-take-le (l .arrivals) (l .order) (omega (arith, i .shape .order, i .shape .arrivals)),
           i .shape .room,
         )
+
+  -- ---- a correct vault holds a certified job
+  module _ (v k : ℕ) (c : Correct (l .settings) v) (hk : k < l .booked) (quorum : thresholdOf (l .settings) ≤ ones (signersOf l k)) where
+    abbrev next : Ledger
+    next = held l v k
+
+    grown : Grown (heldAt l) (heldAt next) v k
+    grown = hold-held l v k (in-vaults v (c .below)) (is-job k hk)
+
+    safe-next : Safe (next .settings) (next .booked) job (heldAt next) (signedAt next) (recordedAt next) (ackedAt next) (signersOf next)
+    safe-next =
+        subst (λ (s : Settings). Safe s (next .booked) job (heldAt next) (signedAt next) (recordedAt next) (ackedAt next) (signersOf next)) (sym (hold-settings l v k))
+        (subst (λ (n : ℕ). Safe (l .settings) n job (heldAt next) (signedAt next) (recordedAt next) (ackedAt next) (signersOf next)) (sym (hold-booked l v k))
+        (subst (λ (f : ℕ → ℕ → Bool). Safe (l .settings) (l .booked) job (heldAt next) f (recordedAt next) (ackedAt next) (signersOf next)) (sym (hold-signed l v k))
+        (subst (λ (f : ℕ → ℕ → Bool). Safe (l .settings) (l .booked) job (heldAt next) (signedAt l) f (ackedAt next) (signersOf next)) (sym (hold-recorded l v k))
+        (subst (λ (f : ℕ → ℕ). Safe (l .settings) (l .booked) job (heldAt next) (signedAt l) (recordedAt l) (ackedAt next) f) (sym (hold-signers l v k))
+        (safe-hold (i .safe) v k hk quorum grown (hold-acked l v k (omega (arith, i .shape .acknowledgements, is-job k hk)) (is-vault v (c .below))))))))
+
+    table-next : r .table ≡ tableOf (withLedger w next)
+    table-next = i .table ∙ ap (λ (n : ℕ). recordsIn n (w .booked)) (sym (hold-booked l v k))
+
+    still-held : (m : ℕ) → Held l m → Held next m
+    still-held = still l next (hold-settings l v k) (grown .old)
+
+    now-held : Held next k
+    unfolding heldAt
+    now-held = record { vault = v; by = record { correct = subst (λ (s : Settings). Correct s v) (sym (hold-settings l v k)) c; held = grown .new } }
+
+    order-long : l .arrivals ≤ length (l .order)
+    order-long = omega (arith, i .shape .arrivals, i .shape .order)
+
+    inv-again : In k (r .taken) → Inv (withLedger w next) r
+    inv-again m = record {
+      shape = shape-hold v k (i .shape) (c .below);
+      safe = safe-next;
+      fit = i .fit;
+      books = i .books;
+      running = i .running;
+      table = table-next;
+      taken = i .taken ∙ sym (hold-again l v k (reflect-arrived l k order-long .complete (subst (λ (x : List ℕ). In k x) (i .taken) m)));
+      once = i .once;
+      taken-held = λ n x. still-held n (i .taken-held n x);
+      held-taken = λ u n t. ⊎-elim (i .held-taken u n) (λ e. rw (e .1) m) (grown .cases u n t);
+    }
+
+    inv-first : (In k (r .taken) → ⊥) → Inv (withLedger w next) (taking r k)
+    unfolding taking
+    inv-first new = record {
+      shape = shape-hold v k (i .shape) (c .below);
+      safe = safe-next;
+      fit = i .fit;
+      books = books-take r k (i .books) (omega (arith, table-length i)) (can-take k hk quorum new);
+      running = i .running;
+      table = table-next;
+      taken = ap (λ (t : List ℕ). t ++ (k ∷ [])) (i .taken)
+          ∙ sym (hold-first l v k (refutes (reflect-arrived l k order-long) (λ m. new (subst (λ (x : List ℕ). In k x) (sym (i .taken)) m))) (space k hk quorum new) (omega (arith, space k hk quorum new, i .shape .order)));
+      once = distinct-snoc (r .taken) k (i .once) new;
+      taken-held = λ n x. ⊎-elim (λ (m : In n (r .taken)). still-held n (i .taken-held n m)) (λ (e : n ≡ k). subst (λ (z : ℕ). Held next z) (sym e) now-held) (in-snoc (r .taken) k n x);
+      held-taken = λ u n t. ⊎-elim
+          (λ (o : heldAt l u n ≡ true). in-left (r .taken) (k ∷ []) n (i .held-taken u n o))
+          (λ e. subst (λ (z : ℕ). In z (r .taken ++ (k ∷ []))) (sym (e .1)) (in-last (r .taken) k))
+          (grown .cases u n t);
+    }
+
+    inv-hold : Inv (withLedger w next) (feedCommit r k)
+    unfolding feedCommit
+    inv-hold = by (anyIn (eqb k) (r .taken)) refl
+      where
+        taken? : Reflects (anyIn (eqb k) (r .taken)) (In k (r .taken))
+        taken? = reflect-member k (r .taken) (reflect-eq k)
+
+        by : (b : Bool) → anyIn (eqb k) (r .taken) ≡ b
+            → Inv (withLedger w next) (cond b r (cond (ltb k (length (r .table)) && isAdmissible r (getD (r .table) k [])) (taking r k) (stopped r)))
+        by true e = inv-again (taken? .sound e)
+        by false e =
+            let new : In k (r .taken) → ⊥ = refuted taken? e in
+            simp (lt-ltb k (length (r .table)) (omega (arith, table-length i)), reflect-admissible r (getD (r .table) k []) .complete (can-take k hk quorum new)) (inv-first new)
+
+  -- ---- a request answered 0 that changes nothing
+  inv-idle : (q : Request) → Idle w q → Inv w (feedDone r q)
+  unfolding feedProposal feedCommit heldAt
+  inv-idle (propose bytes) m =
+      simp (any-in (λ x. sameList x bytes) (r .table) bytes (subst (λ (t : List (List ℕ)). In bytes t) (sym (i .table)) m) (reflect-same bytes bytes .complete refl)) i
+  inv-idle (preflight v k) m = i
+  inv-idle (commit v k signers) m =
+      simp (reflect-member k (r .taken) (reflect-eq k) .complete (i .held-taken v k (m .held))) i
+  inv-idle (faultySign v k) m = absurd m
+  inv-idle (faultyAcknowledge v k) m = absurd m
+  inv-idle (show k) m = i
+  inv-idle (generations k) m = i
+
+  -- a record that is not in the table enters it
+  feeds-new : (bytes : List ℕ) → (In bytes (tableOf w) → ⊥) → feedProposal r bytes ≡ entering r bytes
+  unfolding feedProposal
+  feeds-new bytes n =
+      simp (in-none (λ x. sameList x bytes) (r .table)
+      (λ x m. refutes (reflect-same x bytes) (λ (e : x ≡ bytes). n (subst (λ (t : List (List ℕ)). In bytes t) (i .table) (subst (λ (z : List ℕ). In z (r .table)) e m)))))
+
+  -- an answered request is fed to the running register
+  fed : (q : Request) (w′ : World) → Inv w′ (feedDone r q) → Inv w′ (feed r q true)
+  fed q w′ h = simp (i .running) h
+
+-- ---- every step keeps it
+pub keep : (w : World) (r : Register) → Inv w r → (q : Request) (done : Bool) (w′ : World) → Change w q done w′ → Inv w′ (feed r q done)
+keep w r i q done w′ (nothing p) = i
+keep w r i q done w′ (idle p m) = fed i q w (inv-idle i q m)
+keep w r i q done w′ (appends bytes e h n) =
+    fed i q w′ (subst (λ (x : Register). Inv w′ x) (sym (feeds-new i bytes n)) (inv-book i bytes e h))
+keep w r i q done w′ (signs v k c h u) = fed i q w′ (inv-sign i v k c h (clear i v k u))
+keep w r i q done w′ (countersigns v k h f b) = fed i q w′ (inv-countersign i v k h f b)
+keep w r i q done w′ (acknowledges v k h f b) = fed i q w′ (inv-acknowledge i v k h f b)
+keep w r i q done w′ (holds v k signers c h e) = fed i q w′ (inv-hold i v k c h e)
+
+pub along : (es : List Event) (w : World) (r : Register) → Inv w r → Inv (afterAll w es) (feedAll r (log w es))
+along [] w r i = i
+along (e ∷ es) w r i =
+    along es (after w e) (feed r (e .request) (isDone (replyTo w e .outcome)))
+    (keep w r i (e .request) (isDone (replyTo w e .outcome)) (after w e) (changes w (i .shape) e))

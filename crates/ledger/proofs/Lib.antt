@@ -7,6 +7,7 @@ pub mod Lending
 pub mod Meaning
 pub mod Paper
 pub mod Places
+pub mod Refusals
 pub mod Safety
 pub mod Slots
 pub mod Views
