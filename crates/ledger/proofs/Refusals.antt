@@ -1,12 +1,14 @@
 -- A sane ledger never answers 1: every other refusal has another number, whatever the checks find.
 -- Assumes nothing.
-use mathlib.Core.Bool.{Bool, cond, false, true, true≢false}
+use mathlib.Core.Bool.{Bool, Bool·beq, cond, false, true, true≢false}
 use mathlib.Core.List.{List}
 use mathlib.Core.Path.{_∙_, _≡_, ap, refl, sym}
 use Prim.Native.Nat.{ℕ}
 use native.Mathlib.Omega.{arith}
 use lib.Count.{ones}
-use lib.Dec.{eqb}
+use lib.Dec.{eqb, leb, ltb}
+use lib.ListN.{length}
+use Rattle.base.specs.Search.{firstBelow}
 use Rattle.outcome.specs.Figures.{numberOf, refusalNumber}
 use Rattle.outcome.specs.declared.Outcome.{Outcome}
 use Rattle.outcome.specs.declared.Outcome.the-variants.{Done, Refused}
@@ -14,14 +16,18 @@ use Rattle.outcome.specs.declared.Refusal.{Refusal}
 use Rattle.outcome.specs.declared.Refusal.the-variants.{Full, InputReserved, Malformed, NoVault, NotBooked, NotCreated, NotHeld, NotSigned, OutputReserved, Repeated, Retired, TooFewSigners, Unbalanced, Unsupported, WrongVault}
 use Rattle.outcome.specs.declared.Verdict.{Verdict}
 use Rattle.outcome.specs.declared.Verdict.the-variants.{Fail, Pass}
-use Rattle.record.specs.Checks.{balanced, checkOf, examined, wellFormed}
-use Rattle.record.specs.Codec.{jobOf}
+use Rattle.record.specs.Checks.{balanced, checkOf, examined, repeatedAt, unsupportedAt, wellFormed}
+use Rattle.record.specs.Codec.{jobOf, recordSize}
+use Rattle.record.specs.Meaning.{repeated, unsupported}
 use Rattle.record.specs.declared.Job.{Job}
+use Rattle.sets.specs.Bits.{hasBit, subsetOf}
 use Rattle.sets.specs.Jobs.{jobHas}
 use Rattle.sets.specs.declared.job_set.JobSet.{JobSet}
-use Rattle.ledger.specs.Admission.{admission}
+use Rattle.ledger.specs.Admission.{admission, consumedAt, notCreatedAt, remadeAt}
+use Rattle.ledger.specs.Federation.{thresholdOf}
 use Rattle.ledger.specs.Generations.{ageOf, generationsOf, isHeld}
-use Rattle.ledger.specs.Journal.{isBooked}
+use Rattle.ledger.specs.Journal.{equalIn, hasRoom, insideOf, isBooked}
+use Rattle.ledger.specs.Meaning.{missing, remade, reserved}
 use Rattle.ledger.specs.State.{acknowledged, countersigned, holdersOf, isSane, signersOf, vaultAt, withVault}
 use Rattle.ledger.specs.Steps.{andThen, answered, bookedGate, certificate, commitChecks, commitOf, committed, consulted, faultyAcknowledgeOf, faultySignOf, held, newPlace, placeOf, placed, preflightOf, preflighted, proposeOf, proposed, settle, showOf, shown, statusOf, vaultGate}
 use Rattle.ledger.specs.Vaults.{admissionAt, consented, signing, vaultPreflight}
@@ -66,29 +72,40 @@ both (Fail why) b p q = p
 checked : (j : Job) → NotOne (checkOf j)
 unfolding checkOf
 checked j =
+    let repeated = firstBelow 8 (repeatedAt j) in
+    let unsupported = firstBelow 8 (unsupportedAt j) in
     choose (wellFormed j) _ _
-    (choose _ _ _ (fails (Repeated _) refl) (choose _ _ _ (fails (Unsupported _) refl) (choose (balanced j) _ _ pass (fails Unbalanced refl))))
+    (choose (ltb repeated 8) _ _ (fails (Repeated repeated) refl)
+    (choose (ltb unsupported 8) _ _ (fails (Unsupported unsupported) refl)
+    (choose (balanced j) _ _ pass (fails Unbalanced refl))))
     (fails Malformed refl)
 
 examines : (bytes : List ℕ) → NotOne (examined bytes)
 unfolding examined
-examines bytes = choose _ _ _ (checked (jobOf bytes)) (fails Malformed refl)
+examines bytes = choose (eqb (length bytes) recordSize) _ _ (checked (jobOf bytes)) (fails Malformed refl)
 
 admits : (job : ℕ → Job) (booked : ℕ) (held others : JobSet) (j : Job) → NotOne (admission job booked held others j)
 unfolding admission
 admits job booked held others j =
-    choose _ _ _ (fails (NotCreated _) refl)
-    (choose _ _ _ (fails (Retired _) refl)
-    (choose _ _ _ (fails (InputReserved _) refl)
-    (choose _ _ _ (fails (OutputReserved _) refl) pass)))
+    let missing = firstBelow 8 (notCreatedAt job booked held j) in
+    let retired = firstBelow 8 (consumedAt job booked held j) in
+    let reserved = firstBelow 8 (consumedAt job booked others j) in
+    let remade = firstBelow 8 (remadeAt job booked held others j) in
+    choose (ltb missing 8) _ _ (fails (NotCreated missing) refl)
+    (choose (ltb retired 8) _ _ (fails (Retired retired) refl)
+    (choose (ltb reserved 8) _ _ (fails (InputReserved reserved) refl)
+    (choose (ltb remade 8) _ _ (fails (OutputReserved remade) refl) pass)))
 
 certifies : (l : Ledger) (k signers : ℕ) → NotOne (certificate l k signers)
 unfolding certificate
-certifies l k signers = choose _ _ _ (choose _ _ _ pass (fails TooFewSigners refl)) (fails NotSigned refl)
+certifies l k signers =
+    choose (subsetOf signers (signersOf l k)) _ _
+    (choose (leb (thresholdOf (l .settings)) (ones signers)) _ _ pass (fails TooFewSigners refl))
+    (fails NotSigned refl)
 
 module _ (l : Ledger) (journal : List ℕ) (sane : isSane l ≡ true) where
   booked-or : (k : ℕ) → NotOne (cond (isBooked journal (l .booked) k) Pass (Fail NotBooked))
-  booked-or k = choose _ _ _ pass (fails NotBooked refl)
+  booked-or k = choose (isBooked journal (l .booked) k) _ _ pass (fails NotBooked refl)
 
   gate : (k : ℕ) → NotOne (bookedGate l journal k)
   unfolding bookedGate
@@ -96,7 +113,11 @@ module _ (l : Ledger) (journal : List ℕ) (sane : isSane l ≡ true) where
 
   vault-gate : (v k : ℕ) (faulty : Bool) → NotOne (vaultGate l journal v k faulty)
   unfolding vaultGate
-  vault-gate v k faulty = rw sane (choose _ _ _ (choose _ _ _ (booked-or k) (fails WrongVault refl)) (fails NoVault refl))
+  vault-gate v k faulty = 
+      rw sane
+      (choose (ltb v (l .settings .n)) _ _
+      (choose (Bool·beq (hasBit (l .settings .faulty) v) faulty) _ _ (booked-or k) (fails WrongVault refl))
+      (fails NoVault refl))
 
   settles : (v : Verdict) (r : Reply) → NotOne v → Fine (r .outcome) → Fine (settle v r l .outcome)
   settles Pass r p q = q
@@ -142,7 +163,8 @@ module _ (l : Ledger) (journal : List ℕ) (sane : isSane l ≡ true) where
 
   fine : (q : Request) → Fine (stepOf l journal q .outcome)
   unfolding proposeOf placeOf newPlace preflightOf commitOf commitChecks faultySignOf faultyAcknowledgeOf showOf generationsOf
-  fine (propose bytes) = rw sane (places (newPlace journal (l .booked) bytes) (examined bytes) (examines bytes) (new-place _ _ _))
+  fine (propose bytes) = rw sane (places (newPlace journal (l .booked) bytes) (examined bytes) (examines bytes) 
+      (new-place (ltb (equalIn journal (l .booked) bytes) (insideOf journal (l .booked))) (hasRoom journal (l .booked)) (equalIn journal (l .booked) bytes)))
   fine (preflight v k) = settles (vaultGate l journal v k false) (consulted l journal v k) (vault-gate v k false) (consults v k)
   fine (commit v k signers) =
       settles (andThen (vaultGate l journal v k false) (certificate l k signers)) (committed l v k)
