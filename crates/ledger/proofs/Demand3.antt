@@ -1,335 +1,151 @@
--- Demand 3, by an invariant over the changes that steps make. A job that arrives was signed by a quorum; so was every job that arrived
--- before, and two quorums share a correct vault, so the newcomer conflicts with none of them; its inputs were made by jobs that a correct
--- vault holds, and none of those has retired them. So the register takes it, and never stops.
+-- Demand 3: the invariant holds at the start, each step of any list keeps it, and it says all that the statement asks.
 -- Assumes nothing.
-use mathlib.Core.Bool.{Bool, _&&_, cond, false, true, true≢false}
-use mathlib.Core.List.{List, [], _++_, _∷_}
-use mathlib.Core.Logic.{inr, ⊎-elim}
+use mathlib.Core.Bool.{true, true≢false}
+use mathlib.Core.List.{List, [], _∷_}
+use mathlib.Core.Logic.{⊎-elim}
 use mathlib.Core.Path.{_∙_, _≡_, ap, refl, subst, sym}
-use Prim.Native.Nat.{_<_, _≤_, ℕ}
+use Prim.Native.Nat.{_<_, _^_, _≤_, suc, zero, ℕ}
 use native.Mathlib.Omega.{arith}
 use lib.Count.{ones}
-use lib.Dec.{eqb, ltb}
-use lib.ListN.{List·getD-append, getD, length}
-use lib.Seq.{length-take-le}
-use borrow.Author.Tests.{lt-ltb}
-use Rattle.base.proofs.Lists.{reflect-same}
-use Rattle.base.proofs.Members.{any-in, distinct-snoc, in-getD, in-last, in-left, in-map, in-none, in-snoc, pigeons, reflect-member}
-use Rattle.base.proofs.Reflect.{reflect-eq, refuted, refutes}
-use Rattle.base.specs.Lists.{Distinct, In, anyIn, sameList}
-use Rattle.base.specs.Reflect.{Reflects}
-use Rattle.outcome.specs.declared.Verdict.the-variants.{Pass}
-use Rattle.record.specs.Checks.{examined}
-use Rattle.record.specs.Codec.{jobOf, recordSize}
-use Rattle.record.specs.Tapes.{inputTapes, outputTapes}
-use Rattle.record.specs.declared.Entry.{Entry}
-use Rattle.record.specs.declared.Job.{Job}
-use Rattle.sets.proofs.Jobs.{job-without-other}
+use lib.ListN.{getD, replicate}
+use lib.Pow.{pow-pos}
+use Rattle.base.specs.Lists.{In}
+use Rattle.outcome.specs.Figures.{numberOf}
+use Rattle.outcome.specs.declared.Outcome.{Outcome}
+use Rattle.record.proofs.Numbers.{room}
+use Rattle.sets.proofs.Bits.{has-none}
+use Rattle.sets.proofs.Jobs.{has-no-jobs}
+use Rattle.sets.proofs.Quorum.{quorums-meet}
 use Rattle.sets.specs.Bits.{hasBit}
-use Rattle.sets.specs.Jobs.{jobWithout}
-use Rattle.ledger.proofs.Account.{Books, CanTake, books-enter, books-take, reflect-admissible}
-use Rattle.ledger.proofs.Changes.{Change, Idle, Shape, acknowledges, appends, changes, countersigns, holds, idle, nothing, signedBy, signs, tableOf, withLedger}
-use Rattle.ledger.proofs.Effects.{ack-acked, counter-ones, counter-recorded, hold-acked, hold-again, hold-booked, hold-first, hold-held, hold-recorded, hold-settings, hold-signed, hold-signers, shape-acknowledge, shape-book, shape-countersign, shape-hold, shape-sign, sign-held, sign-ones, sign-recorded, sign-signed}
-use Rattle.ledger.proofs.Lending.{records-length, records-snoc}
-use Rattle.ledger.proofs.Places.{examined-length}
-use Rattle.ledger.proofs.Safety.{Apart, Clear, Safe, certified-apart, certified-rooted, safe-acknowledge, safe-book, safe-countersign, safe-hold, safe-sign}
-use Rattle.ledger.proofs.Views.{Grown, ackedAt, heldAt, recordedAt, reflect-arrived, signedAt}
-use Rattle.ledger.specs.Demand3.{Correct, Held, recordsIn}
+use Rattle.sets.specs.Jobs.{jobHas, noJobs}
+use Rattle.sets.specs.declared.job_set.JobSet.{JobSet}
+use Rattle.ledger.proofs.Changes.{changes, shape-sane}
+use Rattle.ledger.proofs.Gates.{reflect-sane}
+use Rattle.ledger.proofs.Invariant.{Inv, held-by, keep}
+use Rattle.ledger.proofs.Refusals.{never-one}
+use Rattle.ledger.proofs.Views.{ackedAt, heldAt, recordedAt, signedAt}
+use Rattle.ledger.specs.Demand3.{Demand3, Holds, accessionedAlong, recordsIn, standingAlong}
 use Rattle.ledger.specs.Federation.{thresholdOf}
-use Rattle.ledger.specs.Graph.{Unblocked}
-use Rattle.ledger.specs.Register.{Register, entering, feed, feedAll, feedCommit, feedDone, feedProposal, isAdmissible, isDone, log, stopped, tabled, taking}
-use Rattle.ledger.specs.State.{acknowledged, arrived, booking, countersigned, holdersOf, signersOf, vaultAt, withVault}
-use Rattle.ledger.specs.Steps.{held}
-use Rattle.ledger.specs.Worlds.{Event, Request, World, after, afterAll, commit, faultyAcknowledge, faultySign, generations, preflight, propose, replyTo, show}
+use Rattle.ledger.specs.Meaning.{Lawful}
+use Rattle.ledger.specs.Register.{Register, feed, feedAll, isDone, log, newRegister, tabled}
+use Rattle.ledger.specs.State.{holdersOf, newLedger, signersOf, vaultAt}
+use Rattle.ledger.specs.Vaults.{newVault}
+use Rattle.ledger.specs.Worlds.{Event, World, after, afterAll, lent, outcomes, replyTo, start}
 use Rattle.ledger.specs.declared.Ledger.{Ledger}
-use Rattle.ledger.specs.declared.Settings.{Settings}
+use Rattle.ledger.specs.declared.Vault.{Vault}
 
-pub record Inv (w : World) (r : Register) : Type 0 where
-  pub shape : Shape (w .ledger) (w .booked)
-  pub safe : Safe (w .ledger .settings) (w .ledger .booked) (tabled (r .table)) (heldAt (w .ledger)) (signedAt (w .ledger)) (recordedAt (w .ledger)) (ackedAt (w .ledger)) (signersOf (w .ledger))
-  pub fit : (x : List ℕ) → In x (r .table) → examined x ≡ Pass
-  pub books : Books r
-  pub running : r .running ≡ true
-  pub table : r .table ≡ tableOf w
-  pub taken : r .taken ≡ arrived (w .ledger)
-  pub once : Distinct (r .taken)
-  pub taken-held : (k : ℕ) → In k (r .taken) → Held (w .ledger) k
-  pub held-taken : (v k : ℕ) → heldAt (w .ledger) v k ≡ true → In k (r .taken)
-
-pub table-length : {w : World} {r : Register} → Inv w r → length (r .table) ≡ w .ledger .booked
-table-length {w} i = ap length (i .table) ∙ records-length (w .ledger .booked) (w .booked)
-
--- ---- what is held stays held
-abbrev Keeps : Ledger → Ledger → Type 0
-Keeps l l′ = (v k : ℕ) → heldAt l v k ≡ true → heldAt l′ v k ≡ true
-
-still : (l l′ : Ledger) → l′ .settings ≡ l .settings → Keeps l l′ → (k : ℕ) → Held l k → Held l′ k
-unfolding heldAt
-still l l′ e h k x = record {
-  vault = x .vault;
-  by = record { correct = subst (λ (s : Settings). Correct s (x .vault)) (sym e) (x .by .correct); held = h (x .vault) k (x .by .held) };
-}
-
-held-by : (l : Ledger) (k : ℕ) → Held l k → (v : ℕ) × (heldAt l v k ≡ true)
-unfolding heldAt
-held-by l k x = (x .vault, x .by .held)
-
--- ---- the effects keep the invariant
-module _ {w : World} {r : Register} (i : Inv w r) where
-  abbrev l : Ledger
-  l = w .ledger
-
-  abbrev job : ℕ → Job
-  job = tabled (r .table)
-
-  in-vaults : (v : ℕ) → v < l .settings .n → v < length (l .vaults)
-  in-vaults v h = omega (arith, i .shape .vaults, i .shape .lawful .vaults)
-
-  is-vault : (v : ℕ) → v < l .settings .n → v < 16
-  is-vault v h = omega (arith, i .shape .lawful .vaults)
-
-  is-job : (k : ℕ) → k < l .booked → k < 128
-  is-job k h = omega (arith, i .shape .room)
-
-  -- ---- a correct vault signs
-  clear : (v k : ℕ) → Unblocked (tabled (tableOf w)) (l .booked) (vaultAt l v .held) (jobWithout (vaultAt l v .signed) k) (tabled (tableOf w) k)
-      → Clear job (heldAt l) (signedAt l) v k
-  unfolding heldAt signedAt
-  clear v k u = subst (λ (t : List (List ℕ)). Clear (tabled t) (heldAt l) (signedAt l) v k) (sym (i .table)) (record {
-    rooted = λ t m. let c = u .created t m in record { maker = c .which; holds = c .member; makes = c .makes };
-    apart = λ m s ne. record {
-      inputs = λ x a b. u .unmarked x a (record { which = m; below = below m s; member = job-without-other (vaultAt l v .signed) k m ne ∙ s; lists = b });
-      outputs = λ x a b. u .unmade x a (inr (record { which = m; below = below m s; member = job-without-other (vaultAt l v .signed) k m ne ∙ s; lists = b }));
-    };
-  })
-    where
-      below : (m : ℕ) → signedAt l v m ≡ true → m < l .booked
-      below m s = i .safe .booked-recorded v m (i .safe .backed v m s)
-
-  inv-sign : (v k : ℕ) → Correct (l .settings) v → k < l .booked → Clear job (heldAt l) (signedAt l) v k → Inv (withLedger w (signedBy l v k)) r
-  unfolding countersigned withVault ackedAt holdersOf
-  inv-sign v k c hk cl = record {
-    shape = shape-sign v k (i .shape) (c .below);
-    safe = subst (λ (h : ℕ → ℕ → Bool). Safe (l .settings) (l .booked) job h (signedAt (signedBy l v k)) (recordedAt (signedBy l v k)) (ackedAt l) (signersOf (signedBy l v k)))
-        (sym (sign-held l v k))
-        (safe-sign (i .safe) v k hk (sign-signed l v k (in-vaults v (c .below)) (is-job k hk))
-        (sign-recorded l v k (omega (arith, i .shape .signatures, is-job k hk)) (is-vault v (c .below))) (sign-ones l v k) cl);
-    fit = i .fit;
-    books = i .books;
-    running = i .running;
-    table = i .table;
-    taken = i .taken;
-    once = i .once;
-    taken-held = λ m x. still l (signedBy l v k) refl (λ u m t. ap (λ (f : ℕ → ℕ → Bool). f u m) (sign-held l v k) ∙ t) m (i .taken-held m x);
-    held-taken = λ u m t. i .held-taken u m (ap (λ (f : ℕ → ℕ → Bool). f u m) (sym (sign-held l v k)) ∙ t);
-  }
-
-  -- ---- faulty vaults
-  not-correct : (v : ℕ) → hasBit (l .settings .faulty) v ≡ true → Correct (l .settings) v → ⊥
-  not-correct v f c = true≢false (sym f ∙ c .sound)
-
-  inv-countersign : (v k : ℕ) → v < l .settings .n → hasBit (l .settings .faulty) v ≡ true → k < l .booked → Inv (withLedger w (countersigned l v k)) r
-  unfolding countersigned heldAt signedAt ackedAt holdersOf
-  inv-countersign v k hv f hk = record {
-    shape = shape-countersign v k (i .shape) hv;
-    safe = safe-countersign (i .safe) v k hk (not-correct v f) (counter-recorded l v k (omega (arith, i .shape .signatures, is-job k hk)) (is-vault v hv)) (counter-ones l v k);
-    fit = i .fit;
-    books = i .books;
-    running = i .running;
-    table = i .table;
-    taken = i .taken;
-    once = i .once;
-    taken-held = λ m x. still l (countersigned l v k) refl (λ u m t. t) m (i .taken-held m x);
-    held-taken = i .held-taken;
-  }
-
-  inv-acknowledge : (v k : ℕ) → v < l .settings .n → hasBit (l .settings .faulty) v ≡ true → k < l .booked → Inv (withLedger w (acknowledged l v k)) r
-  unfolding acknowledged heldAt signedAt recordedAt signersOf
-  inv-acknowledge v k hv f hk = record {
-    shape = shape-acknowledge v k (i .shape) hv;
-    safe = safe-acknowledge (i .safe) v k (not-correct v f) (ack-acked l v k (omega (arith, i .shape .acknowledgements, is-job k hk)) (is-vault v hv));
-    fit = i .fit;
-    books = i .books;
-    running = i .running;
-    table = i .table;
-    taken = i .taken;
-    once = i .once;
-    taken-held = λ m x. still l (acknowledged l v k) refl (λ u m t. t) m (i .taken-held m x);
-    held-taken = i .held-taken;
-  }
-
-  -- ---- a record is booked
-  inv-book : (bytes : List ℕ) → examined bytes ≡ Pass → l .booked < 128 → Inv (record { ledger = booking l; booked = w .booked ++ bytes }) (entering r bytes)
-  unfolding booking entering heldAt signedAt recordedAt ackedAt signersOf holdersOf
-  inv-book bytes e h =
-      let size : length bytes ≡ recordSize = examined-length bytes e in
-      record {
-        shape = shape-book bytes (i .shape) h size;
-        safe = safe-book (i .safe) (λ k b. ap jobOf (List·getD-append (r .table) (bytes ∷ []) [] k (omega (arith, table-length i))));
-        fit = λ x m. ⊎-elim (i .fit x) (λ (q : x ≡ bytes). rw q e) (in-snoc (r .table) bytes x m);
-        books = books-enter r bytes (i .books);
-        running = i .running;
-        table = ap (λ (t : List (List ℕ)). t ++ (bytes ∷ [])) (i .table) ∙ sym (records-snoc (l .booked) (w .booked) bytes (i .shape .records) size);
-        taken = i .taken;
-        once = i .once;
-        taken-held = λ m x. still l (booking l) refl (λ u m t. t) m (i .taken-held m x);
-        held-taken = i .held-taken;
-      }
-
-  -- ---- a certified job that has not arrived is admissible
-  is-recorded : (v k : ℕ) → hasBit (signersOf l k) v ≡ true → recordedAt l v k ≡ true
-  unfolding recordedAt
-  is-recorded v k t = t
-
-  quorum-of : (k : ℕ) → In k (r .taken) → thresholdOf (l .settings) ≤ ones (signersOf l k)
-  quorum-of k m = let h = held-by l k (i .taken-held k m) in i .safe .certified (h .0) k (h .1)
-
-  module _ (k : ℕ) (hk : k < l .booked) (quorum : thresholdOf (l .settings) ≤ ones (signersOf l k)) (new : In k (r .taken) → ⊥) where
-    apart : (m : ℕ) → In m (r .taken) → Apart (job m) (job k)
-    apart m x =
-        certified-apart (i .safe) (i .shape .lawful) (i .shape .signers-below) is-recorded m k (quorum-of m x) quorum
-        (λ (e : m ≡ k). new (subst (λ (z : ℕ). In z (r .taken)) e x))
-
-    pub can-take : CanTake r (getD (r .table) k [])
-    can-take = record {
-      fits = i .fit (getD (r .table) k []) (in-getD (r .table) [] k (omega (arith, table-length i)));
-      standing = λ t m.
-          let q = certified-rooted (i .safe) (i .shape .lawful) (i .shape .signers-below) is-recorded k quorum t m in
-          let p = q .1 .1 in
-          i .books .stands (p .maker) t (i .held-taken (q .0) (p .maker) (p .holds)) (p .makes)
-          (λ n x y. apart n x .inputs (t .label) y (in-map (λ (t : Entry). t .label) (inputTapes (job k)) t m));
-      new = λ t m x.
-          let q = i .books .made-by (t .label) x in
-          apart (q .0) (q .1 .0) .outputs (t .label) (q .1 .1) (in-map (λ (t : Entry). t .label) (outputTapes (job k)) t m);
-    }
-
-    -- and there is room for it in the order
-    space : l .arrivals < 128
-    space =
-        let below : (m : ℕ) → In m (k ∷ r .taken) → m < l .booked = λ (m : ℕ) (x : In m (k ∷ r .taken)).
-        ⊎-elim (λ (e : m ≡ k). rw e hk) (λ (y : In m (r .taken)). omega (arith, i .books .known m y, table-length i)) x in
-        omega (
-          arith,
-          pigeons (l .booked) (k ∷ r .taken) (new, i .once) below,
-          ap length (i .taken),
-          length-take-le (l .arrivals) (l .order) (omega (arith, i .shape .order, i .shape .arrivals)),
-          i .shape .room,
-        )
-
-  -- ---- a correct vault holds a certified job
-  module _ (v k : ℕ) (c : Correct (l .settings) v) (hk : k < l .booked) (quorum : thresholdOf (l .settings) ≤ ones (signersOf l k)) where
-    abbrev next : Ledger
-    next = held l v k
-
-    grown : Grown (heldAt l) (heldAt next) v k
-    grown = hold-held l v k (in-vaults v (c .below)) (is-job k hk)
-
-    safe-next : Safe (next .settings) (next .booked) job (heldAt next) (signedAt next) (recordedAt next) (ackedAt next) (signersOf next)
-    safe-next =
-        subst (λ (s : Settings). Safe s (next .booked) job (heldAt next) (signedAt next) (recordedAt next) (ackedAt next) (signersOf next)) (sym (hold-settings l v k))
-        (subst (λ (n : ℕ). Safe (l .settings) n job (heldAt next) (signedAt next) (recordedAt next) (ackedAt next) (signersOf next)) (sym (hold-booked l v k))
-        (subst (λ (f : ℕ → ℕ → Bool). Safe (l .settings) (l .booked) job (heldAt next) f (recordedAt next) (ackedAt next) (signersOf next)) (sym (hold-signed l v k))
-        (subst (λ (f : ℕ → ℕ → Bool). Safe (l .settings) (l .booked) job (heldAt next) (signedAt l) f (ackedAt next) (signersOf next)) (sym (hold-recorded l v k))
-        (subst (λ (f : ℕ → ℕ). Safe (l .settings) (l .booked) job (heldAt next) (signedAt l) (recordedAt l) (ackedAt next) f) (sym (hold-signers l v k))
-        (safe-hold (i .safe) v k hk quorum grown (hold-acked l v k (omega (arith, i .shape .acknowledgements, is-job k hk)) (is-vault v (c .below))))))))
-
-    table-next : r .table ≡ tableOf (withLedger w next)
-    table-next = i .table ∙ ap (λ (n : ℕ). recordsIn n (w .booked)) (sym (hold-booked l v k))
-
-    still-held : (m : ℕ) → Held l m → Held next m
-    still-held = still l next (hold-settings l v k) (grown .old)
-
-    now-held : Held next k
-    unfolding heldAt
-    now-held = record { vault = v; by = record { correct = subst (λ (s : Settings). Correct s v) (sym (hold-settings l v k)) c; held = grown .new } }
-
-    order-long : l .arrivals ≤ length (l .order)
-    order-long = omega (arith, i .shape .arrivals, i .shape .order)
-
-    inv-again : In k (r .taken) → Inv (withLedger w next) r
-    inv-again m = record {
-      shape = shape-hold v k (i .shape) (c .below);
-      safe = safe-next;
-      fit = i .fit;
-      books = i .books;
-      running = i .running;
-      table = table-next;
-      taken = i .taken ∙ sym (hold-again l v k (reflect-arrived l k order-long .complete (subst (λ (x : List ℕ). In k x) (i .taken) m)));
-      once = i .once;
-      taken-held = λ n x. still-held n (i .taken-held n x);
-      held-taken = λ u n t. ⊎-elim (i .held-taken u n) (λ e. rw (e .1) m) (grown .cases u n t);
-    }
-
-    inv-first : (In k (r .taken) → ⊥) → Inv (withLedger w next) (taking r k)
-    unfolding taking
-    inv-first new = record {
-      shape = shape-hold v k (i .shape) (c .below);
-      safe = safe-next;
-      fit = i .fit;
-      books = books-take r k (i .books) (omega (arith, table-length i)) (can-take k hk quorum new);
-      running = i .running;
-      table = table-next;
-      taken = ap (λ (t : List ℕ). t ++ (k ∷ [])) (i .taken)
-          ∙ sym (hold-first l v k (refutes (reflect-arrived l k order-long) (λ m. new (subst (λ (x : List ℕ). In k x) (sym (i .taken)) m))) (space k hk quorum new) (omega (arith, space k hk quorum new, i .shape .order)));
-      once = distinct-snoc (r .taken) k (i .once) new;
-      taken-held = λ n x. ⊎-elim (λ (m : In n (r .taken)). still-held n (i .taken-held n m)) (λ (e : n ≡ k). subst (λ (z : ℕ). Held next z) (sym e) now-held) (in-snoc (r .taken) k n x);
-      held-taken = λ u n t. ⊎-elim
-          (λ (o : heldAt l u n ≡ true). in-left (r .taken) (k ∷ []) n (i .held-taken u n o))
-          (λ e. subst (λ (z : ℕ). In z (r .taken ++ (k ∷ []))) (sym (e .1)) (in-last (r .taken) k))
-          (grown .cases u n t);
-    }
-
-    inv-hold : Inv (withLedger w next) (feedCommit r k)
-    unfolding feedCommit
-    inv-hold = by (anyIn (eqb k) (r .taken)) refl
-      where
-        taken? : Reflects (anyIn (eqb k) (r .taken)) (In k (r .taken))
-        taken? = reflect-member k (r .taken) (reflect-eq k)
-
-        by : (b : Bool) → anyIn (eqb k) (r .taken) ≡ b
-            → Inv (withLedger w next) (cond b r (cond (ltb k (length (r .table)) && isAdmissible r (getD (r .table) k [])) (taking r k) (stopped r)))
-        by true e = inv-again (taken? .sound e)
-        by false e =
-            let new : In k (r .taken) → ⊥ = refuted taken? e in
-            simp (lt-ltb k (length (r .table)) (omega (arith, table-length i)), reflect-admissible r (getD (r .table) k []) .complete (can-take k hk quorum new)) (inv-first new)
-
-  -- ---- a request answered 0 that changes nothing
-  inv-idle : (q : Request) → Idle w q → Inv w (feedDone r q)
-  unfolding feedProposal feedCommit heldAt
-  inv-idle (propose bytes) m =
-      simp (any-in (λ x. sameList x bytes) (r .table) bytes (subst (λ (t : List (List ℕ)). In bytes t) (sym (i .table)) m) (reflect-same bytes bytes .complete refl)) i
-  inv-idle (preflight v k) m = i
-  inv-idle (commit v k signers) m =
-      simp (reflect-member k (r .taken) (reflect-eq k) .complete (i .held-taken v k (m .held))) i
-  inv-idle (faultySign v k) m = absurd m
-  inv-idle (faultyAcknowledge v k) m = absurd m
-  inv-idle (show k) m = i
-  inv-idle (generations k) m = i
-
-  -- a record that is not in the table enters it
-  feeds-new : (bytes : List ℕ) → (In bytes (tableOf w) → ⊥) → feedProposal r bytes ≡ entering r bytes
-  unfolding feedProposal
-  feeds-new bytes n =
-      simp (in-none (λ x. sameList x bytes) (r .table)
-      (λ x m. refutes (reflect-same x bytes) (λ (e : x ≡ bytes). n (subst (λ (t : List (List ℕ)). In bytes t) (i .table) (subst (λ (z : List ℕ). In z (r .table)) e m)))))
-
-  -- an answered request is fed to the running register
-  fed : (q : Request) (w′ : World) → Inv w′ (feedDone r q) → Inv w′ (feed r q true)
-  fed q w′ h = simp (i .running) h
-
--- ---- every step keeps it
-pub keep : (w : World) (r : Register) → Inv w r → (q : Request) (done : Bool) (w′ : World) → Change w q done w′ → Inv w′ (feed r q done)
-keep w r i q done w′ (nothing p) = i
-keep w r i q done w′ (idle p m) = fed i q w (inv-idle i q m)
-keep w r i q done w′ (appends bytes e h n) =
-    fed i q w′ (subst (λ (x : Register). Inv w′ x) (sym (feeds-new i bytes n)) (inv-book i bytes e h))
-keep w r i q done w′ (signs v k c h u) = fed i q w′ (inv-sign i v k c h (clear i v k u))
-keep w r i q done w′ (countersigns v k h f b) = fed i q w′ (inv-countersign i v k h f b)
-keep w r i q done w′ (acknowledges v k h f b) = fed i q w′ (inv-acknowledge i v k h f b)
-keep w r i q done w′ (holds v k signers c h e) = fed i q w′ (inv-hold i v k c h e)
+pub kept : (w : World) (r : Register) → Inv w r → (e : Event) → Inv (after w e) (feed r (e .request) (isDone (replyTo w e .outcome)))
+kept w r i e = keep w r i (e .request) (isDone (replyTo w e .outcome)) (after w e) (changes w (i .shape) e)
 
 pub along : (es : List Event) (w : World) (r : Register) → Inv w r → Inv (afterAll w es) (feedAll r (log w es))
 along [] w r i = i
-along (e ∷ es) w r i =
-    along es (after w e) (feed r (e .request) (isDone (replyTo w e .outcome)))
-    (keep w r i (e .request) (isDone (replyTo w e .outcome)) (after w e) (changes w (i .shape) e))
+along (e ∷ es) w r i = along es (after w e) (feed r (e .request) (isDone (replyTo w e .outcome))) (kept w r i e)
+
+-- ---- at first nothing is held, signed, recorded or acknowledged
+filled : {A : Type 0} (n i : ℕ) (a : A) → getD (replicate n a) i a ≡ a
+filled zero i a = refl
+filled (suc n) zero a = refl
+filled (suc n) (suc i) a = filled n i a
+
+module _ (n b faulty : ℕ) where
+  abbrev empty : Ledger
+  empty = newLedger n b faulty
+
+  no-jobs : (f : Vault → JobSet) → f newVault ≡ noJobs → (v k : ℕ) → jobHas (f (vaultAt empty v)) k ≡ true → ⊥
+  unfolding newLedger noJobs
+  no-jobs f e v k t = true≢false (sym t ∙ (ap (λ (x : Vault). jobHas (f x) k) (filled 16 v newVault) ∙ (ap (λ (s : JobSet). jobHas s k) e ∙ has-no-jobs k)))
+
+  no-vaults : (v k : ℕ) → hasBit (getD (replicate 128 0) k 0) v ≡ true → ⊥
+  no-vaults v k t = true≢false (sym t ∙ (ap (λ (s : ℕ). hasBit s v) (filled 128 k 0) ∙ has-none v))
+
+  none-below : (k : ℕ) → getD (replicate 128 0) k 0 < 2 ^ n
+  none-below k = rw (filled {A = ℕ} 128 k 0) (pow-pos n)
+
+  first : Lawful (record { n = n; b = b; faulty = faulty }) → Inv (start n b faulty) newRegister
+  unfolding start newLedger heldAt signedAt recordedAt ackedAt signersOf holdersOf noJobs recordsIn
+  first lawful = record {
+    shape = record {
+      lawful = lawful;
+      vaults = refl;
+      signatures = refl;
+      acknowledgements = refl;
+      order = refl;
+      arrivals = omega arith;
+      records = refl;
+      room = omega arith;
+      signers-below = none-below;
+      holders-below = none-below;
+    };
+    safe = record {
+      booked-held = λ v k t. absurd (no-jobs (λ x. x .held) refl v k t);
+      booked-recorded = λ v k t. absurd (no-vaults v k t);
+      backed = λ v k t. absurd (no-jobs (λ x. x .signed) refl v k t);
+      backs = λ v k c t. absurd (no-vaults v k t);
+      apart = λ v i k t u ne. absurd (no-jobs (λ x. x .signed) refl v i t);
+      rooted = λ v k c t x m. absurd (no-vaults v k t);
+      certified = λ v k t. absurd (no-jobs (λ x. x .held) refl v k t);
+      honest = λ v k c t. absurd (no-vaults v k t);
+    };
+    fit = λ x m. absurd m;
+    books = record {
+      known = λ k m. absurd m;
+      stands = λ k t m. absurd m;
+      stands-by = λ t m. absurd m;
+      made-by = λ x m. absurd m;
+      made-all = λ k x m. absurd m;
+      makers-once = λ i k x m. absurd m;
+      creators = λ k m. absurd m;
+      once = tt;
+      along = refl;
+      mints = refl;
+      frames = refl;
+    };
+    running = refl;
+    table = refl;
+    taken = refl;
+    once = tt;
+    taken-held = λ k m. absurd m;
+    held-taken = λ v k t. absurd (no-jobs (λ x. x .held) refl v k t);
+  }
+
+-- ---- what the invariant says
+module _ {w : World} {r : Register} (i : Inv w r) where
+  -- a quorum of acknowledgements has a correct vault in it, which holds the job; so the job is certified
+  finished-certified : (k : ℕ) → thresholdOf (w .ledger .settings) ≤ ones (holdersOf (w .ledger) k) → thresholdOf (w .ledger .settings) ≤ ones (signersOf (w .ledger) k)
+  unfolding thresholdOf ackedAt
+  finished-certified k a =
+      let lawful = i .shape .lawful in
+      let m = quorums-meet (w .ledger .settings .n) (w .ledger .settings .b) (holdersOf (w .ledger) k) (holdersOf (w .ledger) k) (w .ledger .settings .faulty) (lawful .few)
+      (i .shape .holders-below k) (i .shape .holders-below k) (lawful .below) a a (lawful .bound) in
+      i .safe .certified (m .vault) k (i .safe .honest (m .vault) k (record { below = m .below; sound = m .correct }) (m .in-first))
+
+  pub inv-holds : Holds w r
+  inv-holds = record {
+    running = i .running;
+    taken = i .taken;
+    taken-held = i .taken-held;
+    held-taken = λ k h. let q = held-by (w .ledger) k h in i .held-taken (q .0) k (q .1);
+    table = i .table;
+    known = i .books .known;
+    once = i .once;
+    standing = subst (λ (ks : List ℕ). r .standing ≡ standingAlong (tabled (r .table)) ks) (i .taken) (i .books .along);
+    accessioned = subst (λ (ks : List ℕ). r .accessioned ≡ accessionedAlong (tabled (r .table)) ks) (i .taken) (i .books .mints);
+    frames = i .books .frames;
+    creators = i .books .creators;
+    certified = finished-certified;
+  }
+
+-- no step of a list is answered 1
+pub never-ones : (es : List Event) (w : World) (r : Register) → Inv w r → (o : Outcome) → In o (outcomes w es) → numberOf o ≡ 1 → ⊥
+never-ones [] w r i o m = absurd m
+never-ones (e ∷ es) w r i o m =
+    ⊎-elim
+    (λ (q : o ≡ replyTo w e .outcome). λ (x : numberOf o ≡ 1). never-one (w .ledger) (lent w e) (reflect-sane (w .ledger) .complete (shape-sane (i .shape))) (e .request) (ap numberOf (sym q) ∙ x))
+    (λ (n : In o (outcomes (after w e) es)). never-ones es (after w e) (feed r (e .request) (isDone (replyTo w e .outcome))) (kept w r i e) o n)
+    m
+
+-- ---- demand 3
+pub demand3 : Demand3
+demand3 n b faulty lawful es =
+    let i : Inv (start n b faulty) newRegister = first n b faulty lawful in
+    (inv-holds (along es (start n b faulty) newRegister i), never-ones es (start n b faulty) newRegister i)

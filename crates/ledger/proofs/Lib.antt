@@ -3,6 +3,7 @@ pub mod Changes
 pub mod Demand3
 pub mod Effects
 pub mod Gates
+pub mod Invariant
 pub mod Lending
 pub mod Meaning
 pub mod Paper
