@@ -21,10 +21,11 @@ use Rattle.sets.specs.Jobs.{jobHas, noJobs}
 use Rattle.sets.specs.declared.job_set.JobSet.{JobSet}
 use Rattle.ledger.proofs.Changes.{changes, shape-sane}
 use Rattle.ledger.proofs.Gates.{reflect-sane}
-use Rattle.ledger.proofs.Invariant.{Inv, held-by, keep}
+use Rattle.ledger.proofs.Invariant.{Inv, held-by, is-recorded, keep}
 use Rattle.ledger.proofs.Refusals.{never-one}
+use Rattle.ledger.proofs.Safety.{certified-apart}
 use Rattle.ledger.proofs.Views.{ackedAt, heldAt, recordedAt, signedAt}
-use Rattle.ledger.specs.Demand3.{Demand3, Holds, accessionedAlong, recordsIn, standingAlong}
+use Rattle.ledger.specs.Demand3.{Apart, Demand3, Disjoint, Held, Holds, accessionedAlong, recordsIn, standingAlong}
 use Rattle.ledger.specs.Federation.{thresholdOf}
 use Rattle.ledger.specs.Meaning.{Lawful}
 use Rattle.ledger.specs.Register.{Register, feed, feedAll, isDone, log, newRegister, tabled}
@@ -102,6 +103,7 @@ module _ (n b faulty : ℕ) where
     };
     running = refl;
     table = refl;
+    unique = tt;
     taken = refl;
     once = tt;
     taken-held = λ k m. absurd m;
@@ -119,6 +121,9 @@ module _ {w : World} {r : Register} (i : Inv w r) where
       (i .shape .holders-below k) (i .shape .holders-below k) (lawful .below) a a (lawful .bound) in
       i .safe .certified (m .vault) k (i .safe .honest (m .vault) k (record { below = m .below; sound = m .correct }) (m .in-first))
 
+  quorum : (k : ℕ) → Held (w .ledger) k → thresholdOf (w .ledger .settings) ≤ ones (signersOf (w .ledger) k)
+  quorum k h = let q = held-by (w .ledger) k h in i .safe .certified (q .0) k (q .1)
+
   pub inv-holds : Holds w r
   inv-holds = record {
     running = i .running;
@@ -126,6 +131,7 @@ module _ {w : World} {r : Register} (i : Inv w r) where
     taken-held = i .taken-held;
     held-taken = λ k h. let q = held-by (w .ledger) k h in i .held-taken (q .0) k (q .1);
     table = i .table;
+    records-once = i .unique;
     known = i .books .known;
     once = i .once;
     standing = subst (λ (ks : List ℕ). r .standing ≡ standingAlong (tabled (r .table)) ks) (i .taken) (i .books .along);
@@ -149,3 +155,12 @@ pub demand3 : Demand3
 demand3 n b faulty lawful es =
     let i : Inv (start n b faulty) newRegister = first n b faulty lawful in
     (inv-holds (along es (start n b faulty) newRegister i), never-ones es (start n b faulty) newRegister i)
+
+-- two jobs that correct vaults hold were each signed by a quorum, and a correct vault signed both
+pub disjoint : Disjoint
+disjoint n b faulty lawful es k m hk hm ne =
+    let i = along es (start n b faulty) newRegister (first n b faulty lawful) in
+    let w = afterAll (start n b faulty) es in
+    let r = feedAll newRegister (log (start n b faulty) es) in
+    subst (λ (t : List (List ℕ)). Apart (tabled t k) (tabled t m)) (i .table)
+    (certified-apart (i .safe) (i .shape .lawful) (i .shape .signers-below) (is-recorded i) k m (quorum i k hk) (quorum i m hm) ne)

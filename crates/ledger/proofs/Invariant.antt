@@ -32,9 +32,9 @@ use Rattle.ledger.proofs.Changes.{Change, Idle, Shape, acknowledges, ap
 use Rattle.ledger.proofs.Effects.{ack-acked, counter-ones, counter-recorded, hold-acked, hold-again, hold-booked, hold-first, hold-held, hold-recorded, hold-settings, hold-signed, hold-signers, shape-acknowledge, shape-book, shape-countersign, shape-hold, shape-sign, sign-held, sign-ones, sign-recorded, sign-signed}
 use Rattle.ledger.proofs.Lending.{records-length, records-snoc}
 use Rattle.ledger.proofs.Places.{examined-length}
-use Rattle.ledger.proofs.Safety.{Apart, Clear, Safe, certified-apart, certified-rooted, safe-acknowledge, safe-book, safe-countersign, safe-hold, safe-sign}
+use Rattle.ledger.proofs.Safety.{Clear, Safe, certified-apart, certified-rooted, safe-acknowledge, safe-book, safe-countersign, safe-hold, safe-sign}
 use Rattle.ledger.proofs.Views.{Grown, ackedAt, heldAt, recordedAt, reflect-arrived, signedAt}
-use Rattle.ledger.specs.Demand3.{Correct, Held, recordsIn}
+use Rattle.ledger.specs.Demand3.{Apart, Correct, Held, recordsIn}
 use Rattle.ledger.specs.Federation.{thresholdOf}
 use Rattle.ledger.specs.Graph.{Unblocked}
 use Rattle.ledger.specs.Register.{Register, entering, feed, feedCommit, feedDone, feedProposal, isAdmissible, stopped, tabled, taking}
@@ -51,6 +51,7 @@ pub record Inv (w : World) (r : Register) : Type 0 where
   pub books : Books r
   pub running : r .running ≡ true
   pub table : r .table ≡ tableOf w
+  pub unique : Distinct (r .table)
   pub taken : r .taken ≡ arrived (w .ledger)
   pub once : Distinct (r .taken)
   pub taken-held : (k : ℕ) → In k (r .taken) → Held (w .ledger) k
@@ -118,6 +119,7 @@ module _ {w : World} {r : Register} (i : Inv w r) where
     books = i .books;
     running = i .running;
     table = i .table;
+    unique = i .unique;
     taken = i .taken;
     once = i .once;
     taken-held = λ m x. still l (signedBy l v k) refl (λ u m t. ap (λ (f : ℕ → ℕ → Bool). f u m) (sign-held l v k) ∙ t) m (i .taken-held m x);
@@ -137,6 +139,7 @@ module _ {w : World} {r : Register} (i : Inv w r) where
     books = i .books;
     running = i .running;
     table = i .table;
+    unique = i .unique;
     taken = i .taken;
     once = i .once;
     taken-held = λ m x. still l (countersigned l v k) refl (λ u m t. t) m (i .taken-held m x);
@@ -152,6 +155,7 @@ module _ {w : World} {r : Register} (i : Inv w r) where
     books = i .books;
     running = i .running;
     table = i .table;
+    unique = i .unique;
     taken = i .taken;
     once = i .once;
     taken-held = λ m x. still l (acknowledged l v k) refl (λ u m t. t) m (i .taken-held m x);
@@ -159,9 +163,10 @@ module _ {w : World} {r : Register} (i : Inv w r) where
   }
 
   -- ---- a record is booked
-  inv-book : (bytes : List ℕ) → examined bytes ≡ Pass → l .booked < 128 → Inv (record { ledger = booking l; booked = w .booked ++ bytes }) (entering r bytes)
+  inv-book : (bytes : List ℕ) → examined bytes ≡ Pass → l .booked < 128 → (In bytes (tableOf w) → ⊥)
+      → Inv (record { ledger = booking l; booked = w .booked ++ bytes }) (entering r bytes)
   unfolding booking entering heldAt signedAt recordedAt ackedAt signersOf holdersOf
-  inv-book bytes e h =
+  inv-book bytes e h n =
       let size : length bytes ≡ recordSize = examined-length bytes e in
       record {
         shape = shape-book bytes (i .shape) h size;
@@ -170,6 +175,7 @@ module _ {w : World} {r : Register} (i : Inv w r) where
         books = books-enter r bytes (i .books);
         running = i .running;
         table = ap (λ (t : List (List ℕ)). t ++ (bytes ∷ [])) (i .table) ∙ sym (records-snoc (l .booked) (w .booked) bytes (i .shape .records) size);
+        unique = distinct-snoc (r .table) bytes (i .unique) (λ m. n (subst (λ (t : List (List ℕ)). In bytes t) (i .table) m));
         taken = i .taken;
         once = i .once;
         taken-held = λ m x. still l (booking l) refl (λ u m t. t) m (i .taken-held m x);
@@ -177,7 +183,7 @@ module _ {w : World} {r : Register} (i : Inv w r) where
       }
 
   -- ---- a certified job that has not arrived is admissible
-  is-recorded : (v k : ℕ) → hasBit (signersOf l k) v ≡ true → recordedAt l v k ≡ true
+  pub is-recorded : (v k : ℕ) → hasBit (signersOf l k) v ≡ true → recordedAt l v k ≡ true
   unfolding recordedAt
   is-recorded v k t = t
 
@@ -254,6 +260,7 @@ module _ {w : World} {r : Register} (i : Inv w r) where
       books = i .books;
       running = i .running;
       table = table-next;
+      unique = i .unique;
       taken = i .taken ∙ sym (hold-again l v k (reflect-arrived l k order-long .complete (subst (λ (x : List ℕ). In k x) (i .taken) m)));
       once = i .once;
       taken-held = λ n x. still-held n (i .taken-held n x);
@@ -269,6 +276,7 @@ module _ {w : World} {r : Register} (i : Inv w r) where
       books = books-take r k (i .books) (omega (arith, table-length i)) (can-take k hk quorum new);
       running = i .running;
       table = table-next;
+      unique = i .unique;
       taken = ap (λ (t : List ℕ). t ++ (k ∷ [])) (i .taken)
           ∙ sym (hold-first l v k (refutes (reflect-arrived l k order-long) (λ m. new (subst (λ (x : List ℕ). In k x) (sym (i .taken)) m))) (space k hk quorum new) (omega (arith, space k hk quorum new, i .shape .order)));
       once = distinct-snoc (r .taken) k (i .once) new;
@@ -322,7 +330,7 @@ pub keep : (w : World) (r : Register) → Inv w r → (q : Request) (done : Bool
 keep w r i q done w′ (nothing p) = i
 keep w r i q done w′ (idle p m) = fed i q w (inv-idle i q m)
 keep w r i q done w′ (appends bytes e h n) =
-    fed i q w′ (subst (λ (x : Register). Inv w′ x) (sym (feeds-new i bytes n)) (inv-book i bytes e h))
+    fed i q w′ (subst (λ (x : Register). Inv w′ x) (sym (feeds-new i bytes n)) (inv-book i bytes e h n))
 keep w r i q done w′ (signs v k c h u) = fed i q w′ (inv-sign i v k c h (clear i v k u))
 keep w r i q done w′ (countersigns v k h f b) = fed i q w′ (inv-countersign i v k h f b)
 keep w r i q done w′ (acknowledges v k h f b) = fed i q w′ (inv-acknowledge i v k h f b)

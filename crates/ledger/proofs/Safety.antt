@@ -10,22 +10,17 @@ use native.Mathlib.Nat.{le-trans}
 use native.Mathlib.Omega.{arith}
 use lib.Count.{ones}
 use Rattle.base.specs.Lists.{In}
-use Rattle.record.specs.Tapes.{inputTapes, labels, outputTapes}
+use Rattle.record.specs.Tapes.{inputTapes, outputTapes}
 use Rattle.record.specs.declared.Entry.{Entry}
 use Rattle.record.specs.declared.Job.{Job}
 use Rattle.sets.proofs.Quorum.{quorums-meet}
 use Rattle.sets.specs.Bits.{hasBit}
 use Rattle.ledger.proofs.Views.{Grown}
-use Rattle.ledger.specs.Demand3.{Correct}
+use Rattle.ledger.specs.Demand3.{Apart, Correct}
 use Rattle.ledger.specs.Federation.{thresholdOf}
 use Rattle.ledger.specs.Meaning.{Lawful}
 use Rattle.ledger.specs.Steps.{held}
 use Rattle.ledger.specs.declared.Settings.{Settings}
-
--- no input label in common, and no output label in common
-pub record Apart (a c : Job) : Type 0 where
-  pub inputs : (x : ℕ) → In x (labels (inputTapes a)) → In x (labels (inputTapes c)) → ⊥
-  pub outputs : (x : ℕ) → In x (labels (outputTapes a)) → In x (labels (outputTapes c)) → ⊥
 
 pub apart-sym : {a c : Job} → Apart a c → Apart c a
 apart-sym h = record { inputs = λ x m n. h .inputs x n m; outputs = λ x m n. h .outputs x n m }

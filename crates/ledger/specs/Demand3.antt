@@ -3,6 +3,7 @@
 -- lawful.
 use mathlib.Core.Bool.{false, not, true}
 use mathlib.Core.List.{List, [], _++_, _∷_}
+use mathlib.Core.Logic.{_≢_}
 use mathlib.Core.Path.{_≡_}
 use Prim.Native.Nat.{_<_, _≤_, suc, zero, ℕ}
 use lib.Count.{ones}
@@ -83,6 +84,7 @@ pub record Holds (w : World) (r : Register) : Type 0 where
   pub taken-held : (k : ℕ) → In k (r .taken) → Held (w .ledger) k
   pub held-taken : (k : ℕ) → Held (w .ledger) k → In k (r .taken)
   pub table : r .table ≡ recordsIn (w .ledger .booked) (w .booked)
+  pub records-once : Distinct (r .table)
   pub known : (k : ℕ) → In k (r .taken) → k < length (r .table)
   -- "each job counted once"
   pub once : Distinct (r .taken)
@@ -101,3 +103,21 @@ Demand3 =
     (n b faulty : ℕ) → Lawful (record { n = n; b = b; faulty = faulty }) → (es : List Event)
     → Holds (afterAll (start n b faulty) es) (feedAll newRegister (log (start n b faulty) es))
     × ((o : Outcome) → In o (outcomes (start n b faulty) es) → numberOf o ≡ 1 → ⊥)
+
+-- ---- for readers
+
+-- no input label in common, and no output label in common
+pub record Apart (a c : Job) : Type 0 where
+  pub inputs : (x : ℕ) → In x (labels (inputTapes a)) → In x (labels (inputTapes c)) → ⊥
+  pub outputs : (x : ℕ) → In x (labels (outputTapes a)) → In x (labels (outputTapes c)) → ⊥
+
+-- the job booked under a number
+abbrev pub bookedJob : World → ℕ → Job
+bookedJob w k = tabled (recordsIn (w .ledger .booked) (w .booked)) k
+
+-- no two jobs that correct vaults hold, be it different vaults, retire the same label or make the same label
+abbrev pub Disjoint : Type 0
+Disjoint =
+    (n b faulty : ℕ) → Lawful (record { n = n; b = b; faulty = faulty }) → (es : List Event)
+    → (i k : ℕ) → Held (afterAll (start n b faulty) es .ledger) i → Held (afterAll (start n b faulty) es .ledger) k → i ≢ k
+    → Apart (bookedJob (afterAll (start n b faulty) es) i) (bookedJob (afterAll (start n b faulty) es) k)
