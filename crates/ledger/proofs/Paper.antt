@@ -1,6 +1,5 @@
--- Preflight and commit are the paper's Algorithms 1 and 2 with document 01's mends: checks 11 to 14 of a job that passes 6 to 9
--- pass exactly where Algorithm 1 signs, and checks 15 and 16 exactly where Algorithm 2's signature is valid. The entries are
--- read as the lists of tapes that the paper's In and Out are.
+-- Checks 11 to 14 are what the paper's Algorithm 1 asks, with document 01's mends: of a job that passes 6 to 9 they pass exactly where
+-- it signs. The entries are read as the lists of tapes that the paper's In and Out are.
 -- Assumes nothing.
 use mathlib.Core.List.{List, _++_}
 use mathlib.Core.Logic.{_⊎_, inl, inr, ⊎-elim}

@@ -3,6 +3,7 @@ pub mod Demand3
 pub mod Federation
 pub mod Generations
 pub mod Graph
+pub mod Growth
 pub mod Journal
 pub mod Meaning
 pub mod Register

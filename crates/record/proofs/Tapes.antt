@@ -166,6 +166,8 @@ accessionFrames j = cond (eqb (j .kind) 0) (framesIn (outputTapes j)) 0
 pub record Sound (j : Job) : Type 0 where
   pub distinct : Distinct (labels (inputTapes j ++ outputTapes j))
   pub balance : framesIn (inputTapes j) + accessionFrames j ≡ framesIn (outputTapes j)
+  -- some tape is made
+  pub made : In (getD (j .entries) 4 noEntry) (outputTapes j)
 
 no-inputs : (j : Job) → j .inputs ≡ 0 → inputTapes j ≡ []
 unfolding usedFrom isUsed
@@ -181,6 +183,7 @@ answered-sound : (j : Job) (v : Verdict) → v ≡ Pass → Answer j v → Sound
 answered-sound j v e (passes f r u b) = record {
   distinct = subst (λ (l : List Entry). Distinct (labels l)) (used-append j 0 4 4) (distinct-from j r 0 8 (le-refl 8));
   balance = balanced-by j (f .inputs) b;
+  made = at-used j 4 4 4 (le-refl 4) (omega arith) (reflect-used j 4 .complete (inr (le-refl 4, f .outputs .0)));
 }
 answered-sound j v e (malformed f) = let z : _≡_ {A = ℕ} 0 1 = cc in absurd (omega arith)
 answered-sound j v e (repeated i f r) = let z : _≡_ {A = ℕ} 0 1 = cc in absurd (omega arith)
