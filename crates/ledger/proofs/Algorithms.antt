@@ -76,8 +76,8 @@ module _ (l : Ledger) (journal : List ℕ) (v k : ℕ) (in-place : Entered l jou
   -- a job that is held but was not signed is refused: a held job made its outputs, namely it itself
   pub held-refused : checkOf (jobs k) ≡ Pass → jobHas (vault .held) k ≡ true → jobHas (vault .signed) k ≡ false → isDone (preflightOf l journal v k .outcome) ≡ false
   held-refused h m s = not-true-false _ (λ e.
-    let made = in-map (λ (t : Entry). t .label) (outputTapes (jobs k)) _ (checked-sound (jobs k) h .made) in
-    signs-algorithm h s e .admissible .fresh _ made (record { which = k; below = in-place .known .below; member = m; lists = made }))
+      let made = in-map (λ (t : Entry). t .label) (outputTapes (jobs k)) _ (checked-sound (jobs k) h .made) in
+      signs-algorithm h s e .admissible .fresh _ made (record { which = k; below = in-place .known .below; member = m; lists = made }))
 
   -- commit: checks 15 and 16 pass exactly where Algorithm 2's signature is valid
   pub certificate-valid : (signers : ℕ) → signers < 2 ^ 16 → Reflects (passes (certificate l k signers)) (Certificate l k signers)

@@ -1,8 +1,10 @@
 pub mod Account
+pub mod Ages
 pub mod Algorithms
 pub mod Changes
 pub mod Demand3
 pub mod Effects
+pub mod Example
 pub mod Gates
 pub mod Growth
 pub mod Invariant

@@ -113,7 +113,7 @@ module _ (l : Ledger) (journal : List ℕ) (sane : isSane l ≡ true) where
 
   vault-gate : (v k : ℕ) (faulty : Bool) → NotOne (vaultGate l journal v k faulty)
   unfolding vaultGate
-  vault-gate v k faulty = 
+  vault-gate v k faulty =
       rw sane
       (choose (ltb v (l .settings .n)) _ _
       (choose (Bool·beq (hasBit (l .settings .faulty) v) faulty) _ _ (booked-or k) (fails WrongVault refl))
@@ -163,7 +163,7 @@ module _ (l : Ledger) (journal : List ℕ) (sane : isSane l ≡ true) where
 
   fine : (q : Request) → Fine (stepOf l journal q .outcome)
   unfolding proposeOf placeOf newPlace preflightOf commitOf commitChecks faultySignOf faultyAcknowledgeOf showOf generationsOf
-  fine (propose bytes) = rw sane (places (newPlace journal (l .booked) bytes) (examined bytes) (examines bytes) 
+  fine (propose bytes) = rw sane (places (newPlace journal (l .booked) bytes) (examined bytes) (examines bytes)
       (new-place (ltb (equalIn journal (l .booked) bytes) (insideOf journal (l .booked))) (hasRoom journal (l .booked)) (equalIn journal (l .booked) bytes)))
   fine (preflight v k) = settles (vaultGate l journal v k false) (consulted l journal v k) (vault-gate v k false) (consults v k)
   fine (commit v k signers) =

@@ -6,6 +6,7 @@ pub mod Graph
 pub mod Growth
 pub mod Journal
 pub mod Meaning
+pub mod Memo
 pub mod Register
 pub mod State
 pub mod Steps

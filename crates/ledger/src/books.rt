@@ -182,7 +182,7 @@ impl Ledger {
         next
     }
 
-    fn is_arrival(self, job: u8, i: usize) -> bool
+    pub(crate) fn is_arrival(self, job: u8, i: usize) -> bool
         requires { ⌜ i < 128 ⌝ }
         ensures { λ r. ⌜ r ≡ isArrival self job i ⌝ }
     {

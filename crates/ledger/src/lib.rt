@@ -6,6 +6,7 @@ mod books;
 mod commit;
 mod faulty;
 mod federation;
+mod generations;
 mod journal;
 mod preflight;
 mod propose;

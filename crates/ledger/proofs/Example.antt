@@ -1,0 +1,100 @@
+-- Document 01's whole run ("One run whole") through the functions that demand 3 is about, and the register beside it: computed from its
+-- real bytes. The label VAA001L5 reads as the number 3840498665277964630.
+-- Assumes nothing.
+use mathlib.Core.Bool.{true}
+use mathlib.Core.List.{List, [], _++_, _∷_}
+use mathlib.Core.Path.{_≡_, refl}
+use Prim.Native.Nat.{ℕ}
+use lib.Count.{ones, onesIn}
+use lib.ListN.{replicate}
+use Rattle.base.specs.Lists.{sameList}
+use Rattle.base.specs.Search.{allBelow, anyBelow, firstBelow, sumFrom}
+use Rattle.outcome.specs.declared.Outcome.the-variants.{Done, Refused}
+use Rattle.outcome.specs.declared.Refusal.the-variants.{NotCreated, NotSigned, Settings, TooFewSigners}
+use Rattle.record.specs.Checks.{balanced, checkOf, countsFormed, entryFormed, examined, hasLabelOf, inputsFormed, isBlank, isFilled, isWritten, repeatedAt, unsupportedAt, wellFormed}
+use Rattle.record.specs.Codec.{entriesAt, entryAt, jobOf, leAt}
+use Rattle.record.specs.Conflicts.{isLabelAt, isTapeAt, labelIn, makesTape}
+use Rattle.record.specs.Drives.{isDrive, supports}
+use Rattle.record.specs.Entries.{framesOf, isUsed, labelOf, usedFrames}
+use Rattle.record.specs.Labels.{charAt, isAlphanumeric, isBetween, isLabel, mediumOf}
+use Rattle.record.specs.Tapes.{sameTape, usedFrom}
+use Rattle.sets.specs.Bits.{hasBit, subsetOf, withBit, withMember, withoutBit}
+use Rattle.sets.specs.Jobs.{jobHas, jobWith, jobWithout}
+use Rattle.ledger.specs.Admission.{admission, consumedAt, listedBy, listsAt, madeBefore, madeBy, makesAt, notCreatedAt, remadeAt}
+use Rattle.ledger.specs.Federation.{isLawful, thresholdOf}
+use Rattle.ledger.specs.Generations.{ageOf, createdAt, creatorOf, generationAt, generationFrom, generationsBefore, generationsOf, highest, holdsAt, isHeld, positionOf}
+use Rattle.ledger.specs.Journal.{equalAt, equalIn, hasRoom, insideOf, isBooked, jobAt, putAt, recordAt, slotAt}
+use Rattle.ledger.specs.Register.{entering, feedAll, feedCommit, feedProposal, isAdmissible, log, newRegister, stopped, taking}
+use Rattle.ledger.specs.State.{acknowledged, arriving, booking, countersigned, hasArrived, holdersOf, isArrival, isSane, newLedger, signersOf, withVault}
+use Rattle.ledger.specs.Steps.{bookedGate, certificate, commitChecks, commitOf, committed, consulted, faultyAcknowledgeOf, faultySignOf, held, journalAfter, newOf, newPlace, placeOf, preflightOf, proposeOf, showOf, statusOf, vaultGate}
+use Rattle.ledger.specs.Vaults.{admissionAt, holding, signing, vaultPreflight}
+use Rattle.ledger.specs.Worlds.{Event, Request, after, commit, faultySign, generations, lend, outcomes, overlay, preflight, propose, show, start}
+
+-- an unused entry, and the used ones of the two records
+abbrev pub blank : List ℕ
+blank = replicate 12 0
+
+abbrev pub first-tape : List ℕ
+first-tape = 86 ∷ 65 ∷ 65 ∷ 48 ∷ 48 ∷ 49 ∷ 76 ∷ 53 ∷ 232 ∷ 3 ∷ 0 ∷ 0 ∷ []
+
+abbrev pub second-tape : List ℕ
+second-tape = 86 ∷ 65 ∷ 66 ∷ 48 ∷ 48 ∷ 49 ∷ 76 ∷ 55 ∷ 232 ∷ 3 ∷ 0 ∷ 0 ∷ []
+
+abbrev pub accession : List ℕ
+accession = (0 ∷ 7 ∷ 0 ∷ 1 ∷ []) ++ blank ++ blank ++ blank ++ blank ++ first-tape ++ blank ++ blank ++ blank
+
+abbrev pub migration : List ℕ
+migration = (1 ∷ 7 ∷ 1 ∷ 1 ∷ []) ++ first-tape ++ blank ++ blank ++ blank ++ second-tape ++ blank ++ blank ++ blank
+
+-- each step is lent 300 bytes, and all that are not booked are 7
+abbrev pub lending : Request → Event
+lending request = record { request = request; size = 300; beyond = replicate 300 7 }
+
+abbrev pub run : List Event
+run =
+    lending (propose accession)
+    ∷ lending (propose migration)
+    ∷ lending (preflight 0 1)
+    ∷ lending (preflight 0 0)
+    ∷ lending (preflight 1 0)
+    ∷ lending (faultySign 3 0)
+    ∷ lending (commit 0 0 3)
+    ∷ lending (commit 0 0 11)
+    ∷ lending (commit 2 0 15)
+    ∷ lending (show 0)
+    ∷ lending (preflight 0 1)
+    ∷ lending (generations 0)
+    ∷ []
+
+-- what each step is answered; the register took job 0 alone, and runs
+pub whole-run :
+    (outcomes (start 4 1 8) run
+    ≡ Done 0 ∷ Done 1 ∷ Refused (NotCreated 0) ∷ Done 1 ∷ Done 2 ∷ Done 3 ∷ Refused TooFewSigners ∷ Done 1 ∷ Refused NotSigned ∷ Done 1 ∷ Done 1 ∷ Done 0 ∷ [])
+    × (feedAll newRegister (log (start 4 1 8) run)
+    ≡ record {
+      running = true;
+      table = accession ∷ migration ∷ [];
+      taken = 0 ∷ [];
+      standing = record { label = 3840498665277964630; frames = 1000 } ∷ [];
+      made = 3840498665277964630 ∷ [];
+      accessioned = 1000;
+    })
+unfolding sameList anyBelow allBelow firstBelow sumFrom hasBit withBit withMember withoutBit subsetOf jobHas jobWith jobWithout inputsFormed countsFormed isFilled isBlank entryFormed wellFormed hasLabelOf repeatedAt isWritten unsupportedAt balanced checkOf examined leAt entryAt entriesAt jobOf isLabelAt labelIn isTapeAt makesTape isDrive supports labelOf framesOf isUsed usedFrames isBetween charAt isAlphanumeric mediumOf isLabel usedFrom sameTape makesAt madeBy listsAt listedBy notCreatedAt consumedAt madeBefore remadeAt admission isLawful thresholdOf highest createdAt creatorOf generationFrom generationsBefore generationAt holdsAt isHeld positionOf ageOf generationsOf slotAt isBooked recordAt jobAt insideOf equalAt equalIn hasRoom putAt isAdmissible taking stopped entering feedProposal feedCommit signersOf holdersOf isArrival hasArrived isSane newLedger booking countersigned acknowledged withVault arriving bookedGate vaultGate newPlace placeOf proposeOf journalAfter consulted preflightOf certificate held committed commitChecks commitOf faultySignOf faultyAcknowledgeOf statusOf showOf signing holding admissionAt vaultPreflight lend overlay after start ones onesIn
+whole-run = (refl, refl)
+
+-- ---- near each edge: C1, C2, C3 and C10
+pub c1 : newOf 3 1 0 .outcome ≡ Refused Settings
+unfolding newOf isLawful newLedger ones thresholdOf
+c1 = refl
+
+pub c2 : newOf 4 1 0 .outcome ≡ Done 3
+unfolding newOf isLawful newLedger ones thresholdOf
+c2 = refl
+
+pub c3 : newOf 6 1 0 .outcome ≡ Done 5
+unfolding newOf isLawful newLedger ones thresholdOf
+c3 = refl
+
+pub c10 : ones 11 ≡ 3
+unfolding ones
+c10 = refl
