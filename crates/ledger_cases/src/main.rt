@@ -1,0 +1,22 @@
+// Runs sequences of steps over the ledger and prints a line for each step: its name and arguments, and the two figures of
+// the answer. Document 01 decides what they must be; `stdout` holds them.
+mod checks;
+mod jobs;
+mod lent;
+mod ranges;
+mod run;
+mod settings;
+mod tell;
+mod votes;
+
+fn main() {
+    run::run();
+    settings::settings();
+    settings::unlawful();
+    lent::lent();
+    lent::unbooked_equal();
+    lent::full();
+    ranges::ranges();
+    checks::checks();
+    votes::votes();
+}

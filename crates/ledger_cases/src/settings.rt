@@ -1,0 +1,55 @@
+// Settings that document 01 allows and settings that it refuses.
+use crate::jobs;
+use crate::tell;
+use ledger::Ledger;
+
+fn set(name: &[u8], n: u8, b: u8, faulty: u16) {
+    let outcome = Ledger::new(n, b, faulty).outcome;
+    tell::step(name, outcome);
+}
+
+fn allowed() {
+    set(b"new.4.1.8", 4, 1, 8);
+    set(b"new.4.1.0", 4, 1, 0);
+    set(b"new.4.0.0", 4, 0, 0);
+    set(b"new.6.1.0", 6, 1, 0);
+    set(b"new.1.0.0", 1, 0, 0);
+    set(b"new.16.5.0", 16, 5, 0);
+    set(b"new.16.5.63488", 16, 5, 63488);
+}
+
+fn refused() {
+    set(b"new.3.1.0", 3, 1, 0);
+    set(b"new.0.0.0", 0, 0, 0);
+    set(b"new.1.0.1", 1, 0, 1);
+    set(b"new.4.1.16", 4, 1, 16);
+    set(b"new.4.1.3", 4, 1, 3);
+    set(b"new.4.1.12", 4, 1, 12);
+    set(b"new.4.1.32768", 4, 1, 32768);
+    set(b"new.16.6.0", 16, 6, 0);
+    set(b"new.16.5.63", 16, 5, 63);
+    set(b"new.17.5.0", 17, 5, 0);
+    set(b"new.16.86.0", 16, 86, 0);
+    set(b"new.255.84.0", 255, 84, 0);
+    set(b"new.255.85.65535", 255, 85, 65535);
+}
+
+pub fn settings() {
+    tell::heading(b"settings");
+    allowed();
+    refused();
+}
+
+// Every step on a ledger with refused settings.
+pub fn unlawful() {
+    tell::heading(b"unlawful");
+    let mut journal = [0u8; 200];
+    let new = Ledger::new(3, 1, 0).ledger;
+    let l = tell::propose(new, &mut journal, b"master", jobs::master());
+    let l = tell::preflight(l, &journal, 0, 0);
+    let l = tell::commit(l, &journal, 0, 0, 3);
+    let l = tell::sign(l, &journal, 0, 0);
+    let l = tell::acknowledge(l, &journal, 0, 0);
+    tell::show(l, &journal, 0);
+    tell::lookup(l, &journal, 0);
+}
