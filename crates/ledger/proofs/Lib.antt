@@ -15,4 +15,5 @@ pub mod Places
 pub mod Refusals
 pub mod Safety
 pub mod Slots
+pub mod Unchanged
 pub mod Views

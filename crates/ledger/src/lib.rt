@@ -1,6 +1,6 @@
 // The custody ledger: the vaults' sets of jobs, the recorded signatures and acknowledgements, and one operation for each
 // kind of step. Every operation takes any arguments and any journal; its promise is one equation with a definition of
-// specs/Steps.antt, refused steps included.
+// specs/Steps.antt or specs/Generations.antt, refused steps included.
 mod admission;
 mod books;
 mod commit;

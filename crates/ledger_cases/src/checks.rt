@@ -134,7 +134,7 @@ fn rounds(l: Ledger, journal: &[u8; 12800]) {
     unsigned(l, journal);
 }
 
-pub fn checks() {
+pub(crate) fn checks() {
     let mut journal = [0u8; 12800];
     tell::heading(b"checks");
     let l = first_jobs(Ledger::new(4, 1, 8).ledger, &mut journal);

@@ -77,7 +77,7 @@ fn third(l: Ledger, journal: &[u8; 12900]) {
     tell::lookup(l, part(journal, 299), 0);
 }
 
-pub fn lent() {
+pub(crate) fn lent() {
     let mut journal = [0u8; 12900];
     tell::heading(b"two booked");
     let new = Ledger::new(4, 1, 8).ledger;
@@ -91,7 +91,7 @@ pub fn lent() {
 }
 
 // The journal starts with the record's bytes, and nothing is booked.
-pub fn unbooked_equal() {
+pub(crate) fn unbooked_equal() {
     let mut journal = [0u8; 200];
     tell::heading(b"unbooked equal");
     record::write(jobs::copy(), &mut journal);
@@ -140,7 +140,7 @@ fn booked(l: Ledger, journal: &[u8; 13000]) {
     tell::lookup(l, journal, 128);
 }
 
-pub fn full() {
+pub(crate) fn full() {
     let mut journal = [255u8; 13000];
     tell::heading(b"full");
     let new = Ledger::new(1, 0, 0).ledger;

@@ -1,5 +1,6 @@
 // Runs sequences of steps over the ledger and prints a line for each step: its name and arguments, and the two figures of
 // the answer. Document 01 decides what they must be; `stdout` holds them.
+mod ages;
 mod checks;
 mod jobs;
 mod lent;
@@ -19,4 +20,5 @@ fn main() {
     ranges::ranges();
     checks::checks();
     votes::votes();
+    ages::ages();
 }

@@ -117,7 +117,7 @@ fn unfit(l: Ledger, journal: &mut [u8; 200]) -> Ledger {
     tell::propose(l, journal, b"fit", jobs::migration(a, b))
 }
 
-pub fn ranges() {
+pub(crate) fn ranges() {
     let mut journal = [0u8; 200];
     tell::heading(b"ranges");
     let new = Ledger::new(4, 1, 8).ledger;

@@ -1,4 +1,4 @@
-// Document 01's run, but for its last step: the lines are the document's.
+// Document 01's run: the lines are the document's.
 use crate::jobs;
 use crate::tell;
 use ledger::Ledger;
@@ -20,10 +20,11 @@ fn after(l: Ledger, journal: &[u8]) {
     let l = tell::told(b"8", l.commit(journal, 0, 0, 11));
     let l = tell::told(b"9", l.commit(journal, 2, 0, 15));
     tell::step(b"10", l.show(journal, 0));
-    tell::told(b"11", l.preflight(journal, 0, 1));
+    let l = tell::told(b"11", l.preflight(journal, 0, 1));
+    tell::step(b"12", l.generations(journal, 0));
 }
 
-pub fn run() {
+pub(crate) fn run() {
     let mut journal = [170u8; 12800];
     let l = booked(&mut journal);
     after(l, &journal);

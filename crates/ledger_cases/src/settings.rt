@@ -34,14 +34,14 @@ fn refused() {
     set(b"new.255.85.65535", 255, 85, 65535);
 }
 
-pub fn settings() {
+pub(crate) fn settings() {
     tell::heading(b"settings");
     allowed();
     refused();
 }
 
 // Every step on a ledger with refused settings.
-pub fn unlawful() {
+pub(crate) fn unlawful() {
     tell::heading(b"unlawful");
     let mut journal = [0u8; 200];
     let new = Ledger::new(3, 1, 0).ledger;

@@ -19,20 +19,20 @@ fn argument(x: u64) {
 }
 
 // A line: the name, and the figures of the answer.
-pub fn step(name: &[u8], outcome: Outcome) {
+pub(crate) fn step(name: &[u8], outcome: Outcome) {
     io::write_all(STDOUT_FILENO, name);
     figures(outcome.number() as u64, outcome.value() as u64);
 }
 
 // The line of a step, and the ledger that it left.
-pub fn told(name: &[u8], reply: Reply) -> Ledger {
+pub(crate) fn told(name: &[u8], reply: Reply) -> Ledger {
     let outcome = reply.outcome;
     step(name, outcome);
     reply.ledger
 }
 
 // Starts the lines of a sequence.
-pub fn heading(name: &[u8]) {
+pub(crate) fn heading(name: &[u8]) {
     io::write_all(STDOUT_FILENO, name);
     io::write_all(STDOUT_FILENO, b":\n");
 }
@@ -44,7 +44,7 @@ fn named(name: &[u8], vault: u8, job: u8) {
     argument(job as u64);
 }
 
-pub fn propose(l: Ledger, journal: &mut [u8], name: &[u8], job: Job) -> Ledger {
+pub(crate) fn propose(l: Ledger, journal: &mut [u8], name: &[u8], job: Job) -> Ledger {
     let mut bytes = [0u8; 100];
     record::write(job, &mut bytes);
     let reply = l.propose(journal, &bytes);
@@ -52,35 +52,41 @@ pub fn propose(l: Ledger, journal: &mut [u8], name: &[u8], job: Job) -> Ledger {
     told(name, reply)
 }
 
-pub fn preflight(l: Ledger, journal: &[u8], vault: u8, job: u8) -> Ledger {
+pub(crate) fn preflight(l: Ledger, journal: &[u8], vault: u8, job: u8) -> Ledger {
     named(b"preflight", vault, job);
     told(b"", l.preflight(journal, vault, job))
 }
 
-pub fn commit(l: Ledger, journal: &[u8], vault: u8, job: u8, signers: u16) -> Ledger {
+pub(crate) fn commit(l: Ledger, journal: &[u8], vault: u8, job: u8, signers: u16) -> Ledger {
     named(b"commit", vault, job);
     argument(signers as u64);
     told(b"", l.commit(journal, vault, job, signers))
 }
 
-pub fn sign(l: Ledger, journal: &[u8], vault: u8, job: u8) -> Ledger {
+pub(crate) fn sign(l: Ledger, journal: &[u8], vault: u8, job: u8) -> Ledger {
     named(b"faulty-sign", vault, job);
     told(b"", l.faulty_sign(journal, vault, job))
 }
 
-pub fn acknowledge(l: Ledger, journal: &[u8], vault: u8, job: u8) -> Ledger {
+pub(crate) fn acknowledge(l: Ledger, journal: &[u8], vault: u8, job: u8) -> Ledger {
     named(b"faulty-acknowledge", vault, job);
     told(b"", l.faulty_acknowledge(journal, vault, job))
 }
 
-pub fn show(l: Ledger, journal: &[u8], job: u8) {
+pub(crate) fn show(l: Ledger, journal: &[u8], job: u8) {
     io::write_all(STDOUT_FILENO, b"show");
     argument(job as u64);
     step(b"", l.show(journal, job));
 }
 
+pub(crate) fn generations(l: Ledger, journal: &[u8], job: u8) {
+    io::write_all(STDOUT_FILENO, b"generations");
+    argument(job as u64);
+    step(b"", l.generations(journal, job));
+}
+
 // The length of the part shown, and the frames of its first output.
-pub fn lookup(l: Ledger, journal: &[u8], job: u8) {
+pub(crate) fn lookup(l: Ledger, journal: &[u8], job: u8) {
     io::write_all(STDOUT_FILENO, b"lookup");
     argument(job as u64);
     let part = l.lookup(journal, job);

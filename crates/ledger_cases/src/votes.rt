@@ -60,7 +60,7 @@ fn sixteen(l: Ledger, journal: &[u8; 200]) {
     round(l, journal, 65535);
 }
 
-pub fn votes() {
+pub(crate) fn votes() {
     let mut journal = [0u8; 200];
     tell::heading(b"four vaults");
     let new = Ledger::new(4, 1, 8).ledger;
