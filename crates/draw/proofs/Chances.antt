@@ -1,0 +1,48 @@
+-- What the draw computes with stays within its types where the settings are lawful: there is a quorum, no more of them are without the
+-- absent vaults than there are, and a share is at most a thousand thousandths.
+-- Assumes nothing.
+use mathlib.Core.Bool.{Bool, false, true}
+use mathlib.Core.Path.{_≡_, refl, subst}
+use Prim.Native.Nat.{_*_, _+_, _-_, _<_, _≤_, ℕ}
+use native.Mathlib.Nat.{mul-le-mul-right}
+use native.Mathlib.Omega.{arith}
+use lib.Dec.{leb}
+use borrow.Author.Tests.{leb-false, leb-true}
+use Rattle.ledger.proofs.Gates.{reflect-lawful}
+use Rattle.ledger.specs.Federation.{isLawful, thresholdOf}
+use Rattle.ledger.specs.Meaning.{Lawful}
+use Rattle.ledger.specs.declared.Settings.{Settings}
+use Rattle.draw.proofs.Quotients.{choose-bound, choose-grows, choose-positive}
+use Rattle.draw.proofs.Rounding.{nearest}
+use Rattle.draw.specs.Binomials.{choose}
+use Rattle.draw.specs.Draw.{thousandths}
+
+pub share-most : (part whole : ℕ) → 0 < whole → part ≤ whole → thousandths part whole ≤ 1000
+share-most part whole h l = by (leb 1001 (thousandths part whole)) refl
+  where
+    by : (b : Bool) → leb 1001 (thousandths part whole) ≡ b → thousandths part whole ≤ 1000
+    by true e = absurd (omega (arith, h, l, nearest part whole h .not-above, mul-le-mul-right (2 * whole) (leb-true 1001 (thousandths part whole) e)))
+    by false e = omega (arith, leb-false 1001 (thousandths part whole) e)
+
+module _ (s : Settings) (u : ℕ) (e : isLawful s ≡ true) (l : u ≤ s .n) where
+  lawful : Lawful s
+  lawful = reflect-lawful s .sound e
+
+  pub small : s .n ≤ 16
+  small = lawful .vaults
+
+  within : thresholdOf s ≤ s .n
+  unfolding thresholdOf
+  within = omega arith
+
+  pub some-quorum : 0 < choose (s .n) (thresholdOf s)
+  some-quorum = choose-positive (s .n) (thresholdOf s) within
+
+  pub quorums-fit : choose (s .n) (thresholdOf s) ≤ 20922789888000
+  quorums-fit = choose-bound (s .n) (thresholdOf s) small
+
+  pub fewer-quorums : choose (s .n - u) (thresholdOf s) ≤ choose (s .n) (thresholdOf s)
+  fewer-quorums =
+      let back : u + (s .n - u) ≡ s .n = omega (arith, l) in
+      subst (λ (n : ℕ). choose (s .n - u) (thresholdOf s) ≤ choose n (thresholdOf s)) back
+      (choose-grows u (s .n - u) (thresholdOf s) (omega (arith, l, small)) (omega (arith, within, small)))

@@ -1,0 +1,35 @@
+-- The thousandths are the nearest, a half going up.
+-- Assumes nothing.
+use mathlib.Core.Path.{_≡_, refl}
+use Prim.Native.Nat.{_*_, _+_, _<_, ℕ}
+use native.Mathlib.Nat.{div-add-mod', mod-lt}
+use native.Mathlib.Omega.{arith}
+use lib.Count.{ones}
+use Rattle.ledger.specs.Federation.{isLawful, thresholdOf}
+use Rattle.ledger.specs.declared.Settings.{Settings}
+use Rattle.outcome.specs.declared.Outcome.the-variants.{Done, Refused}
+use Rattle.outcome.specs.declared.Refusal.the-variants.{TooManyAbsent}
+use Rattle.draw.specs.Binomials.{choose, factorial}
+use Rattle.draw.specs.Draw.{Nearest, drawOf, failing, thousandths}
+
+pub nearest : (part whole : ℕ) → 0 < whole → Nearest part whole (thousandths part whole)
+unfolding thousandths
+nearest part whole h =
+    let d : 0 < 2 * whole = omega (arith, h) in
+    let e = div-add-mod' (2000 * part + whole) (2 * whole) in
+    let m = mod-lt (2000 * part + whole) d in
+    record { not-above = omega (arith, e); not-below = omega (arith, e, m) }
+
+-- ---- worked values: C8 and C9, every quorum failing, and refusal 17
+abbrev four : Settings
+four = record { n = 4; b = 1; faulty = 0 }
+
+pub worked : (drawOf four 0 ≡ Done 0) × (drawOf four 1 ≡ Done 750) × (drawOf four 2 ≡ Done 1000)
+    × (drawOf (record { n = 16; b = 3; faulty = 0 }) 1 ≡ Done 813) × (drawOf four 5 ≡ Refused TooManyAbsent)
+unfolding drawOf failing thousandths choose factorial isLawful thresholdOf ones
+worked = (refl, refl, refl, refl, refl)
+
+-- a half goes up
+pub half-up : thousandths 1 2000 ≡ 1
+unfolding thousandths
+half-up = refl
