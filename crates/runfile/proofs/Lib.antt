@@ -1,2 +1,4 @@
+pub mod History
 pub mod Turns
+pub mod Unknown
 pub mod Writing

@@ -8,9 +8,10 @@ use Prim.Native.Nat.{_+_, _<_, _≤_, ℕ}
 use native.Mathlib.Decide.{le-ind}
 use native.Mathlib.Numerals.{add-one}
 use native.Mathlib.Omega.{arith}
-use lib.Dec.{leb}
+use lib.Dec.{leb, ltb}
 use lib.ListN.{getD, length}
-use borrow.Author.Tests.{le-leb, leb-true, lt-leb, ne-eqb}
+use borrow.Author.Tests.{le-leb, le-ltb, leb-true, lt-leb, lt-ltb}
+use Rattle.base.proofs.Reflect.{and-true}
 use Rattle.ledger.specs.Federation.{isLawful}
 use Rattle.ledger.specs.State.{newLedger}
 use Rattle.ledger.specs.Steps.{answered, newOf, refused}
@@ -18,8 +19,8 @@ use Rattle.ledger.specs.declared.Ledger.{Ledger}
 use Rattle.ledger.specs.declared.Reply.{Reply}
 use Rattle.outcome.specs.declared.Refusal.the-variants.{Settings as BadSettings}
 use Rattle.outcome.specs.Figures.{numberOf, valueOf}
-use Rattle.runfile.specs.Run.{Run, after, cutShort, ended, going, isHeader, opened, opens, runText, turn}
-use Rattle.runfile.specs.Steps.{bodySize, bookAfter, stepAt, wordAt}
+use Rattle.runfile.specs.Run.{Run, after, carriedOut, cutShort, ended, going, isHeader, isReadable, opened, opens, runText, turn}
+use Rattle.runfile.specs.Steps.{bodySize, commandAt, journalBy, replyOf, wordAt}
 use Rattle.runfile.specs.Text.{lineOf}
 
 still : (input : List ℕ) (r : Run) → ended input r ≡ true → (k : ℕ) → turn input k r ≡ r
@@ -40,10 +41,6 @@ none-false : (a b : Bool) → b ≡ false → (a && b) ≡ false
 none-false true b e = e
 none-false false b e = refl
 
-first-true : (a b : Bool) → (a && b) ≡ true → a ≡ true
-first-true true b e = refl
-first-true false b e = e
-
 pub too-long : (input : List ℕ) → 65536 < length input → runText input ≡ lineOf 0 1 0
 unfolding opens
 too-long input h = refused-run input (simp (lt-leb (length input) 65536 h))
@@ -62,7 +59,7 @@ opens-when input h e f = simp (le-leb (length input) 65536 h, e, f)
 
 pub header-long : (input : List ℕ) → isHeader input ≡ true → 9 ≤ length input
 unfolding isHeader
-header-long input e = leb-true 9 (length input) (first-true (leb 9 (length input)) _ e)
+header-long input e = leb-true 9 (length input) (and-true (leb 9 (length input)) _ e .0)
 
 -- the new ledger has the header's settings, lawful or not
 pub new-opened : (input : List ℕ) (w : ℕ) → w ≡ wordAt input 7 → (r : Reply) → r ≡ newOf (getD input 5 0) (getD input 6 0) w → r .ledger ≡ opened input
@@ -93,17 +90,17 @@ module _ (input : List ℕ) (k pos : ℕ) (ledger : Ledger) (journal text : List
     ends g h = let e = after-next _ h in whole input (k + 1) open· (omega arith) (simp e) ∙ simp e
 
     pub unknown : k < length input → n ≡ 0 → runText input ≡ text ++ lineOf (k + 1) 2 0
-    unfolding turn ended
+    unfolding turn ended isReadable
     unknown g z = ends g (simp (lt-leb _ _ left, ← size, z))
 
     pub short : k < length input → (n ≡ 0 → ⊥) → length input ≤ pos + n → runText input ≡ text ++ lineOf (k + 1) 2 0
-    unfolding turn ended
-    short g z s = ends g (simp (lt-leb _ _ left, ← size, ne-eqb _ _ z, le-leb _ _ s))
+    unfolding turn ended isReadable
+    short g z s = ends g (simp (lt-leb _ _ left, ← size, none-false (ltb 0 n) _ (le-ltb _ _ s)))
 
     pub next : (n ≡ 0 → ⊥) → pos + n < length input
-        → (r : Reply) → r ≡ stepAt (getD input pos 0) ledger journal input (pos + 1)
-        → (j : List ℕ) → j ≡ bookAfter (getD input pos 0) ledger journal input (pos + 1)
+        → (r : Reply) → r ≡ replyOf ledger journal (commandAt (getD input pos 0) input (pos + 1))
+        → (j : List ℕ) → j ≡ journalBy ledger journal (commandAt (getD input pos 0) input (pos + 1))
         → (a b : ℕ) → a ≡ numberOf (r .outcome) → b ≡ valueOf (r .outcome)
         → after input (k + 1) ≡ going (pos + n + 1) (r .ledger) j (text ++ lineOf (k + 1) a b)
-    unfolding turn ended
-    next z l r e j f a b p q = after-next _ (simp (lt-leb _ _ left, ← size, ne-eqb _ _ z, lt-leb _ _ l, ← e, ← f, p, q))
+    unfolding turn ended isReadable carriedOut
+    next z l r e j f a b p q = after-next _ (simp (lt-leb _ _ left, ← size, lt-ltb 0 n (omega (arith, z)), lt-ltb _ _ l, ← e, ← f, p, q))

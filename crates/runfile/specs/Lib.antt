@@ -1,3 +1,4 @@
+pub mod History
 pub mod Run
 pub mod Steps
 pub mod Text

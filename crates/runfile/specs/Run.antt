@@ -4,12 +4,11 @@ use mathlib.Core.List.{List, [], _++_}
 use Prim.Native.Nat.{_+_, suc, zero, ℕ}
 use lib.Dec.{eqb, leb, ltb}
 use lib.ListN.{getD, length, replicate}
-use Rattle.outcome.specs.Figures.{numberOf, valueOf}
 use Rattle.ledger.specs.Federation.{isLawful}
 use Rattle.ledger.specs.State.{newLedger}
 use Rattle.ledger.specs.declared.Ledger.{Ledger}
-use Rattle.runfile.specs.Steps.{bodySize, bookAfter, stepAt, wordAt}
-use Rattle.runfile.specs.Text.{lineOf}
+use Rattle.runfile.specs.Steps.{Command, bodySize, commandAt, journalBy, replyOf, wordAt}
+use Rattle.runfile.specs.Text.{lineFor, lineOf}
 
 -- "reads standard input, at most 65,536 bytes"
 abbrev pub longest : ℕ
@@ -28,7 +27,7 @@ isHeader input =
 unfoldable pub opened : List ℕ → Ledger
 opened input = newLedger (getD input 5 0) (getD input 6 0) (wordAt input 7)
 
--- check 1 passes: "header or settings wrong, or file too long"
+-- a run begins, unless check 1 turns the input back: "header or settings wrong, or file too long"
 unfoldable pub opens : List ℕ → Bool
 opens input = leb (length input) longest && (isHeader input && isLawful (opened input .settings))
 
@@ -51,17 +50,23 @@ cutShort r k = record { pos = r .pos; ledger = r .ledger; journal = r .journal; 
 unfoldable pub ended : List ℕ → Run → Bool
 ended input r = cond (r .over) true (leb (length input) (r .pos))
 
--- the step after k others, of a run that has not ended
+-- the next step can be read: its kind is known and its body is all there
+unfoldable pub isReadable : List ℕ → Run → Bool
+isReadable input r = let n = bodySize (getD input (r .pos) 0) in ltb 0 n && ltb (r .pos + n) (length input)
+
+abbrev pub commandOf : List ℕ → Run → Command
+commandOf input r = commandAt (getD input (r .pos) 0) input (r .pos + 1)
+
+-- the step after k others, carried out, with its line
+unfoldable pub carriedOut : List ℕ → ℕ → Run → Run
+carriedOut input k r =
+    let reply = replyOf (r .ledger) (r .journal) (commandOf input r) in
+    going (r .pos + bodySize (getD input (r .pos) 0) + 1) (reply .ledger) (journalBy (r .ledger) (r .journal) (commandOf input r))
+    (r .text ++ lineFor (k + 1) (reply .outcome))
+
+-- the step after k others
 unfoldable pub turn : List ℕ → ℕ → Run → Run
-turn input k r =
-    cond (ended input r) r
-    (let kind = getD input (r .pos) 0 in
-    let n = bodySize kind in
-    cond (eqb n 0) (cutShort r k)
-    (cond (leb (length input) (r .pos + n)) (cutShort r k)
-    (let reply = stepAt kind (r .ledger) (r .journal) input (r .pos + 1) in
-    going (r .pos + n + 1) (reply .ledger) (bookAfter kind (r .ledger) (r .journal) input (r .pos + 1))
-    (r .text ++ lineOf (k + 1) (numberOf (reply .outcome)) (valueOf (reply .outcome))))))
+turn input k r = cond (ended input r) r (cond (isReadable input r) (carriedOut input k r) (cutShort r k))
 
 -- the run after k steps
 unfoldable pub after : List ℕ → ℕ → Run

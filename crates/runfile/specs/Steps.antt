@@ -4,11 +4,8 @@ use mathlib.Core.List.{List}
 use Prim.Native.Nat.{_*_, _+_, ℕ}
 use lib.Dec.{eqb}
 use lib.ListN.{drop, getD, take}
-use Rattle.outcome.specs.declared.Outcome.the-variants.{Done}
 use Rattle.draw.specs.Draw.{drawOf}
-use Rattle.ledger.specs.Generations.{generationsOf}
-use Rattle.ledger.specs.Steps.{commitOf, faultyAcknowledgeOf, faultySignOf, journalAfter, preflightOf, proposeOf, showOf}
-use Rattle.ledger.specs.Worlds.{reads}
+use Rattle.ledger.specs.Worlds.{Request, commit, faultyAcknowledge, faultySign, generations, leftBy, preflight, propose, reads, show, stepOf}
 use Rattle.ledger.specs.declared.Ledger.{Ledger}
 use Rattle.ledger.specs.declared.Reply.{Reply}
 
@@ -33,20 +30,30 @@ wordAt input at = getD input at 0 + 256 * getD input (at + 1) 0
 abbrev pub recordIn : List ℕ → ℕ → List ℕ
 recordIn input at = take 100 (drop at input)
 
--- the step whose body starts at `at`, carried out
-unfoldable pub stepAt : ℕ → Ledger → List ℕ → List ℕ → ℕ → Reply
-stepAt kind l journal input at =
+-- what a step asks for: something of the ledger, or a draw, which "neither reads nor changes what the engine keeps"
+pub data Command : Type 0 where
+  request : Request → Command
+  draw : ℕ → Command
+
+-- the command of a known kind whose body starts at `at`
+unfoldable pub commandAt : ℕ → List ℕ → ℕ → Command
+commandAt kind input at =
     let x = getD input at 0 in
     let y = getD input (at + 1) 0 in
-    cond (eqb kind 1) (proposeOf l journal (recordIn input at))
-    (cond (eqb kind 2) (preflightOf l journal x y)
-    (cond (eqb kind 3) (commitOf l journal x y (wordAt input (at + 2)))
-    (cond (eqb kind 4) (faultySignOf l journal x y)
-    (cond (eqb kind 5) (faultyAcknowledgeOf l journal x y)
-    (cond (eqb kind 6) (reads (showOf l journal x) l)
-    (cond (eqb kind 7) (reads (drawOf (l .settings) x) l)
-    (cond (eqb kind 8) (reads (generationsOf l journal x) l) (reads (Done 0) l))))))))
+    cond (eqb kind 1) (request (propose (recordIn input at)))
+    (cond (eqb kind 2) (request (preflight x y))
+    (cond (eqb kind 3) (request (commit x y (wordAt input (at + 2))))
+    (cond (eqb kind 4) (request (faultySign x y))
+    (cond (eqb kind 5) (request (faultyAcknowledge x y))
+    (cond (eqb kind 6) (request (show x))
+    (cond (eqb kind 7) (draw x) (request (generations x))))))))
 
--- the book afterwards: only a proposal writes it
-unfoldable pub bookAfter : ℕ → Ledger → List ℕ → List ℕ → ℕ → List ℕ
-bookAfter kind l journal input at = cond (eqb kind 1) (journalAfter l journal (recordIn input at)) journal
+-- a command carried out, by the functions that demand 3 speaks of
+abbrev pub replyOf : Ledger → List ℕ → Command → Reply
+replyOf l journal (request q) = stepOf l journal q
+replyOf l journal (draw u) = reads (drawOf (l .settings) u) l
+
+-- the journal afterwards
+abbrev pub journalBy : Ledger → List ℕ → Command → List ℕ
+journalBy l journal (request q) = leftBy l journal q
+journalBy l journal (draw u) = journal

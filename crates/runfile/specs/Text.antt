@@ -7,6 +7,8 @@ use Prim.Native.Nat.{_+_, _/_, _%_, suc, zero, ℕ}
 use lib.Dec.{ltb}
 use lib.ListN.{length}
 use lib.Seq.{sets}
+use Rattle.outcome.specs.Figures.{numberOf, valueOf}
+use Rattle.outcome.specs.declared.Outcome.{Outcome}
 
 -- the digits of n, of which there are at most k + 1
 unfoldable pub digits : ℕ → ℕ → List ℕ
@@ -20,6 +22,10 @@ decimal n = digits n n
 -- a line: three numbers, single spaces between
 unfoldable pub lineOf : ℕ → ℕ → ℕ → List ℕ
 lineOf step number value = decimal step ++ (32 ∷ (decimal number ++ (32 ∷ (decimal value ++ (10 ∷ [])))))
+
+-- the line of a step that was answered so
+abbrev pub lineFor : ℕ → Outcome → List ℕ
+lineFor step outcome = lineOf step (numberOf outcome) (valueOf outcome)
 
 -- the text was written at the cursor, which moved on by its length
 pub record Put (before : List ℕ) (at : ℕ) (text after : List ℕ) (r : ℕ) : Type 0 where

@@ -2,7 +2,7 @@
 ghost use mathlib.Core.Path.{_≡_};
 ghost use Prim.Native.Nat.{_+_, _<_, _≤_};
 ghost use lib.ListN.{length};
-ghost use Rattle.runfile.specs.Steps.{bodySize, stepAt, bookAfter};
+ghost use Rattle.runfile.specs.Steps.{bodySize, commandAt, journalBy, replyOf};
 use crate::header;
 use ledger::Ledger;
 use ledger::Reply;
@@ -34,7 +34,7 @@ fn reads(outcome: Outcome, ledger: Ledger) -> Reply
 // The step of a known kind whose body starts at `at` and is all there.
 pub(crate) fn step(kind: u8, l: Ledger, journal: &mut [u8], input: &[u8], at: usize) -> Reply
     requires { ⌜ (at < 65536) × (0 < bodySize kind) × (at + bodySize kind ≤ length (now input)) ⌝ }
-    ensures { λ r. ⌜ (r ≡ stepAt kind l (now (journal .entry)) (now (input .entry)) at) × (now (journal .exit) ≡ bookAfter kind l (now (journal .entry)) (now (input .entry)) at) ⌝ }
+    ensures { λ r. ⌜ (r ≡ replyOf l (now (journal .entry)) (commandAt kind (now (input .entry)) at)) × (now (journal .exit) ≡ journalBy l (now (journal .entry)) (commandAt kind (now (input .entry)) at)) ⌝ }
 {
     match kind {
         1 => l.propose(journal, &input[at..at + 100]),

@@ -1,7 +1,8 @@
 -- Each arm is one number of the table.
 -- Assumes nothing.
+use mathlib.Core.Path.{sym}
 use native.Mathlib.Omega.{arith}
-use borrow.Author.Tests.{ne-eqb}
+use Rattle.runfile.proofs.Unknown.{unknown-kind}
 use Rattle.runfile.proofs.steps.body_size.Statement.{statement}
 use Rattle.runfile.specs.Steps.{bodySize}
 use Rattle.runfile.proofs.steps.body_size.Tie as tie
@@ -41,10 +42,9 @@ unfolding bodySize
 returns-8 c = (simp (c .match .keys8), omega arith)
 
 returns-9 : tie.Need-returns-9
-unfolding bodySize
 returns-9 c =
     let r = c .match .rest in
-    (simp (ne-eqb _ _ (r .0 .0 .0 .0 .0 .0 .0 .1), ne-eqb _ _ (r .0 .0 .0 .0 .0 .0 .1), ne-eqb _ _ (r .0 .0 .0 .0 .0 .1), ne-eqb _ _ (r .0 .0 .0 .0 .1), ne-eqb _ _ (r .0 .0 .0 .1), ne-eqb _ _ (r .0 .0 .1), ne-eqb _ _ (r .0 .1), ne-eqb _ _ (r .1)), omega arith)
+    (sym (unknown-kind _ (r .0 .0 .0 .0 .0 .0 .0 .1) (r .0 .0 .0 .0 .0 .0 .1) (r .0 .0 .0 .0 .0 .1) (r .0 .0 .0 .0 .1) (r .0 .0 .0 .1) (r .0 .0 .1) (r .0 .1) (r .1)), omega arith)
 
 pub body-size-spec : {M : Type 1} → statement M
 body-size-spec =

@@ -4,9 +4,9 @@ use mathlib.Core.Path.{ap}
 use native.Mathlib.Nat.{add-sub-cancel-left}
 use native.Mathlib.Omega.{arith}
 use borrow.Author.Needs.{needs}
-use borrow.Author.Tests.{ne-eqb}
+use Rattle.runfile.proofs.Unknown.{unknown-kind}
 use Rattle.runfile.proofs.steps.step.Statement.{statement}
-use Rattle.runfile.specs.Steps.{bodySize, bookAfter, stepAt}
+use Rattle.runfile.specs.Steps.{bodySize, commandAt}
 use Rattle.runfile.proofs.steps.step.Tie as tie
 use Rattle.runfile.proofs.steps.step.Reads as reads
 use Rattle.runfile.proofs.steps.step.Lts as lts
@@ -130,7 +130,7 @@ same-length : tie.Need-same-length
 same-length c = search needs
 
 returns : tie.Need-returns
-unfolding stepAt bookAfter
+unfolding commandAt
 returns c =
     let k = c .before .before .before .before .before .match .keys1 in
     let p = c .before .before .propose .ensures in
@@ -140,54 +140,53 @@ same-length-2 : tie.Need-same-length-2
 same-length-2 c = search needs
 
 returns-2 : tie.Need-returns-2
-unfolding stepAt bookAfter
+unfolding commandAt
 returns-2 c = let k = c .before .before .before .before .match .keys2 in (simp (k, c .preflight .ensures), simp k)
 
 same-length-3 : tie.Need-same-length-3
 same-length-3 c = search needs
 
 returns-3 : tie.Need-returns-3
-unfolding stepAt bookAfter
+unfolding commandAt
 returns-3 c = let k = c .before .before .before .before .before .match .keys3 in (simp (k, c .commit .ensures, c .before .word-at .ensures), simp k)
 
 same-length-4 : tie.Need-same-length-4
 same-length-4 c = search needs
 
 returns-4 : tie.Need-returns-4
-unfolding stepAt bookAfter
+unfolding commandAt
 returns-4 c = let k = c .before .before .before .before .match .keys4 in (simp (k, c .faulty-sign .ensures), simp k)
 
 same-length-5 : tie.Need-same-length-5
 same-length-5 c = search needs
 
 returns-5 : tie.Need-returns-5
-unfolding stepAt bookAfter
+unfolding commandAt
 returns-5 c = let k = c .before .before .before .before .match .keys5 in (simp (k, c .faulty-acknowledge .ensures), simp k)
 
 same-length-6 : tie.Need-same-length-6
 same-length-6 c = search needs
 
 returns-6 : tie.Need-returns-6
-unfolding stepAt bookAfter
+unfolding commandAt
 returns-6 c = let k = c .before .before .before .before .match .keys6 in (simp (k, c .reads .ensures, c .before .show .ensures), simp k)
 
 returns-7 : tie.Need-returns-7
-unfolding stepAt bookAfter
+unfolding commandAt
 returns-7 c = let k = c .before .before .before .match .keys7 in (simp (k, c .reads2 .ensures, c .before .draw .ensures), simp k)
 
 same-length-7 : tie.Need-same-length-7
 same-length-7 c = search needs
 
 returns-8 : tie.Need-returns-8
-unfolding stepAt bookAfter
+unfolding commandAt
 returns-8 c = let k = c .before .before .before .before .match .keys8 in (simp (k, c .reads3 .ensures, c .before .generations .ensures), simp k)
 
+-- an unknown kind has no body, and this one has
 returns-9 : tie.Need-returns-9
-unfolding stepAt bookAfter
 returns-9 c =
     let r = c .before .match .rest in
-    let n1 = ne-eqb _ _ (r .0 .0 .0 .0 .0 .0 .0 .1) in
-    (simp (n1, ne-eqb _ _ (r .0 .0 .0 .0 .0 .0 .1), ne-eqb _ _ (r .0 .0 .0 .0 .0 .1), ne-eqb _ _ (r .0 .0 .0 .0 .1), ne-eqb _ _ (r .0 .0 .0 .1), ne-eqb _ _ (r .0 .0 .1), ne-eqb _ _ (r .0 .1), ne-eqb _ _ (r .1), c .reads4 .ensures), simp n1)
+    absurd (omega (arith, unknown-kind _ (r .0 .0 .0 .0 .0 .0 .0 .1) (r .0 .0 .0 .0 .0 .0 .1) (r .0 .0 .0 .0 .0 .1) (r .0 .0 .0 .0 .1) (r .0 .0 .0 .1) (r .0 .0 .1) (r .0 .1) (r .1)))
 
 pub step-spec : {M : Type 1} → statement M
 step-spec =
