@@ -90,8 +90,8 @@ pub fn has_room(journal: &[u8], booked: usize) -> bool
     false
 }
 
-// Puts a record's bytes in place k.
-pub(crate) fn put_at(journal: &mut [u8], k: usize, bytes: &[u8])
+// Puts a record's bytes in place k. A helper for whoever keeps a journal, not a step: the caller has the room.
+pub fn put_at(journal: &mut [u8], k: usize, bytes: &[u8])
     requires { ⌜ (recordSize * k + recordSize ≤ length (now journal)) × (length (now bytes) ≡ recordSize) ⌝ }
     ensures { λ _. ⌜ now (journal .exit) ≡ putAt (now (journal .entry)) k (now (bytes .entry)) ⌝ }
 {

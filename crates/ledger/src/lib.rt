@@ -7,7 +7,7 @@ mod commit;
 mod faulty;
 mod federation;
 mod generations;
-mod journal;
+pub mod journal;
 mod preflight;
 mod propose;
 mod show;

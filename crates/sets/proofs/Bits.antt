@@ -2,7 +2,7 @@
 -- of a set of jobs that of 64. Bit i + 1 of s is bit i of s / 2, so each law on bits is an induction on the bit or on
 -- the width with arithmetic on halves and remainders; each law on members is one on bits.
 -- Assumes nothing.
-use mathlib.Core.Bool.{Bool, _||_, cond, false, true}
+use mathlib.Core.Bool.{Bool, _&&_, _||_, cond, false, not, true, true≢false}
 use mathlib.Core.Logic.{_≢_}
 use mathlib.Core.Path.{_∙_, _≡_, ap, refl, sym}
 use Prim.Native.Nat.{_%_, _*_, _+_, _-_, _/_, _<_, _^_, _≤_, max, min, suc, zero, ℕ}
@@ -14,10 +14,11 @@ use lib.Bits.{and-le-l, and-shr, and-step, bitAnd, bitOr, or-lt, or-shr, or-step
 use lib.Count.{ones, ones-ones, ones-step}
 use lib.Dec.{eqb, lit<, ltb}
 use lib.Pow.{low, pow-lt, pow-mono, pow-pos, shl-exact}
-use borrow.Author.Tests.{eq-eqb, eqb-false, eqb-true, le-ltb, lt-ltb, ltb-false, ltb-true}
-use Rattle.base.proofs.Search.{sum-from, sum-same}
+use borrow.Author.Tests.{eq-eqb, eqb-false, eqb-true, le-ltb, lt-ltb, ltb-false, ltb-true, not-false, not-true}
+use Rattle.base.proofs.Reflect.{not-false-true}
+use Rattle.base.proofs.Search.{any-elim, any-none, sum-from, sum-same}
 use Rattle.base.specs.Reflect.{Reflects}
-use Rattle.base.specs.Search.{Every, sumFrom}
+use Rattle.base.specs.Search.{Every, Some, anyBelow, sumFrom}
 use Rattle.sets.specs.Bits.{bit, hasBit, subsetOf, withBit, withMember, withoutBit}
 
 -- ---- bits
@@ -260,6 +261,30 @@ has-union a b i = go (hasBit a i) (hasBit b i) refl refl
         reflect-has (bitOr a b) i .complete (omega (arith, bit-or a b i, reflect-has a i .sound p, bit-lt b i))
     go false u p q =
         has-of-bit (bitOr a b) b i i (omega (arith, bit-or a b i, bit-absent a i p)) ∙ q
+
+-- ---- common members
+
+pub has-common : (a b i : ℕ) → hasBit (bitAnd a b) i ≡ (hasBit a i && hasBit b i)
+has-common a b i = go (hasBit a i) (hasBit b i) refl refl
+  where
+    go : (t u : Bool) → hasBit a i ≡ t → hasBit b i ≡ u → hasBit (bitAnd a b) i ≡ (t && u)
+    go true u p q = has-of-bit (bitAnd a b) b i i (omega (arith, bit-and a b i, reflect-has a i .sound p, bit-lt b i)) ∙ q
+    go false u p q = absent-of-bit (bitAnd a b) i (omega (arith, bit-and a b i, bit-absent a i p))
+
+-- a set of k bits that is not 0 has a member
+pub reflect-some : (k s : ℕ) → s < 2 ^ k → Reflects (not (eqb s 0)) (Some k (λ i. hasBit s i ≡ true))
+reflect-some k s hs = record {
+  sound = λ e. by (anyBelow k (hasBit s)) refl e;
+  complete = λ m. not-false-true (not (eqb s 0)) (λ e. true≢false (sym (m .has) ∙ ap (λ (t : ℕ). hasBit t (m .which)) (zero e) ∙ has-none (m .which)));
+}
+  where
+    zero : not (eqb s 0) ≡ false → s ≡ 0
+    zero e = eqb-true s 0 (not-false (eqb s 0) e)
+
+    by : (t : Bool) → anyBelow k (hasBit s) ≡ t → not (eqb s 0) ≡ true → Some k (λ i. hasBit s i ≡ true)
+    by true a e = any-elim (hasBit s) k a
+    by false a e =
+        absurd (eqb-false s 0 (not-true (eqb s 0) e) (members-same k s 0 hs (pow-pos k) (λ i l. any-none (hasBit s) k a i l ∙ sym (has-none i))))
 
 -- ---- subsets
 

@@ -1,20 +1,22 @@
 -- The laws of sets of jobs. A job is a bit of one of the two words, or of none from 128 on; in each case the law is the
 -- one that `Bits` has for a word, and the other word is as it was.
 -- Assumes nothing.
-use mathlib.Core.Bool.{Bool, _||_, cond, false, true, true≢false}
-use mathlib.Core.Logic.{_≢_}
+use mathlib.Core.Bool.{Bool, _&&_, _||_, cond, false, not, true, true≢false}
+use mathlib.Core.Logic.{_≢_, _⊎_, inl, inr, ⊎-elim}
 use mathlib.Core.Path.{_∙_, _≡_, ap, ap₂, refl, sym}
 use Prim.Native.Nat.{_+_, _-_, _<_, _^_, _≤_, suc, ℕ}
 use native.Mathlib.Omega.{arith}
-use lib.Bits.{or-lt}
+use lib.Bits.{and-le-r, bitAnd, or-lt}
 use lib.Count.{ones}
 use lib.Dec.{eqb, ltb}
 use borrow.Author.Tests.{eqb-false, eqb-true, le-ltb, lt-ltb, ltb-false, ltb-true}
-use Rattle.base.proofs.Search.{sum-append, sum-from, sum-same}
-use Rattle.base.specs.Search.{Every, sumFrom}
-use Rattle.sets.proofs.Bits.{bit-of-has, has-none, has-union, has-with-other, has-with-same, has-without-other, has-without-same, members-same, ones-counts, ones-with, with-again, with-lt, without-lt}
+use Rattle.base.proofs.Reflect.{reflect-as, reflect-or, reflect-true, reflects-same}
+use Rattle.base.proofs.Search.{reflect-any, sum-append, sum-from, sum-same}
+use Rattle.base.specs.Reflect.{Reflects}
+use Rattle.base.specs.Search.{Every, Some, anyBelow, sumFrom}
+use Rattle.sets.proofs.Bits.{bit-of-has, has-common, has-none, has-union, has-with-other, has-with-same, has-without-other, has-without-same, members-same, ones-counts, ones-with, reflect-some, with-again, with-lt, without-lt}
 use Rattle.sets.specs.Bits.{bit, hasBit, withBit, withoutBit}
-use Rattle.sets.specs.Jobs.{InWords, changeAt, jobCount, jobHas, jobUnion, jobWith, jobWithout, noJobs}
+use Rattle.sets.specs.Jobs.{InWords, changeAt, jobCount, jobHas, jobUnion, jobWith, jobWithout, jobsMeet, noJobs}
 use Rattle.sets.specs.declared.job_set.JobSet.{JobSet}
 
 -- ---- the word of a job
@@ -117,6 +119,40 @@ job-union-has a b i = go (ltb i 64) (ltb i 128) refl refl
     go false false et eu = simp (et, eu)
 
 -- to add a member changes nothing
+-- the words have a bit in common where the sets have a member in common
+pub meets-any : (a b : JobSet) → InWords b → jobsMeet a b ≡ anyBelow 128 (λ i. jobHas a i && jobHas b i)
+unfolding jobsMeet
+meets-any a b w =
+    reflects-same (reflect-or (word (a .low) (b .low) (w .low-fits)) (word (a .high) (b .high) (w .high-fits)))
+    (reflect-as (reflect-any 128 (λ i l. reflect-true (jobHas a i && jobHas b i))) into out)
+  where
+    word : (x y : ℕ) → y < 2 ^ 64 → Reflects (not (eqb (bitAnd x y) 0)) (Some 64 (λ i. hasBit (bitAnd x y) i ≡ true))
+    word x y h = reflect-some 64 (bitAnd x y) (omega (arith, and-le-r x y))
+
+    low : (i : ℕ) → i < 64 → (jobHas a i && jobHas b i) ≡ hasBit (bitAnd (a .low) (b .low)) i
+    low i h = rw (in-low a i h, in-low b i h) (sym (has-common (a .low) (b .low) i))
+
+    high : (i : ℕ) → i < 64 → (jobHas a (64 + i) && jobHas b (64 + i)) ≡ hasBit (bitAnd (a .high) (b .high)) i
+    high i h = rw (in-high a i h, in-high b i h) (sym (has-common (a .high) (b .high) i))
+
+    into : Some 128 (λ i. (jobHas a i && jobHas b i) ≡ true)
+        → Some 64 (λ i. hasBit (bitAnd (a .low) (b .low)) i ≡ true) ⊎ Some 64 (λ i. hasBit (bitAnd (a .high) (b .high)) i ≡ true)
+    into m = by (ltb (m .which) 64) refl
+      where
+        by : (t : Bool) → ltb (m .which) 64 ≡ t → Some 64 (λ i. hasBit (bitAnd (a .low) (b .low)) i ≡ true) ⊎ Some 64 (λ i. hasBit (bitAnd (a .high) (b .high)) i ≡ true)
+        by true e = let h = ltb-true (m .which) 64 e in inl (record { which = m .which; below = h; has = sym (low (m .which) h) ∙ m .has })
+        by false e =
+            let h : m .which - 64 < 64 = omega (arith, ltb-false (m .which) 64 e, m .below) in
+            let q : 64 + (m .which - 64) ≡ m .which = omega (arith, ltb-false (m .which) 64 e) in
+            inr (record { which = m .which - 64; below = h; has = sym (high (m .which - 64) h) ∙ rw q (m .has) })
+
+    out : Some 64 (λ i. hasBit (bitAnd (a .low) (b .low)) i ≡ true) ⊎ Some 64 (λ i. hasBit (bitAnd (a .high) (b .high)) i ≡ true)
+        → Some 128 (λ i. (jobHas a i && jobHas b i) ≡ true)
+    out m = ⊎-elim
+        (λ s. record { which = s .which; below = omega (arith, s .below); has = low (s .which) (s .below) ∙ s .has })
+        (λ s. record { which = 64 + s .which; below = omega (arith, s .below); has = high (s .which) (s .below) ∙ s .has })
+        m
+
 pub job-with-again : (s : JobSet) (i : ℕ) → jobHas s i ≡ true → jobWith s i ≡ s
 unfolding jobHas jobWith
 job-with-again s i h = go (ltb i 64) (ltb i 128) refl refl

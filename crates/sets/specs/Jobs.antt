@@ -1,9 +1,9 @@
 -- Sets of jobs in two words: job j is bit j of the low word, or bit j - 64 of the high one. No job of 128 or more is a
 -- member of any set.
-use mathlib.Core.Bool.{Bool, false, cond}
+use mathlib.Core.Bool.{Bool, false, cond, not, _||_}
 use Prim.Native.Nat.{ℕ, _+_, _-_, _^_, _<_}
-use lib.Dec.{ltb}
-use lib.Bits.{bitOr}
+use lib.Dec.{eqb, ltb}
+use lib.Bits.{bitAnd, bitOr}
 use lib.Count.{ones}
 use Rattle.sets.specs.Bits.{hasBit, withBit, withoutBit}
 use Rattle.sets.specs.declared.job_set.JobSet.{JobSet}
@@ -33,6 +33,10 @@ jobWithout s job = changeAt withoutBit s job
 -- the members of a and those of b
 unfoldable pub jobUnion : JobSet → JobSet → JobSet
 jobUnion a b = record { low = bitOr (a .low) (b .low); high = bitOr (a .high) (b .high) }
+
+-- some job is a member of both
+unfoldable pub jobsMeet : JobSet → JobSet → Bool
+jobsMeet a b = not (eqb (bitAnd (a .low) (b .low)) 0) || not (eqb (bitAnd (a .high) (b .high)) 0)
 
 -- how many members s has
 unfoldable pub jobCount : JobSet → ℕ

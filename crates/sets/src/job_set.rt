@@ -1,6 +1,6 @@
 // A set of jobs. A journal books at most 128, so two words hold every set.
 ghost use mathlib.Core.Path.{_≡_};
-ghost use Rattle.sets.specs.Jobs.{noJobs, jobHas, jobWith, jobWithout, jobUnion, jobCount};
+ghost use Rattle.sets.specs.Jobs.{noJobs, jobHas, jobWith, jobWithout, jobUnion, jobsMeet, jobCount};
 use super::words;
 
 // Jobs 0 to 63 are the bits of `low`, and 64 to 127 those of `high`. No method asks anything of its arguments: a job of
@@ -76,6 +76,16 @@ impl JobSet {
             low: self.low | other.low,
             high: self.high | other.high,
         }
+    }
+
+    // Whether the sets have a member in common.
+    pub fn meets(self, other: JobSet) -> bool
+        ensures { λ r. ⌜ r ≡ jobsMeet self other ⌝ }
+    {
+        if self.low & other.low != 0 {
+            return true;
+        }
+        self.high & other.high != 0
     }
 
     // How many members the set has.

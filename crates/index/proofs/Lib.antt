@@ -1,0 +1,5 @@
+pub mod Admits
+pub mod Enters
+pub mod Marks
+pub mod Sifts
+pub mod Steps

@@ -1,0 +1,38 @@
+-- A turn of each loop is a step of its definition.
+-- Assumes nothing.
+use mathlib.Core.Bool.{Bool, cond}
+use mathlib.Core.List.{List}
+use mathlib.Core.Path.{_∙_, _≡_}
+use Prim.Native.Nat.{_*_, _+_, ℕ}
+use native.Mathlib.Numerals.{add-one}
+use Rattle.record.specs.Entries.{isUsed, labelOf}
+use Rattle.record.specs.declared.Job.{Job}
+use Rattle.sets.specs.Jobs.{jobHas}
+use Rattle.sets.specs.declared.job_set.JobSet.{JobSet}
+use Rattle.index.specs.Entering.{againstTo, bothWays, extended, indexWith, pairTo, sieveWith}
+use Rattle.index.specs.Sieve.{bucketOf, likelyTo, siftTo}
+use Rattle.index.specs.Slots.{place, shares}
+use Rattle.index.specs.Words.{marked}
+
+pub pair-next : (index before after : List ℕ) (a : Job) (j : ℕ) (c : Job) (k i : ℕ) (t : Bool)
+    → before ≡ pairTo i index a j c k → t ≡ shares a i c → after ≡ marked before (place j i k) t → after ≡ pairTo (i + 1) index a j c k
+unfolding pairTo
+pair-next index before after a j c k i t e u m = m ∙ rw (add-one i, e, u)
+
+pub sift-next : (sieve before after : List ℕ) (a : Job) (n e b : ℕ) (t : Bool)
+    → before ≡ siftTo e sieve a n → b ≡ bucketOf (labelOf a e) → t ≡ isUsed a e → after ≡ marked before (128 * b + n) t → after ≡ siftTo (e + 1) sieve a n
+unfolding siftTo
+sift-next sieve before after a n e b t q v u m = m ∙ rw (add-one e, q, v, u)
+
+pub against-next : (job : ℕ → Job) (index before after : List ℕ) (s : JobSet) (a : Job) (n k : ℕ)
+    → before ≡ againstTo job k index s n → a ≡ job n → after ≡ cond (jobHas s k) (bothWays before a n (job k) k) before → after ≡ againstTo job (k + 1) index s n
+unfolding againstTo
+against-next job index before after s a n k e u m = m ∙ rw (add-one k, e, u)
+
+pub entered : (job : ℕ → Job) (index mid after sieve : List ℕ) (a : Job) (s : JobSet) (n : ℕ)
+    → a ≡ job n → s ≡ likelyTo 8 sieve a → mid ≡ againstTo job n index s n → after ≡ pairTo 12 mid a n a n → after ≡ indexWith job index sieve n
+unfolding extended
+entered job index mid after sieve a s n e l m p = p ∙ rw (m, l, e)
+
+pub sifted : (job : ℕ → Job) (sieve after : List ℕ) (a : Job) (n : ℕ) → a ≡ job n → after ≡ siftTo 8 sieve a n → after ≡ sieveWith job sieve n
+sifted job sieve after a n e m = m ∙ rw e

@@ -1,0 +1,5 @@
+pub mod Checks
+pub mod Entering
+pub mod Sieve
+pub mod Slots
+pub mod Words

@@ -1,0 +1,6 @@
+// The index of label matches between booked jobs, which the run keeps so that checks 11 to 14 read no record.
+mod checks;
+mod entering;
+mod sieve;
+mod slots;
+mod words;

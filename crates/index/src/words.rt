@@ -1,0 +1,28 @@
+// Bits of a table of words, and the sets of jobs in it.
+ghost use mathlib.Core.Path.{_≡_};
+ghost use Prim.Native.Nat.{_+_, _*_, _<_};
+ghost use lib.ListN.{length};
+ghost use Rattle.index.specs.Words.{marked, setAt};
+use sets::JobSet;
+
+// Sets bit b where t says so.
+pub(crate) fn mark(words: &mut [u64], b: usize, t: bool)
+    requires { ⌜ b < 64 * length (now words) ⌝ }
+    ensures { λ _. ⌜ now (words .exit) ≡ marked (now (words .entry)) b t ⌝ }
+{
+    if t {
+        let w = b / 64;
+        words[w] = words[w] | (1u64 << (b % 64));
+        return;
+    }
+}
+
+pub(crate) fn set_at(words: &[u64], at: usize) -> JobSet
+    requires { ⌜ at + 1 < length (now words) ⌝ }
+    ensures { λ r. ⌜ r ≡ setAt (now (words .entry)) at ⌝ }
+{
+    JobSet {
+        low: words[at],
+        high: words[at + 1],
+    }
+}
