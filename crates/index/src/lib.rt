@@ -4,3 +4,7 @@ mod entering;
 mod sieve;
 mod slots;
 mod words;
+
+pub use checks::admission;
+pub use entering::enter;
+pub use words::set_at;

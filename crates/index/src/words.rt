@@ -17,7 +17,8 @@ pub(crate) fn mark(words: &mut [u64], b: usize, t: bool)
     }
 }
 
-pub(crate) fn set_at(words: &[u64], at: usize) -> JobSet
+// The set of jobs in two words. Like all functions here a helper of whoever keeps the tables, not a step.
+pub fn set_at(words: &[u64], at: usize) -> JobSet
     requires { ⌜ at + 1 < length (now words) ⌝ }
     ensures { λ r. ⌜ r ≡ setAt (now (words .entry)) at ⌝ }
 {
