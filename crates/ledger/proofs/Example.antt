@@ -10,7 +10,7 @@ use lib.ListN.{replicate}
 use Rattle.base.specs.Lists.{sameList}
 use Rattle.base.specs.Search.{allBelow, anyBelow, firstBelow, sumFrom}
 use Rattle.outcome.specs.declared.Outcome.the-variants.{Done, Refused}
-use Rattle.outcome.specs.declared.Refusal.the-variants.{NotCreated, NotSigned, Settings, TooFewSigners}
+use Rattle.outcome.specs.declared.Refusal.the-variants.{NotCreated, NotSigned, TooFewSigners}
 use Rattle.record.specs.Checks.{balanced, checkOf, countsFormed, entryFormed, examined, hasLabelOf, inputsFormed, isBlank, isFilled, isWritten, repeatedAt, unsupportedAt, wellFormed}
 use Rattle.record.specs.Codec.{entriesAt, entryAt, jobOf, leAt}
 use Rattle.record.specs.Conflicts.{isLabelAt, isTapeAt, labelIn, makesTape}
@@ -26,7 +26,7 @@ use Rattle.ledger.specs.Generations.{ageOf, createdAt, creatorOf, genera
 use Rattle.ledger.specs.Journal.{equalAt, equalIn, hasRoom, insideOf, isBooked, jobAt, putAt, recordAt, slotAt}
 use Rattle.ledger.specs.Register.{entering, feedAll, feedCommit, feedProposal, isAdmissible, log, newRegister, stopped, taking}
 use Rattle.ledger.specs.State.{acknowledged, arriving, booking, countersigned, hasArrived, holdersOf, isArrival, isSane, newLedger, signersOf, withVault}
-use Rattle.ledger.specs.Steps.{bookedGate, certificate, commitChecks, commitOf, committed, consulted, faultyAcknowledgeOf, faultySignOf, held, journalAfter, newOf, newPlace, placeOf, preflightOf, proposeOf, showOf, statusOf, vaultGate}
+use Rattle.ledger.specs.Steps.{bookedGate, certificate, commitChecks, commitOf, committed, consulted, faultyAcknowledgeOf, faultySignOf, held, journalAfter, newPlace, placeOf, preflightOf, proposeOf, showOf, statusOf, vaultGate}
 use Rattle.ledger.specs.Vaults.{admissionAt, holding, signing, vaultPreflight}
 use Rattle.ledger.specs.Worlds.{Event, Request, after, commit, faultySign, generations, lend, outcomes, overlay, preflight, propose, show, start}
 
@@ -81,20 +81,3 @@ pub whole-run :
     })
 unfolding sameList anyBelow allBelow firstBelow sumFrom hasBit withBit withMember withoutBit subsetOf jobHas jobWith jobWithout inputsFormed countsFormed isFilled isBlank entryFormed wellFormed hasLabelOf repeatedAt isWritten unsupportedAt balanced checkOf examined leAt entryAt entriesAt jobOf isLabelAt labelIn isTapeAt makesTape isDrive supports labelOf framesOf isUsed usedFrames isBetween charAt isAlphanumeric mediumOf isLabel usedFrom sameTape makesAt madeBy listsAt listedBy notCreatedAt consumedAt madeBefore remadeAt admission isLawful thresholdOf highest createdAt creatorOf generationFrom generationsBefore generationAt holdsAt isHeld positionOf ageOf generationsOf slotAt isBooked recordAt jobAt insideOf equalAt equalIn hasRoom putAt isAdmissible taking stopped entering feedProposal feedCommit signersOf holdersOf isArrival hasArrived isSane newLedger booking countersigned acknowledged withVault arriving bookedGate vaultGate newPlace placeOf proposeOf journalAfter consulted preflightOf certificate held committed commitChecks commitOf faultySignOf faultyAcknowledgeOf statusOf showOf signing holding admissionAt vaultPreflight lend overlay after start ones onesIn
 whole-run = (refl, refl)
-
--- ---- near each edge: C1, C2, C3 and C10
-pub c1 : newOf 3 1 0 .outcome ≡ Refused Settings
-unfolding newOf isLawful newLedger ones thresholdOf
-c1 = refl
-
-pub c2 : newOf 4 1 0 .outcome ≡ Done 3
-unfolding newOf isLawful newLedger ones thresholdOf
-c2 = refl
-
-pub c3 : newOf 6 1 0 .outcome ≡ Done 5
-unfolding newOf isLawful newLedger ones thresholdOf
-c3 = refl
-
-pub c10 : ones 11 ≡ 3
-unfolding ones
-c10 = refl
