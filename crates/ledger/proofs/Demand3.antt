@@ -15,7 +15,6 @@ use Rattle.outcome.specs.declared.Outcome.{Outcome}
 use Rattle.record.proofs.Numbers.{room}
 use Rattle.sets.proofs.Bits.{has-none}
 use Rattle.sets.proofs.Jobs.{has-no-jobs}
-use Rattle.sets.proofs.Quorum.{quorums-meet}
 use Rattle.sets.specs.Bits.{hasBit}
 use Rattle.sets.specs.Jobs.{jobHas, noJobs}
 use Rattle.sets.specs.declared.job_set.JobSet.{JobSet}
@@ -23,7 +22,7 @@ use Rattle.ledger.proofs.Changes.{changes, shape-sane}
 use Rattle.ledger.proofs.Gates.{reflect-sane}
 use Rattle.ledger.proofs.Invariant.{Inv, held-by, is-recorded, keep}
 use Rattle.ledger.proofs.Refusals.{never-one}
-use Rattle.ledger.proofs.Safety.{certified-apart}
+use Rattle.ledger.proofs.Safety.{certified-apart, meeting}
 use Rattle.ledger.proofs.Views.{ackedAt, heldAt, recordedAt, signedAt}
 use Rattle.ledger.specs.Demand3.{Apart, Demand3, Disjoint, Held, Holds, accessionedAlong, recordsIn, standingAlong}
 use Rattle.ledger.specs.Federation.{thresholdOf}
@@ -114,12 +113,10 @@ module _ (n b faulty : ℕ) where
 module _ {w : World} {r : Register} (i : Inv w r) where
   -- a quorum of acknowledgements has a correct vault in it, which holds the job; so the job is certified
   finished-certified : (k : ℕ) → thresholdOf (w .ledger .settings) ≤ ones (holdersOf (w .ledger) k) → thresholdOf (w .ledger .settings) ≤ ones (signersOf (w .ledger) k)
-  unfolding thresholdOf ackedAt
+  unfolding ackedAt
   finished-certified k a =
-      let lawful = i .shape .lawful in
-      let m = quorums-meet (w .ledger .settings .n) (w .ledger .settings .b) (holdersOf (w .ledger) k) (holdersOf (w .ledger) k) (w .ledger .settings .faulty) (lawful .few)
-      (i .shape .holders-below k) (i .shape .holders-below k) (lawful .below) a a (lawful .bound) in
-      i .safe .certified (m .vault) k (i .safe .honest (m .vault) k (record { below = m .below; sound = m .correct }) (m .in-first))
+      let m = meeting (i .shape .lawful) (holdersOf (w .ledger) k) (holdersOf (w .ledger) k) (i .shape .holders-below k) (i .shape .holders-below k) a a in
+      i .safe .certified (m .vault) k (i .safe .honest (m .vault) k (m .correct) (m .first))
 
   quorum : (k : ℕ) → Held (w .ledger) k → thresholdOf (w .ledger .settings) ≤ ones (signersOf (w .ledger) k)
   quorum k h = let q = held-by (w .ledger) k h in i .safe .certified (q .0) k (q .1)

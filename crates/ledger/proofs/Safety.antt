@@ -25,6 +25,20 @@ use Rattle.ledger.specs.declared.Settings.{Settings}
 pub apart-sym : {a c : Job} → Apart a c → Apart c a
 apart-sym h = record { inputs = λ x m n. h .inputs x n m; outputs = λ x m n. h .outputs x n m }
 
+-- a correct vault that is in both sets
+pub record Meeting (st : Settings) (x y : ℕ) : Type 0 where
+  pub vault : ℕ
+  pub correct : Correct st vault
+  pub first : hasBit x vault ≡ true
+  pub second : hasBit y vault ≡ true
+
+-- two quorums share a correct vault. Nothing else rests on 3b < n
+pub meeting : {st : Settings} → Lawful st → (x y : ℕ) → x < 2 ^ st .n → y < 2 ^ st .n → thresholdOf st ≤ ones x → thresholdOf st ≤ ones y → Meeting st x y
+unfolding thresholdOf
+meeting {st} lawful x y hx hy a b =
+    let m = quorums-meet (st .n) (st .b) x y (st .faulty) (lawful .few) hx hy (lawful .below) a b (lawful .bound) in
+    record { vault = m .vault; correct = record { below = m .below; sound = m .correct }; first = m .in-first; second = m .in-second }
+
 -- job p is held at v and made the tape
 pub record Rooted (job : ℕ → Job) (held : ℕ → ℕ → Bool) (v : ℕ) (t : Entry) : Type 0 where
   pub maker : ℕ
@@ -138,29 +152,14 @@ module _ {st : Settings} {booked : ℕ} {job : ℕ → Job} {held signed recorde
 
   -- ---- two certified jobs do not conflict; `recorded` is membership in `signers`
   module _ (lawful : Lawful st) (below : (k : ℕ) → signers k < 2 ^ st .n) (is : (v k : ℕ) → hasBit (signers k) v ≡ true → recorded v k ≡ true) where
-    -- a correct vault whose signature of both is recorded
-    pub record Witness (i k : ℕ) : Type 0 where
-      pub vault : ℕ
-      pub correct : Correct st vault
-      pub first : recorded vault i ≡ true
-      pub second : recorded vault k ≡ true
-
-    pub witness : (i k : ℕ) → thresholdOf st ≤ ones (signers i) → thresholdOf st ≤ ones (signers k) → Witness i k
-    unfolding thresholdOf
-    witness i k a b =
-        let m = quorums-meet (st .n) (st .b) (signers i) (signers k) (st .faulty) (lawful .few) (below i) (below k) (lawful .below) a b (lawful .bound) in
-        record {
-          vault = m .vault;
-          correct = record { below = m .below; sound = m .correct };
-          first = is (m .vault) i (m .in-first);
-          second = is (m .vault) k (m .in-second);
-        }
-
     pub certified-apart : (i k : ℕ) → thresholdOf st ≤ ones (signers i) → thresholdOf st ≤ ones (signers k) → i ≢ k → Apart (job i) (job k)
     certified-apart i k a b ne =
-        let w = witness i k a b in
-        s .apart (w .vault) i k (s .backs (w .vault) i (w .correct) (w .first)) (s .backs (w .vault) k (w .correct) (w .second)) ne
+        let m = meeting lawful (signers i) (signers k) (below i) (below k) a b in
+        let v = m .vault in
+        s .apart v i k (s .backs v i (m .correct) (is v i (m .first))) (s .backs v k (m .correct) (is v k (m .second))) ne
 
     -- each input of a certified job was made by a held job
     pub certified-rooted : (k : ℕ) → thresholdOf st ≤ ones (signers k) → (t : Entry) → In t (inputTapes (job k)) → (v : ℕ) × (Correct st v × Rooted job held v t)
-    certified-rooted k a t m = let w = witness k k a a in (w .vault, (w .correct, s .rooted (w .vault) k (w .correct) (w .first) t m))
+    certified-rooted k a t m =
+        let q = meeting lawful (signers k) (signers k) (below k) (below k) a a in
+        (q .vault, (q .correct, s .rooted (q .vault) k (q .correct) (is (q .vault) k (q .first)) t m))
