@@ -36,7 +36,7 @@ pub record Meeting (st : Settings) (x y : ℕ) : Type 0 where
 pub meeting : {st : Settings} → Lawful st → (x y : ℕ) → x < 2 ^ st .n → y < 2 ^ st .n → thresholdOf st ≤ ones x → thresholdOf st ≤ ones y → Meeting st x y
 unfolding thresholdOf
 meeting {st} lawful x y hx hy a b =
-    let m = quorums-meet (st .n) (st .b) x y (st .faulty) (lawful .few) hx hy (lawful .below) a b (lawful .bound) in
+    let m = quorums-meet (st .n) (st .b) x y (st .faulty) (lawful .few) hx hy (lawful .below) (omega arith) (omega arith) (lawful .bound) in
     record { vault = m .vault; correct = record { below = m .below; sound = m .correct }; first = m .in-first; second = m .in-second }
 
 -- job p is held at v and made the tape
