@@ -1,31 +1,42 @@
 -- What each step answers and leaves in the table is what the ledger's step says.
 -- Assumes nothing.
-use mathlib.Core.Bool.{Bool, Bool·beq, cond, true}
+use mathlib.Core.Bool.{Bool, Bool·beq, cond, false, true}
 use mathlib.Core.List.{List}
 use mathlib.Core.Logic.{inl, inr}
 use mathlib.Core.Path.{_∙_, _≡_, ap, refl, sym}
-use Prim.Native.Nat.{_+_, _/_, _<_, _≤_, ℕ}
+use Prim.Native.Nat.{_*_, _+_, _/_, _<_, _≤_, ℕ}
 use native.Mathlib.Omega.{arith}
 use lib.Count.{ones}
 use lib.Dec.{leb, ltb}
-use lib.ListN.{getD, length, length-set, set}
-use lib.Seq.{getD-set-other, getD-set-same}
-use borrow.Author.Tests.{le-leb}
+use lib.ListN.{drop, getD, length, length-set, set}
+use lib.Seq.{getD-drop, getD-set-other, getD-take}
+use borrow.Author.Tests.{le-leb, lt-ltb}
 use Rattle.outcome.specs.declared.Outcome.the-variants.{Done, Refused}
 use Rattle.outcome.specs.declared.Refusal.{Refusal}
 use Rattle.outcome.specs.declared.Refusal.the-variants.{NoVault, NotBooked, WrongVault}
 use Rattle.outcome.specs.declared.Verdict.{Verdict}
 use Rattle.outcome.specs.declared.Verdict.the-variants.{Fail, Pass}
+use Rattle.record.specs.Codec.{jobOf}
+use Rattle.sets.proofs.Jobs.{job-without-absent}
 use Rattle.sets.specs.Bits.{hasBit, withMember}
+use Rattle.sets.specs.Jobs.{InWords, jobHas, jobWith}
+use Rattle.sets.specs.declared.job_set.JobSet.{JobSet}
 use Rattle.ledger.proofs.Gates.{job-below, vault-below}
-use Rattle.ledger.specs.Journal.{isBooked}
-use Rattle.ledger.specs.State.{acknowledged, countersigned, holdersOf, isSane, signersOf}
-use Rattle.ledger.specs.Steps.{bookedGate, faultyAcknowledgeOf, faultySignOf, vaultGate}
+use Rattle.ledger.specs.Admission.{admission}
+use Rattle.ledger.specs.Federation.{thresholdOf}
+use Rattle.ledger.specs.Journal.{isBooked, jobAt, recordAt, slotAt}
+use Rattle.ledger.specs.State.{acknowledged, countersigned, holdersOf, isSane, signersOf, vaultAt, withVault}
+use Rattle.ledger.specs.Steps.{bookedGate, consulted, faultyAcknowledgeOf, faultySignOf, preflightOf, preflighted, statusOf, vaultGate}
+use Rattle.ledger.specs.Vaults.{admissionAt, consented, signing, vaultPreflight}
 use Rattle.ledger.specs.declared.Ledger.{Ledger}
 use Rattle.ledger.specs.declared.Settings.{Settings}
-use Rattle.engine.proofs.Fields.{acknowledged-is, acknowledgement-stored, part-out, signature-stored, signed-is}
-use Rattle.engine.specs.Kept.{Same, Sound, answer}
-use Rattle.engine.specs.Layout.{ledgerIn, tableSize}
+use Rattle.index.proofs.Admits.{by-index}
+use Rattle.index.specs.Checks.{admissionBy}
+use Rattle.index.specs.Slots.{Indexed}
+use Rattle.index.specs.Words.{setAt}
+use Rattle.engine.proofs.Fields.{acknowledged-is, acknowledgement-stored, part-out, signature-stored, signed-is, signed-stored, vault-is}
+use Rattle.engine.specs.Kept.{Countersigned, Same, Sound, answer}
+use Rattle.engine.specs.Layout.{heldOf, ledgerIn, signedOf, storing, vaultIn}
 
 pub same-refl : (table : List ℕ) → Same table table
 same-refl table = record { size = refl; booked = refl; arrivals = refl; order = refl; ages = refl }
@@ -39,6 +50,20 @@ same-vote table p x lo hi = record {
   order = part-out 322 table p x (inl hi);
   ages = part-out 450 table p x (inl (omega arith));
 }
+
+pub same-trans : {a b c : List ℕ} → Same a b → Same b c → Same a c
+same-trans p q = record {
+  size = q .size ∙ p .size;
+  booked = q .booked ∙ p .booked;
+  arrivals = q .arrivals ∙ p .arrivals;
+  order = q .order ∙ p .order;
+  ages = q .ages ∙ p .ages;
+}
+
+-- a set stored among the vaults
+pub same-storing : (table : List ℕ) (at : ℕ) (t : JobSet) → 2 ≤ at → at + 2 ≤ 66 → Same table (storing table at t)
+unfolding storing
+same-storing table at t lo hi = same-trans (same-vote table at (t .low) lo (omega arith)) (same-vote (set table at (t .low)) (at + 1) (t .high) (omega arith) (omega arith))
 
 module _ (s : Settings) (table journal : List ℕ) (ok : Sound s table) (full : length journal ≡ 12800) where
   pub sane : isSane (ledgerIn s table) ≡ true
@@ -89,3 +114,72 @@ module _ (s : Settings) (table journal : List ℕ) (ok : Sound s table) (full : 
           let led : ledgerIn s after ≡ acknowledged (ledgerIn s table) v job = ap (ledgerIn s) e ∙ acknowledgement-stored s table v job few in
           let votes : r ≡ ones (holdersOf (acknowledged (ledgerIn s table) v job) job) = q ∙ ap ones (sym (acknowledged-is s after job few)) ∙ ap (λ (l : Ledger). ones (holdersOf l job)) led in
           (simp (gate, led, votes), rw e (same-vote table (194 + job) _ (omega arith) (omega (arith, few))))
+
+  -- ---- kind 6
+  pub status-is : (job : ℕ) → job < 128 → statusOf (ledgerIn s table) job
+      ≡ cond (leb (thresholdOf s) (ones (getD table (194 + job) 0))) 2 (cond (leb (thresholdOf s) (ones (getD table (66 + job) 0))) 1 0)
+  unfolding statusOf ledgerIn
+  status-is job h = simp (signed-is s table job h, acknowledged-is s table job h)
+
+  -- ---- kind 2
+  module _ (v job : ℕ) (few : v < 16) (known : job < getD table 0 0) where
+    small : job < 128
+    small = omega (arith, known, ok .booked)
+
+    vault : vaultAt (ledgerIn s table) v ≡ record { held = setAt table (heldOf v); signed = setAt table (signedOf v) }
+    unfolding vaultIn
+    vault = vault-is s table v few
+
+    pub consulted-again : jobHas (setAt table (signedOf v)) job ≡ true → (r : ℕ) → r ≡ ones (getD table (66 + job) 0)
+        → (consulted (ledgerIn s table) journal v job ≡ answer s (Done r) table) × Same table table
+    unfolding consulted vaultPreflight
+    consulted-again e r q = (simp (vault, e, q, signed-is s table job small), same-refl table)
+
+    module _ (index : List ℕ) (x : Indexed (jobAt journal (getD table 0 0)) (getD table 0 0) index) (fresh : jobHas (setAt table (signedOf v)) job ≡ false)
+        (hw : InWords (setAt table (heldOf v))) (sw : InWords (setAt table (signedOf v))) where
+      inputs-is : getD journal (100 * job + 2) 0 ≡ jobAt journal (getD table 0 0) job .inputs
+      unfolding jobAt recordAt slotAt jobOf
+      inputs-is =
+          sym (simp (booked-is job ∙ lt-ltb _ _ known) (getD-take 100 (drop (100 * job) journal) 2 0 (omega arith) ∙ getD-drop (100 * job) journal 2 0))
+
+      -- the index answers as the vault does
+      checked : admissionBy index (getD journal (100 * job + 2) 0) (setAt table (heldOf v)) (setAt table (signedOf v)) job
+          ≡ admissionAt (record { held = setAt table (heldOf v); signed = setAt table (signedOf v) }) journal (getD table 0 0) job
+      unfolding admissionAt
+      checked =
+          ap (λ (m : ℕ). admissionBy index m (setAt table (heldOf v)) (setAt table (signedOf v)) job) inputs-is
+          ∙ by-index (jobAt journal (getD table 0 0)) (getD table 0 0) index x job known (ok .booked) (setAt table (heldOf v)) (setAt table (signedOf v)) hw sw
+          ∙ ap (λ (t : JobSet). admission (jobAt journal (getD table 0 0)) (getD table 0 0) (setAt table (heldOf v)) t (jobAt journal (getD table 0 0) job)) (sym (job-without-absent (setAt table (signedOf v)) job fresh))
+
+      -- what the vault answers
+      consults : consulted (ledgerIn s table) journal v job
+          ≡ (let a = consented (admissionBy index (getD journal (100 * job + 2) 0) (setAt table (heldOf v)) (setAt table (signedOf v)) job) (record { held = setAt table (heldOf v); signed = setAt table (signedOf v) }) job in
+            preflighted (a .consent) (a .vault) (ledgerIn s table) v job)
+      unfolding consulted vaultPreflight ledgerIn
+      consults = simp (vault, fresh, checked)
+
+      pub consult-refused : (why : Refusal) → admissionBy index (getD journal (100 * job + 2) 0) (setAt table (heldOf v)) (setAt table (signedOf v)) job ≡ Fail why
+          → (consulted (ledgerIn s table) journal v job ≡ answer s (Refused why) table) × Same table table
+      consult-refused why e = (consults ∙ simp e, same-refl table)
+
+      pub consult-signed : admissionBy index (getD journal (100 * job + 2) 0) (setAt table (heldOf v)) (setAt table (signedOf v)) job ≡ Pass
+          → (after : List ℕ) (r : ℕ) → Countersigned table (signedOf v) (setAt table (signedOf v)) v job after r
+          → (consulted (ledgerIn s table) journal v job ≡ answer s (Done r) after) × Same table after
+      unfolding signing
+      consult-signed e after r d =
+          let t : JobSet = jobWith (setAt table (signedOf v)) job in
+          let mid : List ℕ = storing table (signedOf v) t in
+          let next : Ledger = countersigned (withVault (ledgerIn s table) v (record { held = setAt table (heldOf v); signed = t })) v job in
+          let led : ledgerIn s after ≡ next =
+            ap (ledgerIn s) (d .stored) ∙ signature-stored s mid v job small ∙ ap (λ (l : Ledger). countersigned l v job) (signed-stored s table (ok .size) v few t) in
+          let votes : r ≡ ones (signersOf next job) = d .votes ∙ ap ones (sym (signed-is s after job small)) ∙ ap (λ (l : Ledger). ones (signersOf l job)) led in
+          (consults ∙ simp e (sym (simp (led, votes))), rw (d .stored) (same-trans (same-storing table (signedOf v) t (omega arith) (omega arith)) (same-vote mid (66 + job) _ (omega arith) (omega (arith, small)))))
+
+  pub preflight-is : (v job : ℕ) → vaultGate (ledgerIn s table) journal v job false ≡ Pass → preflightOf (ledgerIn s table) journal v job ≡ consulted (ledgerIn s table) journal v job
+  unfolding preflightOf
+  preflight-is v job e = simp e
+
+  pub preflight-refused : (v job : ℕ) (why : Refusal) → vaultGate (ledgerIn s table) journal v job false ≡ Fail why
+      → (preflightOf (ledgerIn s table) journal v job ≡ answer s (Refused why) table) × Same table table
+  unfolding preflightOf
+  preflight-refused v job why e = (simp e, same-refl table)

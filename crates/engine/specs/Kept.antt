@@ -5,12 +5,16 @@ use mathlib.Core.List.{List}
 use mathlib.Core.Path.{_≡_}
 use Prim.Native.Nat.{_+_, _<_, _≤_, ℕ}
 use lib.Dec.{eqb}
-use lib.ListN.{getD, length}
+use lib.Count.{ones}
+use lib.ListN.{getD, length, set}
 use Rattle.base.specs.Search.{anyBelow, firstBelow}
 use Rattle.outcome.specs.declared.Outcome.{Outcome}
 use Rattle.outcome.specs.declared.Verdict.the-variants.{Pass}
 use Rattle.record.specs.Checks.{examined}
 use Rattle.record.specs.declared.Job.{Job}
+use Rattle.sets.specs.Bits.{withMember}
+use Rattle.sets.specs.Jobs.{jobWith}
+use Rattle.sets.specs.declared.job_set.JobSet.{JobSet}
 use Rattle.ledger.specs.Federation.{isLawful}
 use Rattle.ledger.specs.Generations.{generationAt}
 use Rattle.ledger.specs.Journal.{jobAt, slotAt}
@@ -18,7 +22,7 @@ use Rattle.ledger.specs.declared.Reply.{Reply}
 use Rattle.ledger.specs.declared.Settings.{Settings}
 use Rattle.index.specs.Sieve.{Sieved}
 use Rattle.index.specs.Slots.{Indexed}
-use Rattle.engine.specs.Layout.{agesIn, ledgerIn, orderIn, tableSize}
+use Rattle.engine.specs.Layout.{agesIn, ledgerIn, orderIn, storing, tableSize}
 
 -- a table that a step may be asked of
 pub record Sound (s : Settings) (table : List ℕ) : Type 0 where
@@ -52,6 +56,11 @@ pub record Same (table after : List ℕ) : Type 0 where
   pub arrivals : getD after 1 0 ≡ getD table 1 0
   pub order : orderIn after ≡ orderIn table
   pub ages : agesIn after ≡ agesIn table
+
+-- the job joined the set of signed jobs at a place, the vault those that signed the job, and r counts them
+pub record Countersigned (table : List ℕ) (at : ℕ) (signed : JobSet) (v job : ℕ) (after : List ℕ) (r : ℕ) : Type 0 where
+  pub stored : after ≡ set (storing table at (jobWith signed job)) (66 + job) (withMember 16 (getD (storing table at (jobWith signed job)) (66 + job) 0) v)
+  pub votes : r ≡ ones (getD after (66 + job) 0)
 
 -- a step was answered so, and left the ledger in the table
 abbrev pub answer : Settings → Outcome → List ℕ → Reply

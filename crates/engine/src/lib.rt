@@ -1,4 +1,6 @@
 // The ledger's steps on tables that the run keeps: each is the ledger's own step, by the index and without a copy.
 mod faulty;
 mod gates;
+mod preflight;
+mod show;
 mod table;

@@ -6,7 +6,7 @@ use mathlib.Core.Bool.{Bool, _&&_, _||_, cond, false, not, true, true≢false}
 use mathlib.Core.Logic.{_≢_}
 use mathlib.Core.Path.{_∙_, _≡_, ap, refl, sym}
 use Prim.Native.Nat.{_%_, _*_, _+_, _-_, _/_, _<_, _^_, _≤_, max, min, suc, zero, ℕ}
-use native.Mathlib.Nat.{add-comm, div-div-eq-div-mul, div-eq-of-lt, div-mul-le-self, div-one, le-refl, le-trans, mod-le, mul-assoc, mul-comm, mul-le-mul-right, one-mul, pow-suc}
+use native.Mathlib.Nat.{add-comm, div-div-eq-div-mul, div-eq-of-lt, div-mul-le-self, div-one, le-refl, le-trans, mod-le, mul-assoc, mul-comm, mul-le-mul-right, one-mul, pow-suc, sub-zero, zero-mul}
 use native.Mathlib.Numerals.{add-one}
 use native.Mathlib.Omega.{arith}
 use lib.Arith.{lt-one}
@@ -246,6 +246,10 @@ has-without-same s i = absent-of-bit (withoutBit s i) i (bit-without-same s i)
 
 pub has-without-other : (s i j : ℕ) → j ≢ i → hasBit (withoutBit s i) j ≡ hasBit s j
 has-without-other s i j ne = has-of-bit (withoutBit s i) s j j (bit-without-other s i j ne)
+
+pub without-absent : (s i : ℕ) → hasBit s i ≡ false → withoutBit s i ≡ s
+unfolding withoutBit
+without-absent s i h = simp (bit-absent s i h, zero-mul, sub-zero)
 
 pub without-lt : (k s i : ℕ) → s < 2 ^ k → withoutBit s i < 2 ^ k
 unfolding withoutBit

@@ -14,7 +14,7 @@ use Rattle.base.proofs.Reflect.{reflect-as, reflect-or, reflect-true, reflects-
 use Rattle.base.proofs.Search.{reflect-any, sum-append, sum-from, sum-same}
 use Rattle.base.specs.Reflect.{Reflects}
 use Rattle.base.specs.Search.{Every, Some, anyBelow, sumFrom}
-use Rattle.sets.proofs.Bits.{bit-of-has, has-common, has-none, has-union, has-with-other, has-with-same, has-without-other, has-without-same, members-same, ones-counts, ones-with, reflect-some, with-again, with-lt, without-lt}
+use Rattle.sets.proofs.Bits.{bit-of-has, has-common, has-none, has-union, has-with-other, has-with-same, has-without-other, has-without-same, members-same, ones-counts, ones-with, reflect-some, with-again, with-lt, without-absent, without-lt}
 use Rattle.sets.specs.Bits.{bit, hasBit, withBit, withoutBit}
 use Rattle.sets.specs.Jobs.{InWords, changeAt, jobCount, jobHas, jobUnion, jobWith, jobWithout, jobsMeet, noJobs}
 use Rattle.sets.specs.declared.job_set.JobSet.{JobSet}
@@ -108,6 +108,16 @@ job-without-same s i = go (ltb i 64) (ltb i 128) refl refl
 pub job-without-other : (s : JobSet) (i j : ℕ) → j ≢ i → jobHas (jobWithout s i) j ≡ jobHas s j
 unfolding jobWithout
 job-without-other = change-other withoutBit has-without-other
+
+-- a job that is no member is not taken away
+pub job-without-absent : (s : JobSet) (i : ℕ) → jobHas s i ≡ false → jobWithout s i ≡ s
+unfolding jobHas jobWithout
+job-without-absent s i h = go (ltb i 64) (ltb i 128) refl refl h
+  where
+    go : (a b : Bool) → ltb i 64 ≡ a → ltb i 128 ≡ b → cond a (hasBit (s .low) i) (cond b (hasBit (s .high) (i - 64)) false) ≡ false → changeAt withoutBit s i ≡ s
+    go true b ea eb e = simp (ea, without-absent (s .low) i e)
+    go false true ea eb e = simp (ea, eb, without-absent (s .high) (i - 64) e)
+    go false false ea eb e = simp (ea, eb)
 
 pub job-union-has : (a b : JobSet) (i : ℕ) → jobHas (jobUnion a b) i ≡ (jobHas a i || jobHas b i)
 unfolding jobHas jobUnion

@@ -19,7 +19,7 @@ meets-requires c κs = search needs
 
 returns : tie.Need-returns
 unfolding metAt
-returns c = simp (c .meets .ensures, c .before .set-at .ensures)
+returns c = simp (c .meets .ensures, c .before .set-at .ensures .0)
 
 pub met-at-spec : {M : Type 1} → statement M
 met-at-spec = tie.close (tie.spec mul-set-at add-set-at set-at-requires meets-requires returns)

@@ -25,7 +25,7 @@ union-requires : tie.Need-union-requires
 union-requires c κs = search needs
 
 returns : tie.Need-returns
-returns c = simp (sym (c .before .before .before .before .before .used .ensures) ∙ c .before .before .before .before .if1 .taken, ← c .before .before .before .label .ensures, ← c .before .before .bucket .ensures .0, ← c .before .set-at .ensures) (c .union .ensures)
+returns c = simp (sym (c .before .before .before .before .before .used .ensures) ∙ c .before .before .before .before .if1 .taken, ← c .before .before .before .label .ensures, ← c .before .before .bucket .ensures .0, ← c .before .set-at .ensures .0) (c .union .ensures)
 
 returns-2 : tie.Need-returns-2
 returns-2 c = search chain depth 8

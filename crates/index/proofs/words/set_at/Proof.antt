@@ -1,30 +1,40 @@
 -- Two words that stand in the table.
 -- Assumes nothing.
-use mathlib.Core.Path.{refl}
 use borrow.Author.Needs.{needs}
 use Rattle.index.proofs.words.set_at.Statement.{statement}
 use Rattle.index.specs.Words.{setAt}
 use Rattle.index.proofs.words.set_at.Tie as tie
 
-mul-t3 : tie.Need-mul-t3
-mul-t3 c = search needs
+mul-in-words : tie.Need-mul-in-words
+mul-in-words c = search needs
 
-shared-slice-read-t5 : tie.Need-shared-slice-read-t5
-shared-slice-read-t5 c = search needs
+shared-slice-read-in-words : tie.Need-shared-slice-read-in-words
+shared-slice-read-in-words c = search needs
 
-add-t6 : tie.Need-add-t6
-add-t6 c = search needs
+add-in-words : tie.Need-add-in-words
+add-in-words c = search needs
 
-mul-t7 : tie.Need-mul-t7
-mul-t7 c = search needs
+mul-in-words-2 : tie.Need-mul-in-words-2
+mul-in-words-2 c = search needs
 
-shared-slice-read-t9 : tie.Need-shared-slice-read-t9
-shared-slice-read-t9 c = search needs
+shared-slice-read-in-words-2 : tie.Need-shared-slice-read-in-words-2
+shared-slice-read-in-words-2 c = search needs
+
+in-words-requires : tie.Need-in-words-requires
+in-words-requires c κs = search needs
 
 returns : tie.Need-returns
 unfolding setAt
-returns c = refl
+returns c = c .in-words .ensures
 
 pub set-at-spec : {M : Type 1} → statement M
 set-at-spec =
-    tie.close (tie.spec mul-t3 shared-slice-read-t5 add-t6 mul-t7 shared-slice-read-t9 returns)
+    tie.close
+    (tie.spec
+    mul-in-words
+    shared-slice-read-in-words
+    add-in-words
+    mul-in-words-2
+    shared-slice-read-in-words-2
+    in-words-requires
+    returns)

@@ -1,0 +1,63 @@
+//! Document 01's run program, written for speed.
+//!
+//! State is changed in place, sets are bits, and what the checks ask is kept in an index as records are booked, so that no
+//! step scans the journal.
+mod draw;
+mod federation;
+mod index;
+mod ledger;
+mod record;
+mod repeats;
+mod table;
+mod text;
+
+use federation::Federation;
+use ledger::Ledger;
+use text::{Answer, Lines};
+
+/// The longest run file.
+pub const LONGEST: usize = 65_536;
+
+/// Leaves in `out` the text that is printed for the run file.
+pub fn run(input: &[u8], out: &mut Vec<u8>) {
+    out.clear();
+    match Federation::read(input) {
+        Some((federation, steps)) => take_steps(Ledger::new(federation), steps, out),
+        None => out.extend_from_slice(b"0 1 0\n"),
+    }
+}
+
+fn take_steps<'a>(mut ledger: Ledger<'a>, mut rest: &'a [u8], out: &mut Vec<u8>) {
+    let mut lines = Lines::new(out, rest.len());
+    while !rest.is_empty() {
+        match step(&mut ledger, rest) {
+            Some((answer, after)) => {
+                lines.put(answer);
+                rest = after;
+            }
+            None => return lines.put(Answer::refused(2, 0)),
+        }
+    }
+}
+
+/// Takes the first step and answers what follows it; none where its kind is unknown or its body cut short.
+#[inline(always)]
+fn step<'a>(ledger: &mut Ledger<'a>, rest: &'a [u8]) -> Option<(Answer, &'a [u8])> {
+    Some(match *rest {
+        [1, ref body @ ..] => {
+            let (record, rest) = body.split_first_chunk()?;
+            (ledger.propose(record), rest)
+        }
+        [2, vault, job, ref rest @ ..] => (ledger.preflight(vault, job), rest),
+        [3, vault, job, low, high, ref rest @ ..] => {
+            let signers = u16::from_le_bytes([low, high]);
+            (ledger.commit(vault, job, signers), rest)
+        }
+        [4, vault, job, ref rest @ ..] => (ledger.faulty_signature(vault, job), rest),
+        [5, vault, job, ref rest @ ..] => (ledger.faulty_acknowledgement(vault, job), rest),
+        [6, job, ref rest @ ..] => (ledger.show(job), rest),
+        [7, absent, ref rest @ ..] => (ledger.draw(absent), rest),
+        [8, job, ref rest @ ..] => (ledger.generations(job), rest),
+        _ => return None,
+    })
+}

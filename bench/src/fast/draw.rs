@@ -1,0 +1,60 @@
+//! The chance that a random quorum fails, worked out at compile time for all settings.
+
+/// Bounds on the faulty vaults and absent vaults for up to 16 vaults.
+const SETTINGS: usize = 17 * 6 * 17;
+static CHANCES: [u16; SETTINGS] = chances();
+
+/// In thousandths, halves rounded up. `absent` is at most n.
+#[inline]
+pub fn chance(n: u8, b: u8, absent: u8) -> u16 {
+    CHANCES[place(n as usize, b as usize, absent as usize)]
+}
+
+const fn place(n: usize, b: usize, absent: usize) -> usize {
+    (n * 6 + b) * 17 + absent
+}
+
+const fn choose(upper: usize, lower: usize) -> usize {
+    if lower > upper {
+        return 0;
+    }
+    let mut ways = 1;
+    let mut i = 0;
+    while i < lower {
+        ways = ways * (upper - i) / (i + 1);
+        i += 1;
+    }
+    ways
+}
+
+const fn thousandths(n: usize, b: usize, absent: usize) -> u16 {
+    let all = choose(n, n - b);
+    let failing = all - choose(n - absent, n - b);
+    ((2000 * failing + all) / (2 * all)) as u16
+}
+
+const fn chances() -> [u16; SETTINGS] {
+    let mut chances = [0; SETTINGS];
+    let mut cell = 0;
+    while cell < SETTINGS {
+        let (n, b, absent) = (cell / 102, cell / 17 % 6, cell % 17);
+        if 3 * b < n && absent <= n {
+            chances[cell] = thousandths(n, b, absent);
+        }
+        cell += 1;
+    }
+    chances
+}
+
+#[cfg(test)]
+mod tests {
+    use super::*;
+
+    #[test]
+    fn worked_cases() {
+        assert_eq!(chance(4, 1, 0), 0);
+        assert_eq!(chance(4, 1, 1), 750);
+        assert_eq!(chance(16, 3, 1), 813);
+        assert_eq!(chance(16, 5, 16), 1000);
+    }
+}

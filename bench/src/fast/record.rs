@@ -1,0 +1,163 @@
+//! Job records and checks 6 to 9.
+use super::text::Answer;
+
+pub type Record = [u8; 100];
+
+#[derive(Clone, Copy, Default)]
+pub struct Entry {
+    /// The eight bytes of the label, the first in the low byte.
+    pub label: u64,
+    pub frames: u32,
+}
+
+/// A record that has been read: its used entries, inputs first, in their places.
+pub struct Job {
+    entries: [Entry; 8],
+    drive: u8,
+    inputs: usize,
+    outputs: usize,
+}
+
+/// The media that each drive reads and writes, bit 0 for L5; drives from 5.
+const READS: [u8; 5] = [0b00001, 0b00011, 0b00111, 0b01100, 0b11000];
+const WRITES: [u8; 5] = [0b00001, 0b00011, 0b00110, 0b01100, 0b11000];
+
+impl Job {
+    /// The job in a record that passes checks 6 to 9.
+    pub fn examine(record: &Record) -> Result<Job, Answer> {
+        let job = Job::read(record).ok_or(Answer::refused(6, 0))?;
+        if let Some(entry) = job.repeated_label() {
+            return Err(Answer::refused(7, entry));
+        }
+        if let Some(entry) = job.foreign_medium() {
+            return Err(Answer::refused(8, entry));
+        }
+        if !job.is_balanced() {
+            return Err(Answer::refused(9, 0));
+        }
+        Ok(job)
+    }
+
+    pub fn inputs(&self) -> &[Entry] {
+        &self.entries[..self.inputs]
+    }
+
+    pub fn outputs(&self) -> &[Entry] {
+        &self.entries[4..4 + self.outputs]
+    }
+
+    /// None where the record is malformed.
+    fn read(record: &Record) -> Option<Job> {
+        let (&[kind, drive, inputs, outputs], entries) = record.split_first_chunk()?;
+        let inputs_fit = match kind {
+            0 => inputs == 0,
+            1 => matches!(inputs, 1..=4),
+            _ => false,
+        };
+        if !inputs_fit || !matches!(outputs, 1..=4) || !matches!(drive, 5..=9) {
+            return None;
+        }
+        let mut job = Job {
+            entries: [Entry::default(); 8],
+            drive,
+            inputs: usize::from(inputs),
+            outputs: usize::from(outputs),
+        };
+        for (i, bytes) in entries.chunks_exact(12).enumerate() {
+            let entry = read_entry(bytes);
+            let used = job.is_used(i);
+            if used != is_proper(entry) || (!used && (entry.label != 0 || entry.frames != 0)) {
+                return None;
+            }
+            job.entries[i] = entry;
+        }
+        Some(job)
+    }
+
+    fn is_used(&self, i: usize) -> bool {
+        i < self.inputs || (4 <= i && i < 4 + self.outputs)
+    }
+
+    fn used(&self) -> impl Iterator<Item = usize> {
+        (0..self.inputs).chain(4..4 + self.outputs)
+    }
+
+    /// Check 7. An unused entry has no label that a used one could have.
+    fn repeated_label(&self) -> Option<usize> {
+        let labels = self.entries.map(|entry| entry.label);
+        self.used().find(|&i| labels[..i].contains(&labels[i]))
+    }
+
+    /// Check 8. Only the outputs of a migration are written.
+    fn foreign_medium(&self) -> Option<usize> {
+        let drive = usize::from(self.drive - 5);
+        self.used().find(|&i| {
+            let written = 4 <= i && self.inputs > 0;
+            let media = if written { WRITES[drive] } else { READS[drive] };
+            media >> (medium(self.entries[i].label) - b'5') & 1 == 0
+        })
+    }
+
+    /// Check 9.
+    fn is_balanced(&self) -> bool {
+        self.inputs == 0 || frames(self.inputs()) == frames(self.outputs())
+    }
+}
+
+fn read_entry(bytes: &[u8]) -> Entry {
+    let (label, frames) = bytes.split_at(8);
+    Entry {
+        label: u64::from_le_bytes(label.try_into().expect("eight bytes")),
+        frames: u32::from_le_bytes(frames.try_into().expect("four bytes")),
+    }
+}
+
+fn frames(entries: &[Entry]) -> u64 {
+    entries.iter().map(|entry| u64::from(entry.frames)).sum()
+}
+
+fn medium(label: u64) -> u8 {
+    (label >> 56) as u8
+}
+
+fn is_proper(entry: Entry) -> bool {
+    entry.frames > 0 && is_label(entry.label)
+}
+
+const HIGH_BITS: u64 = 0x8080_8080_8080_8080;
+
+/// The high bits of those bytes that lie between two characters. All bytes are below 128, so no sum carries.
+fn between(bytes: u64, first: u8, last: u8) -> u64 {
+    let at_least = bytes + u64::from_ne_bytes([0x80 - first; 8]);
+    let above = bytes + u64::from_ne_bytes([0x7f - last; 8]);
+    at_least & !above & HIGH_BITS
+}
+
+fn is_label(label: u64) -> bool {
+    let name = HIGH_BITS >> 16;
+    label & HIGH_BITS == 0
+        && (between(label, b'A', b'Z') | between(label, b'0', b'9')) & name == name
+        && (label >> 48) as u8 == b'L'
+        && matches!(medium(label), b'5'..=b'9')
+}
+
+#[cfg(test)]
+mod tests {
+    use super::*;
+
+    #[test]
+    fn every_byte_of_a_label() {
+        for place in 0..8 {
+            for byte in 0..=255u8 {
+                let mut label = *b"VAA009L5";
+                label[place] = byte;
+                let allowed = match place {
+                    6 => byte == b'L',
+                    7 => matches!(byte, b'5'..=b'9'),
+                    _ => byte.is_ascii_uppercase() || byte.is_ascii_digit(),
+                };
+                assert_eq!(is_label(u64::from_le_bytes(label)), allowed);
+            }
+        }
+    }
+}

@@ -1,0 +1,76 @@
+//! The run files that are measured. Each is lawful, and as long as document 01 allows where length is the point.
+mod deep_chain;
+mod growing;
+mod late;
+mod mixed;
+mod mixed_preflights;
+mod repeats;
+mod scramble;
+mod shared_labels;
+mod tapes;
+mod writer;
+
+pub use growing::growing;
+use writer::Run;
+
+pub struct File {
+    pub name: String,
+    pub bytes: Vec<u8>,
+    /// For each step, the refusal that it is meant to get, 0 where it is meant to be accepted.
+    pub intended: Vec<u8>,
+    /// How many steps prepare the ledger for the others.
+    pub preparation: usize,
+}
+
+impl File {
+    pub fn steps(&self) -> usize {
+        self.intended.len()
+    }
+
+    /// The file without the steps from the one of this number on, which is counted from 0.
+    pub fn cut(mut self, steps: usize) -> File {
+        self.intended.truncate(steps);
+        let mut end = 9;
+        for _ in &self.intended {
+            end += step_size(self.bytes[end]);
+        }
+        self.bytes.truncate(end);
+        self
+    }
+
+    /// How many steps are meant to get the refusal.
+    pub fn refused(&self, refusal: u8) -> usize {
+        self.intended.iter().filter(|&&r| r == refusal).count()
+    }
+}
+
+/// How many bytes a step of the kind has.
+fn step_size(kind: u8) -> usize {
+    match kind {
+        1 => 101,
+        3 => 5,
+        2 | 4 | 5 => 3,
+        _ => 2,
+    }
+}
+
+/// How many jobs are booked in the files that show how the cost grows.
+pub const SIZES: [usize; 8] = [1, 2, 4, 8, 16, 32, 64, 128];
+
+/// The files of the first table.
+pub fn measured() -> Vec<File> {
+    vec![
+        late::file(),
+        mixed_preflights::file(),
+        deep_chain::file(),
+        repeats::file(),
+        shared_labels::file(),
+        mixed::file(),
+        Run::new(16, 5, 0).named("header_only"),
+    ]
+}
+
+/// The files of the second table.
+pub fn growth() -> Vec<File> {
+    SIZES.iter().map(|&booked| growing(booked)).collect()
+}

@@ -1,0 +1,166 @@
+//! Compares the reference with the proved program, linked in and as an
+//! executable: `compare EXECUTABLE [COUNT [FIRST_SEED]]`.
+
+mod case;
+mod proved;
+mod tally;
+
+use case::Case;
+use reference::register::Register;
+use reference::run::{lines, print, Line};
+use std::panic::catch_unwind;
+use std::process::ExitCode;
+use std::sync::atomic::{AtomicUsize, Ordering};
+use tally::Tally;
+
+const THREADS: usize = 2;
+const PROCESS_FILES: u64 = 200;
+
+fn main() -> ExitCode {
+    let arguments: Vec<String> = std::env::args().collect();
+    let Some(executable) = arguments.get(1) else {
+        eprintln!("usage: compare EXECUTABLE [COUNT [FIRST_SEED]]");
+        return ExitCode::from(2);
+    };
+    let number = |i: usize, otherwise| match arguments.get(i) {
+        Some(word) => word.parse().expect("COUNT and FIRST_SEED are numbers"),
+        None => otherwise,
+    };
+    match compare(executable, number(2, 4000), number(3, 0)) {
+        Ok(()) => ExitCode::SUCCESS,
+        Err(difference) => {
+            println!("{difference}");
+            ExitCode::FAILURE
+        }
+    }
+}
+
+fn compare(executable: &str, count: u64, first: u64) -> Result<(), String> {
+    let whole = reference::whole_run();
+    proved::short_of_room(&whole, reference::whole_text().as_bytes())?;
+
+    let mut cases = case::seeds(first, count);
+    cases.extend(case::prefixes());
+    cases.extend(case::changes());
+    let tally = over(&cases, &in_process)?;
+    println!("in process: {} files agree", cases.len());
+
+    let mut cases = vec![Case::Prefix(whole.len())];
+    cases.extend(case::prefixes());
+    cases.extend(case::seeds(first, PROCESS_FILES));
+    over(&cases, &|case, _| as_process(executable, case))?;
+    println!("as processes: {} files agree", cases.len());
+
+    tally.print();
+    let missing = tally.missing();
+    if !missing.is_empty() {
+        return Err(format!("never occurred: {}", missing.join(", ")));
+    }
+    Ok(())
+}
+
+/// Compares on one case; the reference's lines if both agree.
+type Comparison<'a> = dyn Fn(&Case, &mut [u8]) -> Result<Vec<Line>, String> + Sync + 'a;
+
+/// Where in the list the cases differ, and how.
+type Difference = (usize, String);
+
+/// Goes through the cases with a few threads. The difference reported is
+/// the first in the list, whichever thread meets it.
+fn over(cases: &[Case], comparison: &Comparison) -> Result<Tally, String> {
+    let first_wrong = AtomicUsize::new(usize::MAX);
+    let first_wrong = &first_wrong;
+    let results: Vec<_> = std::thread::scope(|scope| {
+        let threads: Vec<_> = (0..THREADS)
+            .map(|t| scope.spawn(move || share(cases, t, first_wrong, comparison)))
+            .collect();
+        threads.into_iter().map(|t| t.join().unwrap()).collect()
+    });
+    let mut tally = Tally::default();
+    let mut wrong: Option<Difference> = None;
+    for result in results {
+        match result {
+            Ok(part) => tally.add(&part),
+            Err(found) => wrong = wrong.into_iter().chain([found]).min(),
+        }
+    }
+    match wrong {
+        Some((_, difference)) => Err(difference),
+        None => Ok(tally),
+    }
+}
+
+/// One thread's share of the cases: every second one, say.
+fn share(
+    cases: &[Case],
+    thread: usize,
+    first_wrong: &AtomicUsize,
+    comparison: &Comparison,
+) -> Result<Tally, Difference> {
+    let mut out = vec![0; proved::LONGEST_TEXT];
+    let mut tally = Tally::default();
+    for i in (thread..cases.len()).step_by(THREADS) {
+        if i > first_wrong.load(Ordering::Relaxed) {
+            break;
+        }
+        let lines = comparison(&cases[i], &mut out).map_err(|difference| {
+            first_wrong.fetch_min(i, Ordering::Relaxed);
+            (i, difference)
+        })?;
+        if let Case::Seed(_) = cases[i] {
+            tally.count(&lines);
+        }
+    }
+    Ok(tally)
+}
+
+fn in_process(case: &Case, out: &mut [u8]) -> Result<Vec<Line>, String> {
+    let file = case.file();
+    let lines = reference_lines(case, &file)?;
+    let found = proved::text(&file, out).map_err(|why| report(case, &why))?;
+    agree(case, &print(&lines), found)?;
+    Ok(lines)
+}
+
+fn as_process(executable: &str, case: &Case) -> Result<Vec<Line>, String> {
+    let file = case.file();
+    let lines = reference_lines(case, &file)?;
+    let found = proved::whole_process(executable, &file).map_err(|why| report(case, &why))?;
+    agree(case, &print(&lines), &found)?;
+    Ok(lines)
+}
+
+/// The reference's lines; its register may stop it, loudly.
+fn reference_lines(case: &Case, file: &[u8]) -> Result<Vec<Line>, String> {
+    catch_unwind(|| lines(file, Some(Register::default())))
+        .map_err(|_| report(case, "the reference stopped, see above"))
+}
+
+fn report(case: &Case, what: &str) -> String {
+    let (name, command) = (case.name(), case.command());
+    format!("DIFFERENCE: {name}\n{what}\nmade again by: {command}")
+}
+
+/// The texts must be the same, byte for byte.
+fn agree(case: &Case, expected: &[u8], found: &[u8]) -> Result<(), String> {
+    if expected == found {
+        return Ok(());
+    }
+    let mut ours = expected.split_inclusive(|byte| *byte == b'\n');
+    let mut theirs = found.split_inclusive(|byte| *byte == b'\n');
+    let (a, b) = loop {
+        let (a, b) = (ours.next(), theirs.next());
+        if a != b {
+            break (shown(a), shown(b));
+        }
+    };
+    let what = format!("reference: {a}\nproved:    {b}");
+    Err(report(case, &what))
+}
+
+fn shown(line: Option<&[u8]>) -> String {
+    match line {
+        Some(line) => format!("{:?}", String::from_utf8_lossy(line)),
+        None => "(no line)".to_string(),
+    }
+}

@@ -1,0 +1,54 @@
+// Kind 2: a correct vault is asked to sign a job.
+ghost use mathlib.Core.Path.{_≡_};
+ghost use Prim.Native.Nat.{_<_};
+ghost use lib.ListN.{getD, length};
+ghost use Rattle.ledger.specs.Journal.{jobAt};
+ghost use Rattle.ledger.specs.Steps.{consulted, preflightOf};
+ghost use Rattle.index.specs.Slots.{Indexed};
+ghost use Rattle.engine.specs.Kept.{Countersigned, Same, Sound, answer};
+ghost use Rattle.engine.specs.Layout.{ledgerIn};
+use crate::gates;
+use crate::table;
+use ledger::Settings;
+use outcome::Outcome;
+use outcome::Verdict;
+use sets::JobSet;
+
+// A fresh signature, kept by the vault whose signed jobs stand at `at`, and recorded.
+fn countersign(table: &mut [u64], at: usize, signed: JobSet, v: u8, job: usize) -> u32
+    requires { ⌜ (length (now table) ≡ 578) × (at < 66) × (v < 16) × (job < 128) ⌝ }
+    ensures { λ r. ⌜ Countersigned (now (table .entry)) at signed v job (now (table .exit)) r ⌝ }
+{
+    table::store(table, at, signed.with(job));
+    let votes = table::SIGNATURES + job;
+    table::join(table, votes, v);
+    table::count(&table[..], votes)
+}
+
+// Checks 11 to 14, by the index.
+fn consult(settings: Settings, table: &mut [u64], journal: &[u8], index: &[u64], v: u8, job: usize) -> Outcome
+    requires { ⌜ Sound settings (now table) × (length (now journal) ≡ 12800) × Indexed (jobAt (now journal) (getD (now table) 0 0)) (getD (now table) 0 0) (now index) × (v < 16) × (job < getD (now table) 0 0) ⌝ }
+    ensures { λ r. ⌜ (consulted (ledgerIn settings (now (table .entry))) (now (journal .entry)) v job ≡ answer settings r (now (table .exit))) × Same (now (table .entry)) (now (table .exit)) ⌝ }
+{
+    let at = 2 + 4 * v as usize;
+    let held = index::set_at(&table[..], at);
+    let signed = index::set_at(&table[..], at + 2);
+    if signed.has(job) {
+        return Outcome::Done(table::count(&table[..], table::SIGNATURES + job));
+    }
+    let inputs = journal[100 * job + 2] as usize;
+    match index::admission(index, inputs, held, signed, job) {
+        Verdict::Pass => Outcome::Done(countersign(table, at + 2, signed, v, job)),
+        Verdict::Fail(why) => Outcome::Refused(why),
+    }
+}
+
+pub fn preflight(settings: Settings, table: &mut [u64], journal: &[u8], index: &[u64], v: u8, job: u8) -> Outcome
+    requires { ⌜ Sound settings (now table) × (length (now journal) ≡ 12800) × Indexed (jobAt (now journal) (getD (now table) 0 0)) (getD (now table) 0 0) (now index) ⌝ }
+    ensures { λ r. ⌜ (preflightOf (ledgerIn settings (now (table .entry))) (now (journal .entry)) v job ≡ answer settings r (now (table .exit))) × Same (now (table .entry)) (now (table .exit)) ⌝ }
+{
+    match gates::vault_gate(settings, &table[..], journal, v, job, false) {
+        Verdict::Pass => consult(settings, table, journal, index, v, job as usize),
+        Verdict::Fail(why) => Outcome::Refused(why),
+    }
+}

@@ -1,0 +1,159 @@
+//! Traffic that makes sense, with its repeats and small mistakes.
+
+use super::build::Builder;
+use super::records::{accession, migration, some_tapes};
+use crate::step::Step;
+
+pub fn traffic(builder: &mut Builder) {
+    let actions = builder.random.between(5, 60);
+    for _ in 0..actions {
+        action(builder);
+    }
+}
+
+pub fn action(builder: &mut Builder) {
+    let job = recent_job(builder);
+    match builder.random.below(24) {
+        0..=2 => {
+            let record = accession(builder);
+            builder.push(record);
+        }
+        3..=7 => migrate(builder),
+        8 => {
+            let record = accession(builder);
+            builder.propose(record);
+        }
+        9 => builder.sign_around(job, 60),
+        10 => builder.hold_around(job, 50),
+        11 | 12 => {
+            let vault = builder.any_vault();
+            let _ = builder.sign(vault, job);
+        }
+        13 => {
+            let vault = builder.any_vault();
+            let _ = builder.hold(vault, job);
+        }
+        14 | 15 => odd_commit(builder, job),
+        16 => repeat(builder, job),
+        17 => misplaced(builder, job),
+        _ => look(builder, job),
+    }
+}
+
+/// Mostly one of the last few jobs.
+fn recent_job(builder: &mut Builder) -> u8 {
+    let booked = builder.engine.book.len() as u64;
+    if booked == 0 || builder.random.chance(30) {
+        return builder.any_job();
+    }
+    (booked - 1 - builder.random.below(booked.min(4))) as u8
+}
+
+/// A migration of standing tapes, or of tapes some booked job would make.
+fn migrate(builder: &mut Builder) {
+    let mut tapes = builder.standing();
+    if tapes.is_empty() || builder.random.chance(15) {
+        let book = &builder.engine.book;
+        tapes = book
+            .iter()
+            .flat_map(|record| record.outputs.iter().map(|output| output.tape))
+            .collect();
+    }
+    if tapes.is_empty() {
+        return;
+    }
+    let inputs = some_tapes(&mut builder.random, &tapes, 4);
+    if let Some(record) = migration(builder, &inputs) {
+        builder.push(record);
+    }
+}
+
+/// A commit whose set of signers is not the real one.
+pub fn odd_commit(builder: &mut Builder, job: u8) {
+    let vault = builder.any_vault();
+    let real = builder.signers(job);
+    let one = 1u16 << builder.random.below(16);
+    let signers = match builder.random.below(8) {
+        0 | 1 => fewer(builder, real, 0),
+        2 | 3 => fewer(builder, real, 1),
+        4 => real ^ one,
+        5 => real.swap_bytes(),
+        6 => fewer(builder, real, 2) | one,
+        _ => builder.random.next() as u16,
+    };
+    let _ = builder.commit(vault, job, signers);
+}
+
+/// The set without some vaults, so that it is `short` below the threshold.
+fn fewer(builder: &mut Builder, set: u16, short: u64) -> u16 {
+    let aim = builder.engine.settings.threshold().saturating_sub(short);
+    let mut set = set;
+    for vault in builder.vaults() {
+        if u64::from(set.count_ones()) > aim {
+            set &= !(1 << vault);
+        }
+    }
+    set
+}
+
+/// Says once more what was said before.
+pub fn repeat(builder: &mut Builder, job: u8) {
+    let record = builder.engine.book.get(usize::from(job));
+    if let Some(record) = record.map(|record| record.bytes) {
+        builder.propose(record);
+    }
+    for _ in 0..2 {
+        let vault = builder.any_vault();
+        let _ = builder.sign(vault, job);
+        let _ = builder.hold(vault, job);
+        let _ = builder.hold(vault, job);
+        let _ = builder.sign(vault, job);
+    }
+}
+
+/// Vaults and jobs out of range, and steps at vaults of the wrong sort.
+pub fn misplaced(builder: &mut Builder, job: u8) {
+    let n = builder.engine.settings.n as u8;
+    let booked = builder.engine.book.len() as u8;
+    let vault = match builder.random.below(4) {
+        0 => n,
+        1 => builder.random.byte(),
+        _ => builder.any_vault(),
+    };
+    let job = match builder.random.below(4) {
+        0 => booked,
+        1 => builder.random.byte(),
+        _ => job,
+    };
+    let signers = builder.signers(job);
+    let _ = match builder.random.below(4) {
+        0 => builder.step(Step::Preflight { vault, job }),
+        1 => builder.commit(vault, job, signers),
+        2 => builder.step(Step::FaultySignature { vault, job }),
+        _ => builder.step(Step::FaultyAcknowledgement { vault, job }),
+    };
+    if builder.random.chance(30) {
+        let _ = builder.step(Step::Show { job });
+        let _ = builder.step(Step::Generations { job });
+    }
+}
+
+/// Steps that change nothing.
+pub fn look(builder: &mut Builder, job: u8) {
+    let _ = match builder.random.below(5) {
+        0 | 1 => builder.step(Step::Show { job }),
+        2 => {
+            let u = builder.random.below(builder.engine.settings.n + 2) as u8;
+            builder.step(Step::Draw { u })
+        }
+        _ => builder.step(Step::Generations { job }),
+    };
+}
+
+/// Shows every booked job and asks for its generations.
+pub fn look_at_all(builder: &mut Builder) {
+    for job in 0..builder.engine.book.len() as u8 {
+        let _ = builder.step(Step::Show { job });
+        let _ = builder.step(Step::Generations { job });
+    }
+}

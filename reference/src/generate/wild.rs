@@ -1,0 +1,73 @@
+//! Random kinds and bodies.
+
+use super::build::Builder;
+use super::damage::damaged_record;
+use super::records::accession;
+use super::traffic::{action, odd_commit};
+use crate::step::{decode, Step};
+
+/// Wild steps, and perhaps an unknown kind at the end.
+pub fn wild(builder: &mut Builder) {
+    tame(builder);
+    if builder.random.chance(70) {
+        let mut last: Vec<u8> = (0..builder.random.below(6))
+            .map(|_| builder.random.byte())
+            .collect();
+        last.insert(0, *builder.random.pick(&[0, 1, 2, 3, 9, 10, 128, 255]));
+        builder.bytes.extend(last);
+    }
+}
+
+/// Wild steps that are all well-formed.
+pub fn tame(builder: &mut Builder) {
+    for _ in 0..builder.random.between(5, 150) {
+        match builder.random.below(12) {
+            0 => action(builder),
+            1 => {
+                let job = builder.any_job();
+                odd_commit(builder, job);
+            }
+            2 => {
+                let record = accession(builder);
+                builder.propose(record);
+            }
+            3 => {
+                let record = damaged_record(builder);
+                builder.propose(record);
+            }
+            _ => {
+                let step = any_step(builder);
+                let _ = builder.step(step);
+            }
+        }
+    }
+}
+
+/// A step of any kind but 1; its bytes are mostly near what is in use.
+fn any_step(builder: &mut Builder) -> Step {
+    let kind = builder.random.between(2, 8) as u8;
+    let n = builder.engine.settings.n;
+    let booked = builder.engine.book.len() as u64;
+    let near = |builder: &mut Builder, bound: u64| {
+        if builder.random.chance(4) {
+            builder.random.byte()
+        } else {
+            builder.random.below(bound + 1) as u8
+        }
+    };
+    let first = if kind < 6 {
+        near(builder, n)
+    } else {
+        near(builder, booked.max(n))
+    };
+    let job = near(builder, booked);
+    let real = builder.signers(job);
+    let signers = match builder.random.below(3) {
+        0 => real,
+        1 => real & builder.random.next() as u16,
+        _ => builder.random.next() as u16 & builder.random.next() as u16,
+    };
+    let [low, high] = signers.to_le_bytes();
+    let bytes = [kind, first, job, low, high];
+    decode(&bytes).expect("kinds 2 to 8 have short bodies").0
+}

@@ -1,0 +1,20 @@
+//! A second, plain program for document 01, written from its words alone.
+//! It is slow where slow is simpler, and it is proved by nothing: it exists
+//! to be compared with the proved program.
+
+pub mod draw;
+pub mod engine;
+#[cfg(feature = "generator")]
+pub mod generate;
+pub mod record;
+pub mod refusal;
+pub mod register;
+pub mod run;
+pub mod settings;
+pub mod step;
+pub mod vault;
+pub mod watch;
+pub mod whole;
+
+pub use run::run;
+pub use whole::{whole_run, whole_text};

@@ -1,0 +1,29 @@
+//! "Turned back": a refusal is a number and, for some, an entry.
+
+#[derive(Clone, Copy, PartialEq, Eq, Debug)]
+pub struct Refusal {
+    pub number: u64,
+    /// The first offending entry, 0 where the table names none.
+    pub entry: u64,
+}
+
+/// A step is answered with a value or turned back.
+pub type Answer = Result<u64, Refusal>;
+
+/// A refusal whose row in the table says "0".
+pub fn plain(number: u64) -> Refusal {
+    Refusal { number, entry: 0 }
+}
+
+/// A refusal whose row in the table says "entry".
+pub fn at_entry(number: u64, entry: u64) -> Refusal {
+    Refusal { number, entry }
+}
+
+/// Turns back with `number` at the first offending entry, if there is one.
+pub fn first_offender(number: u64, offender: Option<u64>) -> Result<(), Refusal> {
+    match offender {
+        Some(entry) => Err(at_entry(number, entry)),
+        None => Ok(()),
+    }
+}

@@ -1,0 +1,62 @@
+//! The federation's settings, as the header of a run file gives them.
+
+pub const HEADER_BYTES: usize = 9;
+pub const LONGEST_FILE: usize = 65_536;
+
+#[derive(Clone, Copy, PartialEq, Eq, Debug)]
+pub struct Settings {
+    pub n: u64,
+    pub b: u64,
+    /// Bit i for vault i.
+    pub faulty: u16,
+}
+
+impl Settings {
+    /// "Threshold and quorum are both n − b."
+    pub fn threshold(&self) -> u64 {
+        self.n - self.b
+    }
+
+    pub fn is_faulty(&self, vault: u64) -> bool {
+        vaults_in(self.faulty).contains(&vault)
+    }
+
+    fn right(&self) -> bool {
+        let faulty = vaults_in(self.faulty);
+        (1..=16).contains(&self.n)
+            && 3 * self.b < self.n
+            && faulty.len() as u64 <= self.b
+            && faulty.iter().all(|vault| *vault < self.n)
+    }
+}
+
+/// The vaults that a 16-bit set names.
+pub fn vaults_in(set: u16) -> Vec<u64> {
+    (0..16).filter(|i| set >> i & 1 == 1).collect()
+}
+
+/// The settings, or nothing where refusal 1 is due.
+pub fn read_header(input: &[u8]) -> Option<Settings> {
+    if input.len() > LONGEST_FILE || input.len() < HEADER_BYTES {
+        return None;
+    }
+    let version = u16::from_le_bytes([input[3], input[4]]);
+    if &input[..3] != b"VLT" || version != 1 {
+        return None;
+    }
+    let settings = Settings {
+        n: u64::from(input[5]),
+        b: u64::from(input[6]),
+        faulty: u16::from_le_bytes([input[7], input[8]]),
+    };
+    settings.right().then_some(settings)
+}
+
+/// The header of a run file with these settings.
+pub fn header(n: u8, b: u8, faulty: u16) -> Vec<u8> {
+    let mut bytes = b"VLT".to_vec();
+    bytes.extend(1u16.to_le_bytes());
+    bytes.extend([n, b]);
+    bytes.extend(faulty.to_le_bytes());
+    bytes
+}

@@ -1,0 +1,66 @@
+//! Short words for writing run files.
+#![allow(dead_code)]
+
+use reference::record::Bytes;
+use reference::step::Step;
+pub use reference::whole::{commit, propose, record, run_file};
+
+pub fn preflight(vault: u8, job: u8) -> Step {
+    Step::Preflight { vault, job }
+}
+
+pub fn faulty_signature(vault: u8, job: u8) -> Step {
+    Step::FaultySignature { vault, job }
+}
+
+pub fn faulty_acknowledgement(vault: u8, job: u8) -> Step {
+    Step::FaultyAcknowledgement { vault, job }
+}
+
+pub fn show(job: u8) -> Step {
+    Step::Show { job }
+}
+
+pub fn draw(u: u8) -> Step {
+    Step::Draw { u }
+}
+
+pub fn generations(job: u8) -> Step {
+    Step::Generations { job }
+}
+
+/// An accession of one tape, with a drive that reads its medium.
+pub fn accession(label: &[u8; 8], frames: u32) -> Bytes {
+    record(0, label[7] - b'0', &[], &[(label, frames)])
+}
+
+/// A migration of one tape to another, both of medium 7.
+pub fn migration(from: &[u8; 8], to: &[u8; 8], frames: u32) -> Bytes {
+    record(1, 7, &[(from, frames)], &[(to, frames)])
+}
+
+/// The printed answers (refusal and value) of a run of these steps.
+pub fn answers(n: u8, b: u8, faulty: u16, steps: &[Step]) -> Vec<(u64, u64)> {
+    let text = text(&run_file(n, b, faulty, steps));
+    text.lines()
+        .map(|line| {
+            let words: Vec<u64> = line.split(' ').map(|w| w.parse().unwrap()).collect();
+            assert_eq!(words.len(), 3);
+            (words[1], words[2])
+        })
+        .collect()
+}
+
+/// The answer to the last of these steps.
+pub fn last(n: u8, b: u8, faulty: u16, steps: &[Step]) -> (u64, u64) {
+    *answers(n, b, faulty, steps).last().unwrap()
+}
+
+/// The answer to a proposal, alone in its run.
+pub fn proposed(record: Bytes) -> (u64, u64) {
+    last(1, 0, 0, &[propose(record)])
+}
+
+pub fn text(file: &[u8]) -> String {
+    String::from_utf8(reference::run(file)).unwrap()
+}

@@ -1,0 +1,235 @@
+//! Document 01, "Turned back": every refusal, and their order.
+
+mod common;
+use common::*;
+use reference::step::Step;
+
+const A: &[u8; 8] = b"AAAAAAL7";
+const B: &[u8; 8] = b"BBBBBBL7";
+const C: &[u8; 8] = b"CCCCCCL7";
+const D: &[u8; 8] = b"DDDDDDL7";
+
+/// The answer to `step` with one vault, which holds job 0 (it makes A and
+/// B, one frame each) and has signed job 1 (it moves A to C).
+fn after(steps: &[Step]) -> (u64, u64) {
+    let mut all = vec![
+        propose(record(0, 7, &[], &[(A, 1), (B, 1)])),
+        propose(migration(A, C, 1)),
+        preflight(0, 0),
+        commit(0, 0, 1),
+        preflight(0, 1),
+    ];
+    all.extend_from_slice(steps);
+    last(1, 0, 0, &all)
+}
+
+#[test]
+fn refusal_1_of_headers() {
+    let right = run_file(4, 1, 8, &[show(0)]);
+    assert_eq!(text(&right), "1 4 0\n");
+    for length in 0..9 {
+        assert_eq!(text(&right[..length]), "0 1 0\n");
+    }
+    // Name, version, n 0 and 17, 3b not below n, b 86, faulty sets.
+    let wrong: [(usize, u8); 12] = [
+        (0, b'v'),
+        (2, b'S'),
+        (3, 0),
+        (3, 2),
+        (4, 1),
+        (5, 0),
+        (5, 3),
+        (5, 17),
+        (6, 2),
+        (6, 86),
+        (7, 3),
+        (7, 16),
+    ];
+    for (at, value) in wrong {
+        let mut file = right.clone();
+        file[at] = value;
+        assert_eq!(text(&file), "0 1 0\n", "byte {at} set to {value}");
+    }
+}
+
+#[test]
+fn refusal_2_ends_the_run() {
+    let mut file = run_file(1, 0, 0, &[draw(0)]);
+    for kind in [0, 9, 255] {
+        file.truncate(11);
+        file.extend([kind, 7, 0]);
+        assert_eq!(text(&file), "1 0 0\n2 2 0\n");
+    }
+    // The bodies cut short, each by one byte.
+    for (kind, body) in [(1, 100), (2, 2), (3, 4), (4, 2), (5, 2), (6, 1)] {
+        file.truncate(11);
+        file.push(kind);
+        file.extend(vec![99; body - 1]);
+        assert_eq!(text(&file), "1 0 0\n2 2 0\n");
+    }
+}
+
+#[test]
+fn refusals_3_5_and_4_in_this_order() {
+    let booked = propose(accession(A, 1));
+    let sound: [fn(u8, u8) -> Step; 2] = [preflight, |vault, job| commit(vault, job, 0)];
+    for step in sound {
+        for (vault, job, refusal) in [(4, 9, 3), (3, 9, 5), (2, 9, 4), (255, 0, 3)] {
+            let steps = [booked.clone(), step(vault, job)];
+            assert_eq!(last(4, 1, 8, &steps), (refusal, 0));
+        }
+    }
+    for step in [faulty_signature, faulty_acknowledgement] {
+        for (vault, job, refusal) in [(4, 9, 3), (2, 9, 5), (3, 9, 4), (3, 1, 4)] {
+            let steps = [booked.clone(), step(vault, job)];
+            assert_eq!(last(4, 1, 8, &steps), (refusal, 0));
+        }
+    }
+    for step in [show(1), generations(1), show(255)] {
+        assert_eq!(last(4, 1, 8, &[booked.clone(), step]), (4, 0));
+    }
+}
+
+#[test]
+fn refusal_6_of_malformed_records() {
+    let right = migration(A, B, 5);
+    assert_eq!(proposed(right), (0, 0));
+    // Kind, drive, counts, label, frames, unused entries of both halves.
+    let wrong: [(usize, u8); 16] = [
+        (0, 2),
+        (0, 0),
+        (1, 4),
+        (1, 10),
+        (2, 0),
+        (2, 2),
+        (3, 0),
+        (3, 5),
+        (4, b'a'),
+        (9, b'/'),
+        (10, b'M'),
+        (11, b'4'),
+        (11, b':'),
+        (12, 0),
+        (16, 1),
+        (99, 1),
+    ];
+    for (at, value) in wrong {
+        let mut bytes = right;
+        bytes[at] = value;
+        assert_eq!(proposed(bytes), (6, 0), "byte {at} set to {value}");
+    }
+}
+
+#[test]
+fn refusal_7_names_the_later_entry() {
+    let across = record(1, 7, &[(A, 2)], &[(B, 1), (A, 1)]);
+    assert_eq!(proposed(across), (7, 5));
+    let within = record(1, 7, &[(A, 1), (B, 1), (B, 1)], &[(A, 3)]);
+    assert_eq!(proposed(within), (7, 2));
+    // Before 8 and 9.
+    let all = record(1, 5, &[(A, 1)], &[(A, 3)]);
+    assert_eq!(proposed(all), (7, 4));
+}
+
+#[test]
+fn refusal_8_names_the_first_entry() {
+    let inputs = record(1, 8, &[(A, 1), (b"BBBBBBL6", 1)], &[(b"CCCCCCL5", 9)]);
+    assert_eq!(proposed(inputs), (8, 1));
+    let outputs = record(0, 9, &[], &[(b"AAAAAAL9", 1), (b"BBBBBBL8", 1), (C, 1)]);
+    assert_eq!(proposed(outputs), (8, 6));
+}
+
+#[test]
+fn refusal_9_and_sums_above_32_bits() {
+    assert_eq!(proposed(record(1, 7, &[(A, 2)], &[(B, 1)])), (9, 0));
+    let modulo = record(1, 7, &[(A, 1 << 31), (B, 1 << 31), (C, 5)], &[(D, 5)]);
+    assert_eq!(proposed(modulo), (9, 0));
+    let most = u32::MAX;
+    let wide = record(1, 7, &[(A, most), (B, most)], &[(C, most), (D, most)]);
+    assert_eq!(proposed(wide), (0, 0));
+}
+
+#[test]
+fn refusal_10_comes_after_6_to_9_and_after_an_equal() {
+    let mut steps: Vec<Step> = (1..=128).map(|i| propose(accession(A, i))).collect();
+    steps.push(propose(accession(A, 129)));
+    steps.push(propose(accession(A, 0)));
+    steps.push(propose(accession(A, 128)));
+    assert_eq!(answers(1, 0, 0, &steps)[128..], [(10, 0), (6, 0), (0, 127)]);
+}
+
+#[test]
+fn refusal_11_wants_the_frames_too() {
+    let steps = [propose(migration(B, D, 1)), preflight(0, 2)];
+    assert_eq!(after(&steps), (0, 1));
+    let steps = [propose(migration(B, D, 2)), preflight(0, 2)];
+    assert_eq!(after(&steps), (11, 0));
+    let two = record(1, 7, &[(B, 1), (D, 1)], &[(b"EEEEEEL7", 2)]);
+    assert_eq!(after(&[propose(two), preflight(0, 2)]), (11, 1));
+}
+
+#[test]
+fn refusal_12_of_a_retired_input() {
+    let two = record(1, 7, &[(B, 1), (A, 1)], &[(D, 2)]);
+    let steps = [commit(0, 1, 1), propose(two), preflight(0, 2)];
+    assert_eq!(after(&steps), (12, 1));
+}
+
+#[test]
+fn refusal_13_of_a_reserved_input() {
+    let two = record(1, 7, &[(B, 1), (A, 1)], &[(C, 2)]);
+    assert_eq!(after(&[propose(two), preflight(0, 2)]), (13, 1));
+}
+
+#[test]
+fn refusal_14_of_outputs_made_or_reserved() {
+    let made = record(0, 7, &[], &[(D, 1), (B, 5)]);
+    assert_eq!(after(&[propose(made), preflight(0, 2)]), (14, 5));
+    let reserved = record(0, 7, &[], &[(C, 1)]);
+    assert_eq!(after(&[propose(reserved), preflight(0, 2)]), (14, 4));
+}
+
+#[test]
+fn refusals_15_and_16_of_signers() {
+    let mut steps = vec![
+        propose(accession(A, 1)),
+        preflight(0, 0),
+        preflight(1, 0),
+        faulty_signature(3, 0),
+    ];
+    for (signers, answer) in [
+        (0, (16, 0)),
+        (3, (16, 0)),
+        (4, (15, 0)),
+        (1 << 15 | 11, (15, 0)),
+        (15, (15, 0)),
+        (11, (0, 1)),
+    ] {
+        steps.push(commit(2, 0, signers));
+        assert_eq!(last(4, 1, 8, &steps), answer);
+    }
+}
+
+#[test]
+fn refusal_17_of_u_above_n() {
+    assert_eq!(last(4, 1, 0, &[draw(4)]), (0, 1000));
+    assert_eq!(last(4, 1, 0, &[draw(5)]), (17, 0));
+    assert_eq!(last(4, 1, 0, &[draw(255)]), (17, 0));
+}
+
+#[test]
+fn refusal_18_until_a_sound_vault_holds_it() {
+    let mut steps = vec![
+        propose(accession(A, 1)),
+        faulty_acknowledgement(3, 0),
+        faulty_signature(3, 0),
+        preflight(0, 0),
+        preflight(1, 0),
+        generations(0),
+    ];
+    assert_eq!(last(4, 1, 8, &steps), (18, 0));
+    steps.push(commit(2, 0, 11));
+    assert_eq!(last(4, 1, 8, &steps), (0, 2));
+    steps.push(generations(0));
+    assert_eq!(last(4, 1, 8, &steps), (0, 0));
+}
