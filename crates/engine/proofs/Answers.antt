@@ -3,7 +3,7 @@
 use mathlib.Core.Bool.{Bool, Bool·beq, cond, false, true}
 use mathlib.Core.List.{List}
 use mathlib.Core.Logic.{inl, inr}
-use mathlib.Core.Path.{_∙_, _≡_, ap, refl, sym}
+use mathlib.Core.Path.{_∙_, _≡_, ap, refl, subst, sym}
 use Prim.Native.Nat.{_*_, _+_, _/_, _<_, _≤_, ℕ}
 use native.Mathlib.Omega.{arith}
 use lib.Count.{ones}
@@ -21,7 +21,7 @@ use Rattle.sets.proofs.Jobs.{job-without-absent}
 use Rattle.sets.specs.Bits.{hasBit, withMember}
 use Rattle.sets.specs.Jobs.{InWords, jobHas, jobWith}
 use Rattle.sets.specs.declared.job_set.JobSet.{JobSet}
-use Rattle.ledger.proofs.Gates.{job-below, vault-below}
+use Rattle.ledger.proofs.Gates.{booked-entered, entered, job-below}
 use Rattle.ledger.specs.Admission.{admission}
 use Rattle.ledger.specs.Federation.{thresholdOf}
 use Rattle.ledger.specs.Journal.{isBooked, jobAt, recordAt, slotAt}
@@ -64,6 +64,25 @@ same-trans p q = record {
 pub same-storing : (table : List ℕ) (at : ℕ) (t : JobSet) → 2 ≤ at → at + 2 ≤ 66 → Same table (storing table at t)
 unfolding storing
 same-storing table at t lo hi = same-trans (same-vote table at (t .low) lo (omega arith)) (same-vote (set table at (t .low)) (at + 1) (t .high) (omega arith) (omega arith))
+
+pub status-is : (s : Settings) (table : List ℕ) (job : ℕ) → job < 128 → statusOf (ledgerIn s table) job
+    ≡ cond (leb (thresholdOf s) (ones (getD table (194 + job) 0))) 2 (cond (leb (thresholdOf s) (ones (getD table (66 + job) 0))) 1 0)
+unfolding statusOf ledgerIn
+status-is s table job h = simp (signed-is s table job h, acknowledged-is s table job h)
+
+-- behind a gate the job is booked
+pub known-job : (s : Settings) (table journal : List ℕ) (job : ℕ) → bookedGate (ledgerIn s table) journal job ≡ Pass → job < getD table 0 0
+unfolding ledgerIn
+known-job s table journal job e = booked-entered (ledgerIn s table) journal job e .1 .below
+
+pub known-at : (s : Settings) (table journal : List ℕ) (v job : ℕ) (faulty : Bool) → vaultGate (ledgerIn s table) journal v job faulty ≡ Pass → job < getD table 0 0
+unfolding ledgerIn
+known-at s table journal v job faulty e = entered (ledgerIn s table) journal v job faulty e .known .below
+
+pub countersigned-as : (table mid after : List ℕ) (at : ℕ) (signed t : JobSet) (v job r : ℕ) → t ≡ jobWith signed job → mid ≡ storing table at t
+    → after ≡ set mid (66 + job) (withMember 16 (getD mid (66 + job) 0) v) → r ≡ ones (getD after (66 + job) 0) → Countersigned table at signed v job after r
+countersigned-as table mid after at signed t v job r e m a q =
+    record { stored = a ∙ rw (m ∙ ap (storing table at) e); votes = q }
 
 module _ (s : Settings) (table journal : List ℕ) (ok : Sound s table) (full : length journal ≡ 12800) where
   pub sane : isSane (ledgerIn s table) ≡ true
@@ -115,12 +134,6 @@ module _ (s : Settings) (table journal : List ℕ) (ok : Sound s table) (full : 
           let votes : r ≡ ones (holdersOf (acknowledged (ledgerIn s table) v job) job) = q ∙ ap ones (sym (acknowledged-is s after job few)) ∙ ap (λ (l : Ledger). ones (holdersOf l job)) led in
           (simp (gate, led, votes), rw e (same-vote table (194 + job) _ (omega arith) (omega (arith, few))))
 
-  -- ---- kind 6
-  pub status-is : (job : ℕ) → job < 128 → statusOf (ledgerIn s table) job
-      ≡ cond (leb (thresholdOf s) (ones (getD table (194 + job) 0))) 2 (cond (leb (thresholdOf s) (ones (getD table (66 + job) 0))) 1 0)
-  unfolding statusOf ledgerIn
-  status-is job h = simp (signed-is s table job h, acknowledged-is s table job h)
-
   -- ---- kind 2
   module _ (v job : ℕ) (few : v < 16) (known : job < getD table 0 0) where
     small : job < 128
@@ -130,13 +143,27 @@ module _ (s : Settings) (table journal : List ℕ) (ok : Sound s table) (full : 
     unfolding vaultIn
     vault = vault-is s table v few
 
-    pub consulted-again : jobHas (setAt table (signedOf v)) job ≡ true → (r : ℕ) → r ≡ ones (getD table (66 + job) 0)
+    pub consulted-again : (signed : JobSet) → signed ≡ setAt table (signedOf v) → jobHas signed job ≡ true → (r : ℕ) → r ≡ ones (getD table (66 + job) 0)
         → (consulted (ledgerIn s table) journal v job ≡ answer s (Done r) table) × Same table table
     unfolding consulted vaultPreflight
-    consulted-again e r q = (simp (vault, e, q, signed-is s table job small), same-refl table)
+    consulted-again signed es e r q = (simp (vault, ap (λ (t : JobSet). jobHas t job) (sym es) ∙ e, q, signed-is s table job small), same-refl table)
 
-    module _ (index : List ℕ) (x : Indexed (jobAt journal (getD table 0 0)) (getD table 0 0) index) (fresh : jobHas (setAt table (signedOf v)) job ≡ false)
-        (hw : InWords (setAt table (heldOf v))) (sw : InWords (setAt table (signedOf v))) where
+    module _ (index : List ℕ) (x : Indexed (jobAt journal (getD table 0 0)) (getD table 0 0) index)
+        (held signed : JobSet) (eh : (held ≡ setAt table (heldOf v)) × InWords held) (es : (signed ≡ setAt table (signedOf v)) × InWords signed)
+        (new : jobHas signed job ≡ false) (inputs : ℕ) (ei : inputs ≡ getD journal (100 * job + 2) 0) where
+      fresh : jobHas (setAt table (signedOf v)) job ≡ false
+      fresh = ap (λ (t : JobSet). jobHas t job) (sym (es .0)) ∙ new
+
+      hw : InWords (setAt table (heldOf v))
+      hw = subst InWords (eh .0) (eh .1)
+
+      sw : InWords (setAt table (signedOf v))
+      sw = subst InWords (es .0) (es .1)
+
+      -- the verdict, as the code has it
+      verdict : (a : Verdict) → admissionBy index inputs held signed job ≡ a → admissionBy index (getD journal (100 * job + 2) 0) (setAt table (heldOf v)) (setAt table (signedOf v)) job ≡ a
+      verdict a e = rw (← (eh .0), ← (es .0), ← ei) e
+
       inputs-is : getD journal (100 * job + 2) 0 ≡ jobAt journal (getD table 0 0) job .inputs
       unfolding jobAt recordAt slotAt jobOf
       inputs-is =
@@ -158,22 +185,22 @@ module _ (s : Settings) (table journal : List ℕ) (ok : Sound s table) (full : 
       unfolding consulted vaultPreflight ledgerIn
       consults = simp (vault, fresh, checked)
 
-      pub consult-refused : (why : Refusal) → admissionBy index (getD journal (100 * job + 2) 0) (setAt table (heldOf v)) (setAt table (signedOf v)) job ≡ Fail why
+      pub consult-refused : (why : Refusal) → admissionBy index inputs held signed job ≡ Fail why
           → (consulted (ledgerIn s table) journal v job ≡ answer s (Refused why) table) × Same table table
-      consult-refused why e = (consults ∙ simp e, same-refl table)
+      consult-refused why e = (consults ∙ simp (verdict (Fail why) e), same-refl table)
 
-      pub consult-signed : admissionBy index (getD journal (100 * job + 2) 0) (setAt table (heldOf v)) (setAt table (signedOf v)) job ≡ Pass
-          → (after : List ℕ) (r : ℕ) → Countersigned table (signedOf v) (setAt table (signedOf v)) v job after r
+      pub consult-signed : admissionBy index inputs held signed job ≡ Pass → (after : List ℕ) (r : ℕ) → Countersigned table (signedOf v) signed v job after r
           → (consulted (ledgerIn s table) journal v job ≡ answer s (Done r) after) × Same table after
       unfolding signing
-      consult-signed e after r d =
+      consult-signed e after r d′ =
           let t : JobSet = jobWith (setAt table (signedOf v)) job in
+          let d : Countersigned table (signedOf v) (setAt table (signedOf v)) v job after r = subst (λ (g : JobSet). Countersigned table (signedOf v) g v job after r) (es .0) d′ in
           let mid : List ℕ = storing table (signedOf v) t in
           let next : Ledger = countersigned (withVault (ledgerIn s table) v (record { held = setAt table (heldOf v); signed = t })) v job in
           let led : ledgerIn s after ≡ next =
             ap (ledgerIn s) (d .stored) ∙ signature-stored s mid v job small ∙ ap (λ (l : Ledger). countersigned l v job) (signed-stored s table (ok .size) v few t) in
           let votes : r ≡ ones (signersOf next job) = d .votes ∙ ap ones (sym (signed-is s after job small)) ∙ ap (λ (l : Ledger). ones (signersOf l job)) led in
-          (consults ∙ simp e (sym (simp (led, votes))), rw (d .stored) (same-trans (same-storing table (signedOf v) t (omega arith) (omega arith)) (same-vote mid (66 + job) _ (omega arith) (omega (arith, small)))))
+          (consults ∙ simp (verdict Pass e) (sym (simp (led, votes))), rw (d .stored) (same-trans (same-storing table (signedOf v) t (omega arith) (omega arith)) (same-vote mid (66 + job) _ (omega arith) (omega (arith, small)))))
 
   pub preflight-is : (v job : ℕ) → vaultGate (ledgerIn s table) journal v job false ≡ Pass → preflightOf (ledgerIn s table) journal v job ≡ consulted (ledgerIn s table) journal v job
   unfolding preflightOf

@@ -30,15 +30,15 @@ fn consult(settings: Settings, table: &mut [u64], journal: &[u8], index: &[u64],
     requires { ⌜ Sound settings (now table) × (length (now journal) ≡ 12800) × Indexed (jobAt (now journal) (getD (now table) 0 0)) (getD (now table) 0 0) (now index) × (v < 16) × (job < getD (now table) 0 0) ⌝ }
     ensures { λ r. ⌜ (consulted (ledgerIn settings (now (table .entry))) (now (journal .entry)) v job ≡ answer settings r (now (table .exit))) × Same (now (table .entry)) (now (table .exit)) ⌝ }
 {
-    let at = 2 + 4 * v as usize;
-    let held = index::set_at(&table[..], at);
-    let signed = index::set_at(&table[..], at + 2);
+    let at = 4 + 4 * v as usize;
+    let held = index::set_at(&table[..], 2 + 4 * v as usize);
+    let signed = index::set_at(&table[..], at);
     if signed.has(job) {
         return Outcome::Done(table::count(&table[..], table::SIGNATURES + job));
     }
-    let inputs = journal[100 * job + 2] as usize;
+    let inputs = table::wide(journal[100 * job + 2]);
     match index::admission(index, inputs, held, signed, job) {
-        Verdict::Pass => Outcome::Done(countersign(table, at + 2, signed, v, job)),
+        Verdict::Pass => Outcome::Done(countersign(table, at, signed, v, job)),
         Verdict::Fail(why) => Outcome::Refused(why),
     }
 }

@@ -39,3 +39,9 @@ pub(crate) fn count(table: &[u64], at: usize) -> u32
 {
     u64::count_ones(table[at])
 }
+
+pub(crate) fn wide(x: u8) -> usize
+    ensures { λ r. ⌜ r ≡ x ⌝ }
+{
+    x as usize
+}

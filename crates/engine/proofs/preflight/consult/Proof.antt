@@ -1,105 +1,80 @@
+-- A job signed here before is accepted again; of another the index answers as the vault does.
+-- Assumes nothing.
+use mathlib.Core.Path.{_∙_, sym}
+use native.Mathlib.Omega.{arith}
 use borrow.Author.Needs.{needs}
+use Rattle.engine.proofs.Answers.{consult-refused, consult-signed, consulted-again}
 use Rattle.engine.proofs.preflight.consult.Statement.{statement}
 use Rattle.engine.proofs.preflight.consult.Tie as tie
-use Rattle.engine.proofs.preflight.consult.Reads as reads
-use Rattle.engine.proofs.preflight.consult.Lts as lts
-use Rattle.engine.proofs.preflight.countersign.Reads as countersign-reads
-use Rattle.engine.proofs.table.count.Reads as count-reads
-use Rattle.index.proofs.admission.Reads as admission-reads
-use Rattle.index.proofs.set_at.Reads as set-at-reads
-use Rattle.sets.proofs.job_set.JobSet.has.Reads as has-reads
 
--- src/preflight.rt:33:18
 mul-at : tie.Need-mul-at
 mul-at c = search needs
 
--- src/preflight.rt:33:14
 add-at : tie.Need-add-at
 add-at c = search needs
 
--- src/preflight.rt:34:9
-set-at-requires : tie.Need-set-at-requires
-set-at-requires c κs = search needs
+mul-set-at : tie.Need-mul-set-at
+mul-set-at c = search needs
 
--- src/preflight.rt:35:44
 add-set-at : tie.Need-add-set-at
 add-set-at c = search needs
 
--- src/preflight.rt:35:9
+set-at-requires : tie.Need-set-at-requires
+set-at-requires c κs = search needs
+
 set-at-requires-2 : tie.Need-set-at-requires-2
 set-at-requires-2 c κs = search needs
 
--- src/preflight.rt:36:8
 has-requires : tie.Need-has-requires
 has-requires c κs = search needs
 
--- src/preflight.rt:37:55
 add-count : tie.Need-add-count
 add-count c = search needs
 
--- src/preflight.rt:37:30
 count-requires : tie.Need-count-requires
 count-requires c κs = search needs
 
--- src/preflight.rt:37:9
 same-length : tie.Need-same-length
 same-length c = search needs
 
--- src/preflight.rt:37:9
 returns : tie.Need-returns
-returns c = ?
+returns c = consulted-again _ _ _ (c .before .before .before .before .before .before .before .before .before .before .before .pre .0) (c .before .before .before .before .before .before .before .before .before .before .before .pre .1) _ _ (c .before .before .before .before .before .before .before .before .before .before .before .pre .3) (c .before .before .before .before .before .before .before .before .before .before .before .pre .4) _ (c .before .before .before .before .set-at2 .ensures .0) (sym (c .before .before .before .has .ensures) ∙ c .before .before .if1 .taken) _ (c .count .ensures)
 
--- src/preflight.rt:39:26
-mul-inputs : tie.Need-mul-inputs
-mul-inputs c = search needs
+mul-wide : tie.Need-mul-wide
+mul-wide c = search needs
 
--- src/preflight.rt:39:26
-add-inputs : tie.Need-add-inputs
-add-inputs c = search needs
+add-wide : tie.Need-add-wide
+add-wide c = search needs
 
--- src/preflight.rt:39:18
-shared-slice-read-inputs : tie.Need-shared-slice-read-inputs
-shared-slice-read-inputs c = search needs
+shared-slice-read-wide : tie.Need-shared-slice-read-wide
+shared-slice-read-wide c = search needs
 
--- src/preflight.rt:39:18
-cast-inputs : tie.Need-cast-inputs
-cast-inputs c = ?
+wide-requires : tie.Need-wide-requires
+wide-requires c κs = search needs
 
--- src/preflight.rt:40:11
 admission-requires : tie.Need-admission-requires
 admission-requires c κs = search needs
 
--- src/preflight.rt:41:52
 enum-told : tie.Need-enum-told
 enum-told c = search needs
 
--- src/preflight.rt:41:59
-add-countersign : tie.Need-add-countersign
-add-countersign c = search needs
-
--- src/preflight.rt:41:40
 countersign-requires : tie.Need-countersign-requires
 countersign-requires c κs = search needs
 
--- src/preflight.rt:42:23
 enum-known-why : tie.Need-enum-known-why
 enum-known-why c = search needs
 
--- src/preflight.rt:29:1
 same-length-2 : tie.Need-same-length-2
 same-length-2 c = search needs
 
--- src/preflight.rt:29:1
 returns-2 : tie.Need-returns-2
-returns-2 c = ?
+returns-2 c = consult-signed _ _ _ (c .before .before .before .before .before .before .before .before .before .before .before .before .before .before .before .before .before .before .pre .0) (c .before .before .before .before .before .before .before .before .before .before .before .before .before .before .before .before .before .before .pre .1) _ _ (c .before .before .before .before .before .before .before .before .before .before .before .before .before .before .before .before .before .before .pre .3) (c .before .before .before .before .before .before .before .before .before .before .before .before .before .before .before .before .before .before .pre .4) _ (c .before .before .before .before .before .before .before .before .before .before .before .before .before .before .before .before .before .before .pre .2) _ _ (c .before .before .before .before .before .before .before .before .before .before .before .before .before .set-at .ensures) (c .before .before .before .before .before .before .before .before .before .before .before .set-at2 .ensures) (sym (c .before .before .before .before .before .before .before .before .before .before .has .ensures) ∙ c .before .before .before .before .before .before .before .before .before .if1 .left) _ (c .before .before .before .before .before .before .before .wide .ensures) (sym (c .before .before .before .before .before .before .admission .ensures) ∙ c .before .before .before .before .enum-told .given .1) _ _ (c .before .before .countersign .ensures)
 
--- src/preflight.rt:29:1
 same-length-3 : tie.Need-same-length-3
 same-length-3 c = search needs
 
--- src/preflight.rt:29:1
 returns-3 : tie.Need-returns-3
-returns-3 c = ?
+returns-3 c = consult-refused _ _ _ (c .before .before .before .before .before .before .before .before .before .before .before .before .before .before .before .pre .0) (c .before .before .before .before .before .before .before .before .before .before .before .before .before .before .before .pre .1) _ _ (c .before .before .before .before .before .before .before .before .before .before .before .before .before .before .before .pre .3) (c .before .before .before .before .before .before .before .before .before .before .before .before .before .before .before .pre .4) _ (c .before .before .before .before .before .before .before .before .before .before .before .before .before .before .before .pre .2) _ _ (c .before .before .before .before .before .before .before .before .before .before .set-at .ensures) (c .before .before .before .before .before .before .before .before .set-at2 .ensures) (sym (c .before .before .before .before .before .before .before .has .ensures) ∙ c .before .before .before .before .before .before .if1 .left) _ (c .before .before .before .before .wide .ensures) _ (sym (c .before .before .before .admission .ensures) ∙ c .before .why .given .1)
 
 pub consult-spec : {M : Type 1} → statement M
 consult-spec =
@@ -107,21 +82,21 @@ consult-spec =
     (tie.spec
     mul-at
     add-at
-    set-at-requires
+    mul-set-at
     add-set-at
+    set-at-requires
     set-at-requires-2
     has-requires
     add-count
     count-requires
     same-length
     returns
-    mul-inputs
-    add-inputs
-    shared-slice-read-inputs
-    cast-inputs
+    mul-wide
+    add-wide
+    shared-slice-read-wide
+    wide-requires
     admission-requires
     enum-told
-    add-countersign
     countersign-requires
     enum-known-why
     same-length-2

@@ -1,42 +1,35 @@
+-- The gate decides: behind it the vault is asked.
+-- Assumes nothing.
+use mathlib.Core.Path.{_∙_, sym}
 use borrow.Author.Needs.{needs}
+use Rattle.ledger.proofs.Gates.{vault-below}
+use Rattle.engine.proofs.Answers.{known-at, preflight-is, preflight-refused}
 use Rattle.engine.proofs.preflight.preflight.Statement.{statement}
 use Rattle.engine.proofs.preflight.preflight.Tie as tie
-use Rattle.engine.proofs.preflight.preflight.Reads as reads
-use Rattle.engine.proofs.preflight.preflight.Lts as lts
-use Rattle.engine.proofs.gates.vault_gate.Reads as vault-gate-reads
-use Rattle.engine.proofs.preflight.consult.Reads as consult-reads
 
--- src/preflight.rt:50:11
 vault-gate-requires : tie.Need-vault-gate-requires
 vault-gate-requires c κs = search needs
 
--- src/preflight.rt:51:44
 enum-told : tie.Need-enum-told
 enum-told c = search needs
 
--- src/preflight.rt:51:26
 consult-requires : tie.Need-consult-requires
-consult-requires c κs = ?
+consult-requires c κs = (c .before .before .before .before .before .before .before .before .pre .0, c .before .before .before .before .before .before .before .before .pre .1, c .before .before .before .before .before .before .before .before .pre .2, vault-below _ _ _ _ _ (sym (c .before .before .before .vault-gate .ensures) ∙ c .before .enum-told .given .1), known-at _ _ _ _ _ _ (sym (c .before .before .before .vault-gate .ensures) ∙ c .before .enum-told .given .1))
 
--- src/preflight.rt:52:23
 enum-known-why : tie.Need-enum-known-why
 enum-known-why c = search needs
 
--- src/preflight.rt:46:1
 same-length : tie.Need-same-length
 same-length c = search needs
 
--- src/preflight.rt:46:1
 returns : tie.Need-returns
-returns c = ?
+returns c = (preflight-is _ _ _ (c .before .before .before .before .before .before .before .before .before .before .before .pre .0) (c .before .before .before .before .before .before .before .before .before .before .before .pre .1) _ _ (sym (c .before .before .before .before .before .before .vault-gate .ensures) ∙ c .before .before .before .before .enum-told .given .1) ∙ c .before .before .consult .ensures .0, c .before .before .consult .ensures .1)
 
--- src/preflight.rt:46:1
 same-length-2 : tie.Need-same-length-2
 same-length-2 c = search needs
 
--- src/preflight.rt:46:1
 returns-2 : tie.Need-returns-2
-returns-2 c = ?
+returns-2 c = preflight-refused _ _ _ (c .before .before .before .before .before .before .before .before .pre .0) (c .before .before .before .before .before .before .before .before .pre .1) _ _ _ (sym (c .before .before .before .vault-gate .ensures) ∙ c .before .why .given .1)
 
 pub preflight-spec : {M : Type 1} → statement M
 preflight-spec =

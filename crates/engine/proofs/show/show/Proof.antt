@@ -1,34 +1,32 @@
+-- The gate decides: behind it the job is booked.
+-- Assumes nothing.
+use mathlib.Core.Path.{_∙_, sym}
+use native.Mathlib.Omega.{arith}
 use borrow.Author.Needs.{needs}
+use Rattle.ledger.specs.Steps.{showOf}
+use Rattle.engine.proofs.Answers.{known-job}
 use Rattle.engine.proofs.show.show.Statement.{statement}
 use Rattle.engine.proofs.show.show.Tie as tie
-use Rattle.engine.proofs.show.show.Reads as reads
-use Rattle.engine.proofs.show.show.Lts as lts
-use Rattle.engine.proofs.gates.booked_gate.Reads as booked-gate-reads
-use Rattle.engine.proofs.show.status.Reads as status-reads
 
--- src/show.rt:32:11
 booked-gate-requires : tie.Need-booked-gate-requires
 booked-gate-requires c κs = search needs
 
--- src/show.rt:33:64
 enum-told : tie.Need-enum-told
 enum-told c = search needs
 
--- src/show.rt:33:40
 status-requires : tie.Need-status-requires
-status-requires c κs = ?
+status-requires c κs = (c .before .before .before .before .before .pre .0, omega (arith, c .before .before .before .before .before .pre .0 .booked, known-job _ _ _ _ (sym (c .before .before .booked-gate .ensures) ∙ c .enum-told .given .1)))
 
--- src/show.rt:34:23
 enum-known-why : tie.Need-enum-known-why
 enum-known-why c = search needs
 
--- src/show.rt:28:1
 returns : tie.Need-returns
-returns c = ?
+unfolding showOf
+returns c = simp (← c .before .before .before .booked-gate .ensures, c .before .enum-told .given .1, ← c .status .ensures)
 
--- src/show.rt:28:1
 returns-2 : tie.Need-returns-2
-returns-2 c = ?
+unfolding showOf
+returns-2 c = simp (← c .before .before .before .booked-gate .ensures, c .before .why .given .1)
 
 pub show-spec : {M : Type 1} → statement M
 show-spec =
