@@ -102,6 +102,12 @@ module _ (s : Settings) (table journal : List ℕ) (ok : Sound s table) (full : 
   unfolding vaultGate ledgerIn
   vault-gate-is v job faulty = simp (sane, booked-is job)
 
+  -- how many inputs a booked job has
+  pub inputs-at : (job : ℕ) → job < getD table 0 0 → getD journal (100 * job + 2) 0 ≡ jobAt journal (getD table 0 0) job .inputs
+  unfolding jobAt recordAt slotAt jobOf
+  inputs-at job known =
+      sym (simp (booked-is job ∙ lt-ltb _ _ known) (getD-take 100 (drop (100 * job) journal) 2 0 (omega arith) ∙ getD-drop (100 * job) journal 2 0))
+
   -- ---- kinds 4 and 5
   module _ (v job : ℕ) where
     pub sign-refused : (why : Refusal) → vaultGate (ledgerIn s table) journal v job true ≡ Fail why
@@ -164,24 +170,19 @@ module _ (s : Settings) (table journal : List ℕ) (ok : Sound s table) (full : 
       verdict : (a : Verdict) → admissionBy index inputs held signed job ≡ a → admissionBy index (getD journal (100 * job + 2) 0) (setAt table (heldOf v)) (setAt table (signedOf v)) job ≡ a
       verdict a e = rw (← (eh .0), ← (es .0), ← ei) e
 
-      inputs-is : getD journal (100 * job + 2) 0 ≡ jobAt journal (getD table 0 0) job .inputs
-      unfolding jobAt recordAt slotAt jobOf
-      inputs-is =
-          sym (simp (booked-is job ∙ lt-ltb _ _ known) (getD-take 100 (drop (100 * job) journal) 2 0 (omega arith) ∙ getD-drop (100 * job) journal 2 0))
-
       -- the index answers as the vault does
       checked : admissionBy index (getD journal (100 * job + 2) 0) (setAt table (heldOf v)) (setAt table (signedOf v)) job
           ≡ admissionAt (record { held = setAt table (heldOf v); signed = setAt table (signedOf v) }) journal (getD table 0 0) job
       unfolding admissionAt
       checked =
-          ap (λ (m : ℕ). admissionBy index m (setAt table (heldOf v)) (setAt table (signedOf v)) job) inputs-is
+          ap (λ (m : ℕ). admissionBy index m (setAt table (heldOf v)) (setAt table (signedOf v)) job) (inputs-at job known)
           ∙ by-index (jobAt journal (getD table 0 0)) (getD table 0 0) index x job known (ok .booked) (setAt table (heldOf v)) (setAt table (signedOf v)) hw sw
           ∙ ap (λ (t : JobSet). admission (jobAt journal (getD table 0 0)) (getD table 0 0) (setAt table (heldOf v)) t (jobAt journal (getD table 0 0) job)) (sym (job-without-absent (setAt table (signedOf v)) job fresh))
 
       -- what the vault answers
       consults : consulted (ledgerIn s table) journal v job
           ≡ (let a = consented (admissionBy index (getD journal (100 * job + 2) 0) (setAt table (heldOf v)) (setAt table (signedOf v)) job) (record { held = setAt table (heldOf v); signed = setAt table (signedOf v) }) job in
-            preflighted (a .consent) (a .vault) (ledgerIn s table) v job)
+          preflighted (a .consent) (a .vault) (ledgerIn s table) v job)
       unfolding consulted vaultPreflight ledgerIn
       consults = simp (vault, fresh, checked)
 
@@ -198,7 +199,7 @@ module _ (s : Settings) (table journal : List ℕ) (ok : Sound s table) (full : 
           let mid : List ℕ = storing table (signedOf v) t in
           let next : Ledger = countersigned (withVault (ledgerIn s table) v (record { held = setAt table (heldOf v); signed = t })) v job in
           let led : ledgerIn s after ≡ next =
-            ap (ledgerIn s) (d .stored) ∙ signature-stored s mid v job small ∙ ap (λ (l : Ledger). countersigned l v job) (signed-stored s table (ok .size) v few t) in
+          ap (ledgerIn s) (d .stored) ∙ signature-stored s mid v job small ∙ ap (λ (l : Ledger). countersigned l v job) (signed-stored s table (ok .size) v few t) in
           let votes : r ≡ ones (signersOf next job) = d .votes ∙ ap ones (sym (signed-is s after job small)) ∙ ap (λ (l : Ledger). ones (signersOf l job)) led in
           (consults ∙ simp (verdict Pass e) (sym (simp (led, votes))), rw (d .stored) (same-trans (same-storing table (signedOf v) t (omega arith) (omega arith)) (same-vote mid (66 + job) _ (omega arith) (omega (arith, small)))))
 

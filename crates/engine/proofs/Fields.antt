@@ -8,7 +8,7 @@ use Prim.Native.Nat.{_*_, _+_, _-_, _<_, _≤_, suc, zero, ℕ}
 use native.Mathlib.Nat.{add-zero, not-suc-le-zero, zero-add}
 use native.Mathlib.Omega.{arith}
 use lib.Dec.{ltb}
-use lib.ListN.{drop, getD, length, length-set, set, take}
+use lib.ListN.{drop, getD, length, length-drop, length-set, length-take, set, take}
 use lib.Seq.{drop-set-add, drop-set-lt, getD-drop, getD-set-other, getD-set-same, getD-take, take-set-le, take-set-lt}
 use borrow.Author.Tests.{ltb-false, ltb-true}
 use Rattle.sets.specs.Bits.{withMember}
@@ -25,6 +25,10 @@ use Rattle.engine.specs.Layout.{heldOf, ledgerIn, part, signedOf, storin
 pub part-at : (from : ℕ) (table : List ℕ) (k : ℕ) → k < 128 → getD (part from table) k 0 ≡ getD table (from + k) 0
 unfolding part
 part-at from table k h = getD-take 128 (drop from table) k 0 h ∙ getD-drop from table k 0
+
+pub part-size : (from : ℕ) (table : List ℕ) → from + 128 ≤ length table → length (part from table) ≡ 128
+unfolding part
+part-size from table h = omega (arith, length-take 128 (drop from table), length-drop from table)
 
 -- a store in the part, and one before or after it
 pub part-in : (from : ℕ) (table : List ℕ) (k x : ℕ) → k < 128 → part from (set table (from + k) x) ≡ set (part from table) k x
@@ -113,7 +117,7 @@ vault-out table p x w h =
     two (inl l) = inl (omega arith)
     two (inr l) = inr (omega arith)
 
-vaults-out : (table : List ℕ) (p x : ℕ) → (p < 2) ⊎ (66 ≤ p) → vaultsIn 16 0 (set table p x) ≡ vaultsIn 16 0 table
+pub vaults-out : (table : List ℕ) (p x : ℕ) → (p < 2) ⊎ (66 ≤ p) → vaultsIn 16 0 (set table p x) ≡ vaultsIn 16 0 table
 vaults-out table p x h = same-vaults 16 0 table (set table p x) (λ w l m. vault-out table p x w (away w m h))
   where
     away : (w : ℕ) → w < 16 → (p < 2) ⊎ (66 ≤ p) → (p < heldOf w) ⊎ (heldOf w + 4 ≤ p)

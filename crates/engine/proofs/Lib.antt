@@ -1,2 +1,4 @@
 pub mod Answers
+pub mod Arrives
 pub mod Fields
+pub mod Order

@@ -38,8 +38,12 @@ arrivalOf order k i = eqb (getD order i 0) k
 -- the arrived jobs are booked, and the ages are one more than the generations of an arrived job, 0 of another
 pub record Aged (job : ℕ → Job) (booked arrivals : ℕ) (order ages : List ℕ) : Type 0 where
   pub known : (p : ℕ) → p < arrivals → getD order p 0 < booked
+  pub once : (p q : ℕ) → p < arrivals → q < arrivals → getD order p 0 ≡ getD order q 0 → p ≡ q
   pub right : (k : ℕ) → k < 128
       → getD ages k 0 ≡ cond (anyBelow arrivals (arrivalOf order k)) (generationAt job (λ q. getD order q 0) (firstBelow arrivals (arrivalOf order k)) + 1) 0
+
+abbrev pub Timely : List ℕ → List ℕ → Type 0
+Timely table journal = Aged (jobAt journal (getD table 0 0)) (getD table 0 0) (getD table 1 0) (orderIn table) (agesIn table)
 
 pub record Kept (s : Settings) (table journal index sieve : List ℕ) : Type 0 where
   pub sound : Sound s table
@@ -47,7 +51,7 @@ pub record Kept (s : Settings) (table journal index sieve : List ℕ) : Type 0 w
   pub indexed : Indexed (jobAt journal (getD table 0 0)) (getD table 0 0) index
   pub sieved : Sieved (jobAt journal (getD table 0 0)) (getD table 0 0) sieve
   pub passes : (k : ℕ) → k < getD table 0 0 → examined (slotAt journal k) ≡ Pass
-  pub aged : Aged (jobAt journal (getD table 0 0)) (getD table 0 0) (getD table 1 0) (orderIn table) (agesIn table)
+  pub aged : Timely table journal
 
 -- the counts, the order and the ages are as they were
 pub record Same (table after : List ℕ) : Type 0 where
@@ -56,6 +60,13 @@ pub record Same (table after : List ℕ) : Type 0 where
   pub arrivals : getD after 1 0 ≡ getD table 1 0
   pub order : orderIn after ≡ orderIn table
   pub ages : agesIn after ≡ agesIn table
+
+-- a step that books nothing left the table right
+pub record Moved (table after journal : List ℕ) : Type 0 where
+  pub size : length after ≡ length table
+  pub booked : getD after 0 0 ≡ getD table 0 0
+  pub arrivals : getD after 1 0 ≤ 128
+  pub aged : Timely after journal
 
 -- the job joined the set of signed jobs at a place, the vault those that signed the job, and r counts them
 pub record Countersigned (table : List ℕ) (at : ℕ) (signed : JobSet) (v job : ℕ) (after : List ℕ) (r : ℕ) : Type 0 where

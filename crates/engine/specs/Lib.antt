@@ -1,2 +1,3 @@
+pub mod Ages
 pub mod Kept
 pub mod Layout

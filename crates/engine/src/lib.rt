@@ -1,4 +1,5 @@
 // The ledger's steps on tables that the run keeps: each is the ledger's own step, by the index and without a copy.
+mod arrivals;
 mod faulty;
 mod gates;
 mod preflight;

@@ -26,7 +26,14 @@ fn countersign(table: &mut [u64], at: usize, signed: JobSet, v: u8, job: usize) 
 }
 
 // Checks 11 to 14, by the index.
-fn consult(settings: Settings, table: &mut [u64], journal: &[u8], index: &[u64], v: u8, job: usize) -> Outcome
+fn consult(
+    settings: Settings,
+    table: &mut [u64],
+    journal: &[u8],
+    index: &[u64],
+    v: u8,
+    job: usize,
+) -> Outcome
     requires { ⌜ Sound settings (now table) × (length (now journal) ≡ 12800) × Indexed (jobAt (now journal) (getD (now table) 0 0)) (getD (now table) 0 0) (now index) × (v < 16) × (job < getD (now table) 0 0) ⌝ }
     ensures { λ r. ⌜ (consulted (ledgerIn settings (now (table .entry))) (now (journal .entry)) v job ≡ answer settings r (now (table .exit))) × Same (now (table .entry)) (now (table .exit)) ⌝ }
 {
@@ -43,7 +50,14 @@ fn consult(settings: Settings, table: &mut [u64], journal: &[u8], index: &[u64],
     }
 }
 
-pub fn preflight(settings: Settings, table: &mut [u64], journal: &[u8], index: &[u64], v: u8, job: u8) -> Outcome
+pub fn preflight(
+    settings: Settings,
+    table: &mut [u64],
+    journal: &[u8],
+    index: &[u64],
+    v: u8,
+    job: u8,
+) -> Outcome
     requires { ⌜ Sound settings (now table) × (length (now journal) ≡ 12800) × Indexed (jobAt (now journal) (getD (now table) 0 0)) (getD (now table) 0 0) (now index) ⌝ }
     ensures { λ r. ⌜ (preflightOf (ledgerIn settings (now (table .entry))) (now (journal .entry)) v job ≡ answer settings r (now (table .exit))) × Same (now (table .entry)) (now (table .exit)) ⌝ }
 {

@@ -160,7 +160,7 @@ twice : (t m : Bool) → (t && not (t && m)) ≡ (t && not m)
 twice true m = refl
 twice false m = refl
 
-used-input : (j : Job) (e : ℕ) → e < 4 → isUsed j e ≡ ltb e (j .inputs)
+pub used-input : (j : Job) (e : ℕ) → e < 4 → isUsed j e ≡ ltb e (j .inputs)
 unfolding isUsed
 used-input j e l = simp (lt-ltb e 4 l)
 
