@@ -1,4 +1,6 @@
 pub mod Answers
 pub mod Arrives
 pub mod Fields
+pub mod Holds
+pub mod Lives
 pub mod Order

@@ -18,6 +18,8 @@ use Rattle.sets.specs.declared.job_set.JobSet.{JobSet}
 use Rattle.ledger.specs.Federation.{isLawful}
 use Rattle.ledger.specs.Generations.{generationAt}
 use Rattle.ledger.specs.Journal.{jobAt, slotAt}
+use Rattle.ledger.specs.State.{holdersOf}
+use Rattle.ledger.specs.Steps.{held}
 use Rattle.ledger.specs.declared.Reply.{Reply}
 use Rattle.ledger.specs.declared.Settings.{Settings}
 use Rattle.index.specs.Sieve.{Sieved}
@@ -72,6 +74,12 @@ pub record Moved (table after journal : List ℕ) : Type 0 where
 pub record Countersigned (table : List ℕ) (at : ℕ) (signed : JobSet) (v job : ℕ) (after : List ℕ) (r : ℕ) : Type 0 where
   pub stored : after ≡ set (storing table at (jobWith signed job)) (66 + job) (withMember 16 (getD (storing table at (jobWith signed job)) (66 + job) 0) v)
   pub votes : r ≡ ones (getD after (66 + job) 0)
+
+-- the vault holds the job, and r counts its acknowledgements
+pub record Holding (s : Settings) (table journal : List ℕ) (v job : ℕ) (after : List ℕ) (r : ℕ) : Type 0 where
+  pub ledger : ledgerIn s after ≡ held (ledgerIn s table) v job
+  pub votes : r ≡ ones (holdersOf (ledgerIn s after) job)
+  pub moved : Moved table after journal
 
 -- a step was answered so, and left the ledger in the table
 abbrev pub answer : Settings → Outcome → List ℕ → Reply

@@ -45,3 +45,9 @@ pub(crate) fn wide(x: u8) -> usize
 {
     x as usize
 }
+
+pub(crate) fn word(x: u16) -> u64
+    ensures { λ r. ⌜ r ≡ x ⌝ }
+{
+    x as u64
+}

@@ -1,0 +1,119 @@
+-- A commit: the certificate is read off the words, and what a vault that holds the job stores is the ledger's change.
+-- Assumes nothing.
+use mathlib.Core.Bool.{Bool, cond, false, true}
+use mathlib.Core.List.{List}
+use mathlib.Core.Path.{_∙_, _≡_, ap, refl, sym}
+use Prim.Native.Nat.{_*_, _+_, _<_, _≤_, ℕ}
+use native.Mathlib.Omega.{arith}
+use lib.Count.{ones}
+use lib.Dec.{leb}
+use lib.ListN.{getD, length, set}
+use Rattle.outcome.specs.declared.Outcome.the-variants.{Done, Refused}
+use Rattle.outcome.specs.declared.Refusal.{Refusal}
+use Rattle.outcome.specs.declared.Refusal.the-variants.{NotSigned, TooFewSigners}
+use Rattle.outcome.specs.declared.Verdict.the-variants.{Fail, Pass}
+use Rattle.sets.specs.Bits.{subsetOf, withMember}
+use Rattle.sets.specs.Jobs.{jobHas, jobWith}
+use Rattle.sets.specs.declared.job_set.JobSet.{JobSet}
+use Rattle.ledger.proofs.Gates.{first-passed}
+use Rattle.ledger.specs.Federation.{thresholdOf}
+use Rattle.ledger.specs.Journal.{jobAt}
+use Rattle.ledger.specs.State.{acknowledged, arriving, holdersOf, vaultAt, withVault}
+use Rattle.ledger.specs.Steps.{certificate, commitChecks, commitOf, committed, held, vaultGate}
+use Rattle.ledger.specs.Vaults.{holding}
+use Rattle.ledger.specs.declared.Ledger.{Ledger}
+use Rattle.ledger.specs.declared.Settings.{Settings}
+use Rattle.ledger.specs.declared.Vault.{Vault}
+use Rattle.index.specs.Slots.{Indexed}
+use Rattle.index.specs.Words.{setAt}
+use Rattle.engine.proofs.Answers.{same-storing, same-trans, same-vote}
+use Rattle.engine.proofs.Fields.{acknowledged-is, acknowledgement-stored, held-stored, signed-is, vault-is}
+use Rattle.engine.specs.Kept.{Aged, Holding, Moved, Same, Sound, Timely, answer}
+use Rattle.engine.specs.Layout.{agesIn, heldOf, ledgerIn, orderIn, signedOf, storing, vaultIn}
+
+pub certificate-is : (s : Settings) (table : List ℕ) (job signers : ℕ) → job < 128 → certificate (ledgerIn s table) job signers
+    ≡ cond (subsetOf signers (getD table (66 + job) 0)) (cond (leb (thresholdOf s) (ones signers)) Pass (Fail TooFewSigners)) (Fail NotSigned)
+unfolding certificate ledgerIn
+certificate-is s table job signers h = simp (signed-is s table job h)
+
+-- ---- what is kept where the counts, the order and the ages are as they were
+module _ (table after : List ℕ) (same : Same table after) where
+  pub sound-same : (s : Settings) → Sound s table → Sound s after
+  sound-same s ok = record { size = same .size ∙ ok .size; lawful = ok .lawful; booked = rw (same .booked) (ok .booked); arrivals = rw (same .arrivals) (ok .arrivals) }
+
+  pub timely-same : (journal : List ℕ) → Timely table journal → Timely after journal
+  timely-same journal t = rw (same .booked, same .arrivals, same .order, same .ages) t
+
+  pub indexed-same : (journal index : List ℕ) → Indexed (jobAt journal (getD table 0 0)) (getD table 0 0) index → Indexed (jobAt journal (getD after 0 0)) (getD after 0 0) index
+  indexed-same journal index x = rw (same .booked) x
+
+  pub moved-after : (journal last : List ℕ) → Moved after last journal → Moved table last journal
+  moved-after journal last m = record { size = m .size ∙ same .size; booked = m .booked ∙ same .booked; arrivals = m .arrivals; aged = m .aged }
+
+  pub moved-same : (s : Settings) (journal : List ℕ) → Sound s table → Timely table journal → Moved table after journal
+  moved-same s journal ok t = record { size = same .size; booked = same .booked; arrivals = rw (same .arrivals) (ok .arrivals); aged = timely-same journal t }
+
+-- ---- the vault holds the job
+module _ (s : Settings) (table journal index : List ℕ) (ok : Sound s table) (x : Indexed (jobAt journal (getD table 0 0)) (getD table 0 0) index)
+    (t : Timely table journal) (v job : ℕ) (few : v < 16) (known : job < getD table 0 0) where
+  small : job < 128
+  small = omega (arith, known, ok .booked)
+
+  vault : vaultAt (ledgerIn s table) v ≡ record { held = setAt table (heldOf v); signed = setAt table (signedOf v) }
+  unfolding vaultIn
+  vault = vault-is s table v few
+
+  -- it held it before
+  pub committed-again : (h : JobSet) → h ≡ setAt table (heldOf v) → jobHas h job ≡ true → (r : ℕ) → r ≡ ones (getD table (194 + job) 0)
+      → (committed (ledgerIn s table) v job ≡ answer s (Done r) table) × Moved table table journal
+  unfolding committed
+  committed-again h eh e r q = (
+    simp (vault, ap (λ (y : JobSet). jobHas y job) (sym eh) ∙ e, q, acknowledged-is s table job small),
+    record { size = refl; booked = refl; arrivals = ok .arrivals; aged = t },
+  )
+
+  -- the two words of its set and the vote
+  module _ (h u : JobSet) (eh : h ≡ setAt table (heldOf v)) (eu : u ≡ jobWith h job) (one two : List ℕ) (e1 : one ≡ storing table (heldOf v) u)
+      (e2 : two ≡ set one (194 + job) (withMember 16 (getD one (194 + job) 0) v)) where
+    same : Same table two
+    same = rw (e2, e1) (same-trans (same-storing table (heldOf v) u (omega arith) (omega arith)) (same-vote (storing table (heldOf v) u) (194 + job) _ (omega arith) (omega (arith, small))))
+
+    pub ready : Sound s two × ((Indexed (jobAt journal (getD two 0 0)) (getD two 0 0) index) × (Timely two journal × (job < getD two 0 0)))
+    ready = (sound-same table two same s ok, (indexed-same table two same journal index x, (timely-same table two same journal t, rw (same .booked) known)))
+
+    stored : ledgerIn s two ≡ acknowledged (withVault (ledgerIn s table) v (holding (vaultAt (ledgerIn s table) v) job)) v job
+    unfolding holding
+    stored =
+        ap (ledgerIn s) e2 ∙ acknowledgement-stored s one v job small
+        ∙ ap (λ (l : Ledger). acknowledged l v job) (ap (ledgerIn s) (e1 ∙ ap (storing table (heldOf v)) (eu ∙ ap (λ (y : JobSet). jobWith y job) eh)) ∙ held-stored s table (ok .size) v few _
+        ∙ sym (simp vault))
+
+    pub held-done : (after : List ℕ) (r : ℕ) → (ledgerIn s after ≡ arriving (ledgerIn s two) job) × Moved two after journal → r ≡ ones (getD after (194 + job) 0)
+        → Holding s table journal v job after r
+    unfolding held
+    held-done after r a q = record {
+      ledger = a .0 ∙ ap (λ (l : Ledger). arriving l job) stored;
+      votes = q ∙ ap ones (sym (acknowledged-is s after job small));
+      moved = moved-after table two same journal after (a .1);
+    }
+
+  pub committed-done : (h : JobSet) → h ≡ setAt table (heldOf v) → jobHas h job ≡ false → (after : List ℕ) (r : ℕ) → Holding s table journal v job after r
+      → (committed (ledgerIn s table) v job ≡ answer s (Done r) after) × Moved table after journal
+  unfolding committed
+  committed-done h eh e after r d =
+      (simp (vault, ap (λ (y : JobSet). jobHas y job) (sym eh) ∙ e) (sym (simp (d .votes, d .ledger))), d .moved)
+
+pub commit-is : (s : Settings) (table journal : List ℕ) (v job signers : ℕ) → commitChecks (ledgerIn s table) journal v job signers ≡ Pass
+    → commitOf (ledgerIn s table) journal v job signers ≡ committed (ledgerIn s table) v job
+unfolding commitOf
+commit-is s table journal v job signers e = simp e
+
+pub commit-refused : (s : Settings) (table journal : List ℕ) → Sound s table → Timely table journal → (v job signers : ℕ) (why : Refusal) → commitChecks (ledgerIn s table) journal v job signers ≡ Fail why
+    → (commitOf (ledgerIn s table) journal v job signers ≡ answer s (Refused why) table) × Moved table table journal
+unfolding commitOf
+commit-refused s table journal ok t v job signers why e = (simp e, record { size = refl; booked = refl; arrivals = ok .arrivals; aged = t })
+
+-- behind the checks of a commit is the gate
+pub gate-passed : (s : Settings) (table journal : List ℕ) (v job signers : ℕ) → commitChecks (ledgerIn s table) journal v job signers ≡ Pass → vaultGate (ledgerIn s table) journal v job false ≡ Pass
+unfolding commitChecks
+gate-passed s table journal v job signers e = first-passed (vaultGate (ledgerIn s table) journal v job false) _ e
