@@ -1,3 +1,4 @@
 pub mod Ages
+pub mod Books
 pub mod Kept
 pub mod Layout

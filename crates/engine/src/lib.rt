@@ -5,5 +5,6 @@ mod faulty;
 mod gates;
 mod generations;
 mod preflight;
+mod propose;
 mod show;
 mod table;

@@ -7,4 +7,5 @@ mod words;
 
 pub use checks::admission;
 pub use entering::enter;
+pub use sieve::alike;
 pub use words::set_at;

@@ -28,12 +28,20 @@ pub(crate) fn sift(sieve: &mut [u64], a: Job, n: usize)
     }
 }
 
+// The jobs that have a label with the same remainder.
+pub fn alike(sieve: &[u64], label: u64) -> JobSet
+    requires { ⌜ length (now sieve) ≡ 2042 ⌝ }
+    ensures { λ r. ⌜ r ≡ setAt (now (sieve .entry)) (2 * bucketOf label) ⌝ }
+{
+    words::set_at(sieve, 2 * bucket(label))
+}
+
 fn joined(sieve: &[u64], a: Job, e: usize, s: JobSet) -> JobSet
     requires { ⌜ length (now sieve) ≡ 2042 ⌝ }
     ensures { λ r. ⌜ r ≡ cond (isUsed a e) (jobUnion s (setAt (now (sieve .entry)) (2 * bucketOf (labelOf a e)))) s ⌝ }
 {
     if record::used(a, e) {
-        return s.union(words::set_at(sieve, 2 * bucket(record::label(a, e))));
+        return s.union(alike(sieve, record::label(a, e)));
     }
     s
 }

@@ -19,7 +19,7 @@ use Rattle.ledger.specs.Journal.{isBooked, jobAt, putAt, recordAt, slotA
 use Rattle.ledger.specs.Register.{tabled}
 use Rattle.ledger.specs.Worlds.{lend, overlay}
 
-take-drop : (m r : ℕ) (l : List ℕ) → take r (drop m l) ≡ drop m (take (m + r) l)
+pub take-drop : (m r : ℕ) (l : List ℕ) → take r (drop m l) ≡ drop m (take (m + r) l)
 take-drop zero r l = rw zero-add
 take-drop (suc m) r [] = take-nil r ∙ sym (ap (drop (suc m)) (take-nil (suc m + r)))
 take-drop (suc m) r (x ∷ l) = rw suc-add (take-drop m r l)

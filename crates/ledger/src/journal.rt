@@ -53,7 +53,8 @@ pub fn inside(journal: &[u8], booked: usize) -> usize
     fit
 }
 
-fn equal_at(journal: &[u8], bytes: &[u8], k: usize) -> bool
+// The bytes in place k are these. A helper for whoever keeps a journal, not a step: the place lies inside.
+pub fn equal_at(journal: &[u8], bytes: &[u8], k: usize) -> bool
     requires { ⌜ recordSize * k + recordSize ≤ length (now journal) ⌝ }
     ensures { λ r. ⌜ r ≡ equalAt (now (journal .entry)) (now (bytes .entry)) k ⌝ }
 {

@@ -5,11 +5,11 @@
 use mathlib.Core.Bool.{Bool, cond, false, true, true≢false}
 use mathlib.Core.List.{List, [], _++_, _∷_, append-assoc, append-nil}
 use mathlib.Core.Path.{_∙_, _≡_, ap, refl, subst, sym}
-use Prim.Native.Nat.{_*_, _+_, _≤_, suc, zero, ℕ}
+use Prim.Native.Nat.{_*_, _+_, suc, zero, ℕ}
 use native.Mathlib.Nat.{zero-add}
 use native.Mathlib.Omega.{arith}
 use lib.Dec.{leb}
-use lib.ListN.{drop, drop-of-length-le, getD, length, length-append, length-drop, length-take, take, take-append-drop}
+use lib.ListN.{drop, drop-of-length-le, getD, length, length-append, length-take, take, take-append-drop}
 use lib.Seq.{take-length}
 use Rattle.base.proofs.Reflect.{and-true}
 use Rattle.draw.specs.Draw.{drawOf}
@@ -17,8 +17,8 @@ use Rattle.record.specs.Codec.{recordSize}
 use Rattle.ledger.proofs.Demand3.{demand3}
 use Rattle.ledger.proofs.Gates.{reflect-lawful}
 use Rattle.ledger.proofs.Places.{examined-length, placed-new}
+use Rattle.ledger.proofs.Putting.{put-length}
 use Rattle.ledger.specs.Demand3.{Holds}
-use Rattle.ledger.specs.Journal.{putAt}
 use Rattle.ledger.specs.Meaning.{Lawful}
 use Rattle.ledger.specs.Register.{feedAll, log, newRegister}
 use Rattle.ledger.specs.State.{newLedger}
@@ -33,12 +33,6 @@ use Rattle.runfile.specs.Steps.{Command, draw, journalBy, replyOf, reque
 use Rattle.runfile.specs.Text.{lineFor, lineOf}
 
 -- ---- a step leaves the journal as long as it was
-put-length : (m : ℕ) (journal bytes : List ℕ) → length bytes ≡ recordSize → recordSize * m + recordSize ≤ length journal
-    → length (putAt journal m bytes) ≡ length journal
-unfolding putAt
-put-length m journal bytes e h =
-    simp (length-append, length-take, length-drop) (omega (arith, e))
-
 place-length : (l : Ledger) (journal bytes : List ℕ) (p : Place) → placeOf l journal bytes ≡ p → length (journalWith p l journal bytes) ≡ length journal
 place-length l journal bytes (Known k) e = refl
 place-length l journal bytes New e =

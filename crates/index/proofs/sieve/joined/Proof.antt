@@ -1,7 +1,7 @@
 -- The bucket of an entry that is used, and nothing of one that is not.
 -- Assumes nothing.
-use borrow.Author.Needs.{needs}
 use mathlib.Core.Path.{_∙_, sym}
+use borrow.Author.Needs.{needs}
 use Rattle.base.proofs.Tests.{chain}
 use Rattle.index.proofs.sieve.joined.Statement.{statement}
 use Rattle.index.proofs.sieve.joined.Tie as tie
@@ -12,20 +12,14 @@ used-requires c κs = search needs
 label-requires : tie.Need-label-requires
 label-requires c κs = search needs
 
-bucket-requires : tie.Need-bucket-requires
-bucket-requires c κs = search needs
-
-mul-set-at : tie.Need-mul-set-at
-mul-set-at c = search needs
-
-set-at-requires : tie.Need-set-at-requires
-set-at-requires c κs = search needs
+alike-requires : tie.Need-alike-requires
+alike-requires c κs = search needs
 
 union-requires : tie.Need-union-requires
 union-requires c κs = search needs
 
 returns : tie.Need-returns
-returns c = simp (sym (c .before .before .before .before .before .used .ensures) ∙ c .before .before .before .before .if1 .taken, ← c .before .before .before .label .ensures, ← c .before .before .bucket .ensures .0, ← c .before .set-at .ensures .0) (c .union .ensures)
+returns c = simp (sym (c .before .before .before .before .used .ensures) ∙ c .before .before .before .if1 .taken, ← c .before .before .label .ensures, ← c .before .alike .ensures) (c .union .ensures)
 
 returns-2 : tie.Need-returns-2
 returns-2 c = search chain depth 8
@@ -33,12 +27,4 @@ returns-2 c = search chain depth 8
 pub joined-spec : {M : Type 1} → statement M
 joined-spec =
     tie.close
-    (tie.spec
-    used-requires
-    label-requires
-    bucket-requires
-    mul-set-at
-    set-at-requires
-    union-requires
-    returns
-    returns-2)
+    (tie.spec used-requires label-requires alike-requires union-requires returns returns-2)
