@@ -1,41 +1,33 @@
+-- Booked where there is room.
+-- Assumes nothing.
 use borrow.Author.Needs.{needs}
+use Rattle.engine.proofs.Bookings.{proposed-full, proposed-new}
 use Rattle.engine.proofs.propose.book_new.Statement.{statement}
 use Rattle.engine.proofs.propose.book_new.Tie as tie
-use Rattle.engine.proofs.propose.book_new.Reads as reads
-use Rattle.engine.proofs.propose.book_new.Lts as lts
-use Rattle.engine.proofs.propose.book.Reads as book-reads
 
--- src/propose.rt:54:9
 book-requires : tie.Need-book-requires
 book-requires c κs = search needs
 
--- src/propose.rt:55:30
 cast-t18 : tie.Need-cast-t18
 cast-t18 c = search needs
 
--- src/propose.rt:55:9
 same-length : tie.Need-same-length
 same-length c = search needs
 
--- src/propose.rt:55:9
 same-length-2 : tie.Need-same-length-2
 same-length-2 c = search needs
 
--- src/propose.rt:55:9
 same-length-3 : tie.Need-same-length-3
 same-length-3 c = search needs
 
--- src/propose.rt:55:9
 same-length-4 : tie.Need-same-length-4
 same-length-4 c = search needs
 
--- src/propose.rt:55:9
 returns : tie.Need-returns
-returns c = ?
+returns c = proposed-new _ _ _ _ _ (c .before .before .before .before .before .before .before .before .before .before .before .before .before .before .before .before .before .before .before .pre .0) _ _ (c .before .before .before .before .before .before .before .before .before .before .before .before .before .before .before .before .before .before .before .pre .1) (c .before .before .before .before .before .before .before .before .before .before .before .before .before .if1 .taken) (c .before .before .before .before .before .before .before .before .before .before .before .before .before .before .before .before .before .before .before .pre .2) (c .before .before .before .before .before .before .before .before .before .before .before .before .before .before .before .before .before .before .before .pre .3) _ _ _ _ (c .before .before .before .before .before .before .before .before .book .ensures)
 
--- src/propose.rt:49:1
 returns-2 : tie.Need-returns-2
-returns-2 c = ?
+returns-2 c = proposed-full _ _ _ _ _ (c .before .before .before .before .before .before .pre .0) _ _ (c .before .before .before .before .before .before .pre .1) (c .before .before .before .before .before .before .pre .3) (c .if1 .left)
 
 pub book-new-spec : {M : Type 1} → statement M
 book-new-spec =

@@ -1,26 +1,25 @@
+-- In the set, and the bytes are the same.
+-- Assumes nothing.
+use mathlib.Core.Path.{_∙_, sym}
 use borrow.Author.Needs.{needs}
+use Rattle.base.proofs.Tests.{chain}
 use Rattle.engine.proofs.propose.candidate_at.Statement.{statement}
+use Rattle.engine.specs.Books.{candidateAt}
 use Rattle.engine.proofs.propose.candidate_at.Tie as tie
-use Rattle.engine.proofs.propose.candidate_at.Reads as reads
-use Rattle.engine.proofs.propose.candidate_at.Lts as lts
-use Rattle.ledger.proofs.journal.equal_at.Reads as equal-at-reads
-use Rattle.sets.proofs.job_set.JobSet.has.Reads as has-reads
 
--- src/propose.rt:19:8
 has-requires : tie.Need-has-requires
 has-requires c κs = search needs
 
--- src/propose.rt:20:9
 equal-at-requires : tie.Need-equal-at-requires
 equal-at-requires c κs = search needs
 
--- src/propose.rt:20:9
 returns : tie.Need-returns
-returns c = ?
+unfolding candidateAt
+returns c = simp (sym (c .before .before .has .ensures) ∙ c .before .if1 .taken) (c .equal-at .ensures)
 
--- src/propose.rt:15:1
 returns-2 : tie.Need-returns-2
-returns-2 c = ?
+unfolding candidateAt
+returns-2 c = search chain depth 8
 
 pub candidate-at-spec : {M : Type 1} → statement M
 candidate-at-spec = tie.close (tie.spec has-requires equal-at-requires returns returns-2)
