@@ -1,22 +1,21 @@
 -- What the code does where a job arrives: the slots of the index name the makers that the definition seeks, the ages of the table are those of
 -- the makers, and the three words that are stored are the ledger's arrival.
 -- Assumes nothing.
-use mathlib.Core.Bool.{Bool, _&&_, _||_, cond, false, true, true≢false}
+use mathlib.Core.Bool.{Bool, _||_, cond, false, true}
 use mathlib.Core.List.{List}
 use mathlib.Core.Logic.{inl, inr}
-use mathlib.Core.Path.{_∙_, _≡_, ap, refl, subst, sym}
+use mathlib.Core.Path.{_∙_, _≡_, ap, refl, sym}
 use Prim.Native.Nat.{_*_, _+_, _<_, _≤_, suc, ℕ}
 use native.Mathlib.Numerals.{add-one}
 use native.Mathlib.Omega.{arith}
-use lib.Dec.{eqb, leb, ltb}
-use lib.ListN.{getD, length, length-drop, length-set, length-take, set}
+use lib.Dec.{leb, ltb}
+use lib.ListN.{getD, length, length-set, set}
 use lib.Seq.{getD-set-other, getD-set-same}
-use borrow.Author.Tests.{eq-eqb, eqb-true, le-leb, le-ltb, lt-leb, lt-ltb, ltb-false, ltb-true}
-use Rattle.base.proofs.Search.{any-intro, first-least, first-le, first-same, least-first}
+use borrow.Author.Tests.{eq-eqb, eqb-true, le-leb, lt-leb, lt-ltb, ltb-false, ltb-true}
+use Rattle.base.proofs.Search.{any-intro, first-le, first-same, least-first}
 use Rattle.base.specs.Search.{anyBelow, firstBelow}
 use Rattle.record.specs.Conflicts.{makesTape}
 use Rattle.record.specs.Entries.{framesOf, isUsed, labelOf}
-use Rattle.record.specs.declared.Job.{Job}
 use Rattle.sets.specs.Jobs.{jobHas}
 use Rattle.ledger.proofs.Ages.{before-at, before-past, most-le}
 use Rattle.ledger.specs.Generations.{generationAt, generationsBefore, highest}
@@ -32,7 +31,7 @@ use Rattle.engine.proofs.Answers.{inputs-at}
 use Rattle.engine.proofs.Fields.{part-at, part-in, part-out, part-size, vaults-out}
 use Rattle.engine.proofs.Order.{aged-arrives, highest-same}
 use Rattle.engine.specs.Ages.{Seated, broughtIn, madeAt, makerIn, seated}
-use Rattle.engine.specs.Kept.{Aged, Moved, Sound, Timely, arrivalOf}
+use Rattle.engine.specs.Kept.{Moved, Sound, Timely, arrivalOf}
 use Rattle.engine.specs.Layout.{agesIn, ledgerIn, orderIn, part, vaultsIn}
 
 or-full : {A : Type 0} (a b : Bool) (x y : A) → b ≡ true → cond (a || b) x y ≡ x

@@ -1,16 +1,16 @@
 -- A proposal on the tables: the sieve leaves out no booked equal, a booked equal has passed checks 6 to 9, and a record that is booked keeps
 -- all that is kept right.
 -- Assumes nothing.
-use mathlib.Core.Bool.{Bool, _&&_, cond, false, true, true≢false}
-use mathlib.Core.List.{List, []}
-use mathlib.Core.Logic.{inl, inr}
+use mathlib.Core.Bool.{Bool, _&&_, cond, false, true}
+use mathlib.Core.List.{List}
+use mathlib.Core.Logic.{inl}
 use mathlib.Core.Path.{_∙_, _≡_, ap, ap₂, refl, subst, sym}
 use Prim.Native.Nat.{_*_, _+_, _/_, _<_, _≤_, ℕ}
 use native.Mathlib.Omega.{arith}
 use lib.Dec.{eqb, ltb}
 use lib.ListN.{getD, length, length-set, set}
 use lib.Seq.{getD-set-other, getD-set-same}
-use borrow.Author.Tests.{eq-eqb, eqb-false, eqb-true, le-leb, le-ltb, lt-ltb, ltb-false, ltb-true}
+use borrow.Author.Tests.{eq-eqb, le-leb, le-ltb, lt-ltb, ltb-false, ltb-true}
 use Rattle.base.proofs.Lists.{reflect-same}
 use Rattle.base.proofs.Search.{first-any, first-le, first-least, first-same}
 use Rattle.base.specs.Search.{anyBelow, firstBelow}
@@ -29,14 +29,14 @@ use Rattle.ledger.proofs.Gates.{passed-rest, passed-test}
 use Rattle.ledger.proofs.Putting.{put-length, slot-before, slot-put}
 use Rattle.ledger.specs.Generations.{generationAt}
 use Rattle.ledger.specs.Journal.{equalAt, equalIn, hasRoom, insideOf, isBooked, jobAt, putAt, recordAt, slotAt}
-use Rattle.ledger.specs.State.{booking, isSane}
+use Rattle.ledger.specs.State.{booking}
 use Rattle.ledger.specs.Steps.{journalAfter, newPlace, placeOf, placed, proposeOf}
 use Rattle.ledger.specs.declared.Ledger.{Ledger}
 use Rattle.ledger.specs.declared.Place.the-variants.{Known, New, Turned}
 use Rattle.ledger.specs.declared.Settings.{Settings}
 use Rattle.index.proofs.Enters.{index-grows}
 use Rattle.index.proofs.Marks.{set-bit}
-use Rattle.index.proofs.Sifts.{bucket-below, sieve-grows}
+use Rattle.index.proofs.Sifts.{sieve-grows}
 use Rattle.index.specs.Entering.{indexWith, sieveWith}
 use Rattle.index.specs.Sieve.{Sieved, bucketOf}
 use Rattle.index.specs.Slots.{Indexed, shares}
@@ -45,8 +45,8 @@ use Rattle.engine.proofs.Answers.{sane}
 use Rattle.engine.proofs.Fields.{part-out, vaults-out}
 use Rattle.engine.proofs.Order.{generation-same}
 use Rattle.engine.specs.Books.{Booked, Fresh, Proposed, candidateAt}
-use Rattle.engine.specs.Kept.{Aged, Kept, Sound, answer, arrivalOf}
-use Rattle.engine.specs.Layout.{ledgerIn, vaultsIn}
+use Rattle.engine.specs.Kept.{Aged, Kept, arrivalOf}
+use Rattle.engine.specs.Layout.{ledgerIn}
 
 -- ---- the jobs of a journal of 12,800 bytes
 pub job-slot : (journal : List ℕ) (b k : ℕ) → length journal ≡ 12800 → b ≤ 128 → k < b → jobAt journal b k ≡ jobOf (slotAt journal k)

@@ -1,8 +1,8 @@
 -- A store changes one field of the ledger in the table and leaves the others: what each change of specs/State.antt of the ledger is in the table.
 -- Assumes nothing.
 use mathlib.Core.Bool.{Bool, false, true}
-use mathlib.Core.List.{List, [], _∷_}
-use mathlib.Core.Logic.{_≢_, _⊎_, inl, inr, ⊎-elim}
+use mathlib.Core.List.{List, _∷_}
+use mathlib.Core.Logic.{_≢_, _⊎_, inl, inr}
 use mathlib.Core.Path.{_∙_, _≡_, ap, ap₂, refl, sym}
 use Prim.Native.Nat.{_*_, _+_, _-_, _<_, _≤_, suc, zero, ℕ}
 use native.Mathlib.Nat.{add-zero, not-suc-le-zero, zero-add}
@@ -13,9 +13,8 @@ use lib.Seq.{drop-set-add, drop-set-lt, getD-drop, getD-set-other, getD-set-same
 use borrow.Author.Tests.{ltb-false, ltb-true}
 use Rattle.sets.specs.Bits.{withMember}
 use Rattle.sets.specs.declared.job_set.JobSet.{JobSet}
-use Rattle.ledger.specs.State.{acknowledged, booking, countersigned, holdersOf, signersOf, vaultAt, withVault}
+use Rattle.ledger.specs.State.{acknowledged, countersigned, holdersOf, signersOf, vaultAt, withVault}
 use Rattle.ledger.specs.Vaults.{newVault}
-use Rattle.ledger.specs.declared.Ledger.{Ledger}
 use Rattle.ledger.specs.declared.Settings.{Settings}
 use Rattle.ledger.specs.declared.Vault.{Vault}
 use Rattle.index.specs.Words.{setAt}

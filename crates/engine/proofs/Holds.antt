@@ -1,13 +1,13 @@
 -- A commit: the certificate is read off the words, and what a vault that holds the job stores is the ledger's change.
 -- Assumes nothing.
-use mathlib.Core.Bool.{Bool, cond, false, true}
+use mathlib.Core.Bool.{cond, false, true}
 use mathlib.Core.List.{List}
 use mathlib.Core.Path.{_∙_, _≡_, ap, refl, sym}
-use Prim.Native.Nat.{_*_, _+_, _<_, _≤_, ℕ}
+use Prim.Native.Nat.{_+_, _<_, ℕ}
 use native.Mathlib.Omega.{arith}
 use lib.Count.{ones}
 use lib.Dec.{leb}
-use lib.ListN.{getD, length, set}
+use lib.ListN.{getD, set}
 use Rattle.outcome.specs.declared.Outcome.the-variants.{Done, Refused}
 use Rattle.outcome.specs.declared.Refusal.{Refusal}
 use Rattle.outcome.specs.declared.Refusal.the-variants.{NotSigned, TooFewSigners}
@@ -18,18 +18,17 @@ use Rattle.sets.specs.declared.job_set.JobSet.{JobSet}
 use Rattle.ledger.proofs.Gates.{first-passed}
 use Rattle.ledger.specs.Federation.{thresholdOf}
 use Rattle.ledger.specs.Journal.{jobAt}
-use Rattle.ledger.specs.State.{acknowledged, arriving, holdersOf, vaultAt, withVault}
+use Rattle.ledger.specs.State.{acknowledged, arriving, vaultAt, withVault}
 use Rattle.ledger.specs.Steps.{certificate, commitChecks, commitOf, committed, held, vaultGate}
 use Rattle.ledger.specs.Vaults.{holding}
 use Rattle.ledger.specs.declared.Ledger.{Ledger}
 use Rattle.ledger.specs.declared.Settings.{Settings}
-use Rattle.ledger.specs.declared.Vault.{Vault}
 use Rattle.index.specs.Slots.{Indexed}
 use Rattle.index.specs.Words.{setAt}
 use Rattle.engine.proofs.Answers.{same-storing, same-trans, same-vote}
 use Rattle.engine.proofs.Fields.{acknowledged-is, acknowledgement-stored, held-stored, signed-is, vault-is}
-use Rattle.engine.specs.Kept.{Aged, Holding, Moved, Same, Sound, Timely, answer}
-use Rattle.engine.specs.Layout.{agesIn, heldOf, ledgerIn, orderIn, signedOf, storing, vaultIn}
+use Rattle.engine.specs.Kept.{Holding, Kept, Moved, Same, Sound, Timely, answer}
+use Rattle.engine.specs.Layout.{heldOf, ledgerIn, signedOf, storing, vaultIn}
 
 pub certificate-is : (s : Settings) (table : List ℕ) (job signers : ℕ) → job < 128 → certificate (ledgerIn s table) job signers
     ≡ cond (subsetOf signers (getD table (66 + job) 0)) (cond (leb (thresholdOf s) (ones signers)) Pass (Fail TooFewSigners)) (Fail NotSigned)
@@ -117,3 +116,17 @@ commit-refused s table journal ok t v job signers why e = (simp e, record { size
 pub gate-passed : (s : Settings) (table journal : List ℕ) (v job signers : ℕ) → commitChecks (ledgerIn s table) journal v job signers ≡ Pass → vaultGate (ledgerIn s table) journal v job false ≡ Pass
 unfolding commitChecks
 gate-passed s table journal v job signers e = first-passed (vaultGate (ledgerIn s table) journal v job false) _ e
+
+-- ---- all that is kept, after a step that books nothing
+pub kept-moved : (s : Settings) (table after journal index sieve : List ℕ) → Kept s table journal index sieve → Moved table after journal → Kept s after journal index sieve
+kept-moved s table after journal index sieve k m = record {
+  sound = record { size = m .size ∙ k .sound .size; lawful = k .sound .lawful; booked = rw (m .booked) (k .sound .booked); arrivals = m .arrivals };
+  full = k .full;
+  indexed = rw (m .booked) (k .indexed);
+  sieved = rw (m .booked) (k .sieved);
+  passes = λ i l. k .passes i (rw (m .booked) at l);
+  aged = m .aged;
+}
+
+pub kept-same : (s : Settings) (table after journal index sieve : List ℕ) → Kept s table journal index sieve → Same table after → Kept s after journal index sieve
+kept-same s table after journal index sieve k e = kept-moved s table after journal index sieve k (moved-same table after e s journal (k .sound) (k .aged))

@@ -1,5 +1,6 @@
 pub mod Answers
 pub mod Arrives
+pub mod Beginning
 pub mod Bookings
 pub mod Fields
 pub mod Holds

@@ -1,23 +1,23 @@
 -- The ages stay right: a job that arrives goes to the end of the order, where nothing before it changes, and its generations are found as the definition
 -- finds them.
 -- Assumes nothing.
-use mathlib.Core.Bool.{Bool, _&&_, _||_, cond, false, true, true≢false}
+use mathlib.Core.Bool.{Bool, cond, false, true, true≢false}
 use mathlib.Core.List.{List, _++_, _∷_, []}
-use mathlib.Core.Logic.{_≢_, inl, inr}
+use mathlib.Core.Logic.{_≢_}
 use mathlib.Core.Path.{_∙_, _≡_, ap, ap₂, refl, subst, sym}
 use Prim.Native.Nat.{_+_, _<_, max, suc, zero, ℕ}
 use native.Mathlib.Numerals.{add-one}
 use native.Mathlib.Omega.{arith}
-use lib.Dec.{eqb, leb, ltb}
-use lib.ListN.{getD, length, length-set, set}
+use lib.Dec.{eqb}
+use lib.ListN.{getD, length, set}
 use lib.Seq.{getD-set-other, getD-set-same}
-use borrow.Author.Tests.{eq-eqb, eqb-false, eqb-true, le-leb, le-ltb, lt-leb, lt-ltb, ltb-false, ltb-true, ne-eqb}
-use Rattle.base.proofs.Search.{any-intro, any-none, any-same, first-any, first-is, first-least, first-none, first-same, none-any}
+use borrow.Author.Tests.{eq-eqb, eqb-false, eqb-true, ne-eqb}
+use Rattle.base.proofs.Search.{any-intro, any-none, any-same, first-any, first-is, first-same}
 use Rattle.base.specs.Search.{anyBelow, firstBelow}
 use Rattle.record.specs.Conflicts.{makesTape}
 use Rattle.record.specs.Entries.{framesOf, isUsed, labelOf}
 use Rattle.record.specs.declared.Job.{Job}
-use Rattle.ledger.proofs.Ages.{before-at, before-past, generation-is, generation-le}
+use Rattle.ledger.proofs.Ages.{generation-is}
 use Rattle.ledger.specs.Generations.{createdAt, creatorOf, generationAt, generationFrom, generationsBefore, highest}
 use Rattle.ledger.specs.Memo.{broughtBy}
 use Rattle.engine.specs.Kept.{Aged, arrivalOf}

@@ -3,7 +3,7 @@ use mathlib.Core.Bool.{Bool, _&&_}
 use mathlib.Core.List.{List}
 use mathlib.Core.Path.{_≡_}
 use Prim.Native.Nat.{_+_, ℕ}
-use lib.ListN.{getD, set}
+use lib.ListN.{set}
 use Rattle.base.specs.Search.{firstBelow}
 use Rattle.outcome.specs.declared.Outcome.{Outcome}
 use Rattle.outcome.specs.declared.Verdict.the-variants.{Pass}

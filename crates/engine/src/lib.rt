@@ -1,10 +1,11 @@
-// The ledger's steps on tables that the run keeps: each is the ledger's own step, by the index and without a copy.
+// The ledger's steps on tables that the run keeps: each is the ledger's own step, by the index and without a copy. They ask that what is kept is
+// right, as the run keeps it; whoever has no such tables calls the ledger's operations, which ask nothing.
 mod arrivals;
-mod commit;
-mod faulty;
+pub mod commit;
+pub mod faulty;
 mod gates;
-mod generations;
-mod preflight;
-mod propose;
-mod show;
+pub mod generations;
+pub mod preflight;
+pub mod propose;
+pub mod show;
 mod table;

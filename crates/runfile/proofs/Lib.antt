@@ -1,3 +1,4 @@
+pub mod Commands
 pub mod History
 pub mod Turns
 pub mod Unknown

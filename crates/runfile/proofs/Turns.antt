@@ -1,7 +1,7 @@
 -- What the run's loop does at each way out is the run of specs/Run.antt: a run that has ended stays as it is, so its text after as many
 -- steps as there are bytes is its text where it ended.
 -- Assumes nothing.
-use mathlib.Core.Bool.{Bool, _&&_, cond, false, true}
+use mathlib.Core.Bool.{Bool, _&&_, false, true}
 use mathlib.Core.List.{List, _++_}
 use mathlib.Core.Path.{_∙_, _≡_, refl}
 use Prim.Native.Nat.{_+_, _<_, _≤_, ℕ}
@@ -9,15 +9,15 @@ use native.Mathlib.Decide.{le-ind}
 use native.Mathlib.Numerals.{add-one}
 use native.Mathlib.Omega.{arith}
 use lib.Dec.{leb, ltb}
-use lib.ListN.{getD, length}
+use lib.ListN.{getD, length, replicate}
 use borrow.Author.Tests.{le-leb, le-ltb, leb-true, lt-leb, lt-ltb}
 use Rattle.base.proofs.Reflect.{and-true}
 use Rattle.ledger.specs.Federation.{isLawful}
 use Rattle.ledger.specs.State.{newLedger}
-use Rattle.ledger.specs.Steps.{answered, newOf, refused}
 use Rattle.ledger.specs.declared.Ledger.{Ledger}
 use Rattle.ledger.specs.declared.Reply.{Reply}
-use Rattle.outcome.specs.declared.Refusal.the-variants.{Settings as BadSettings}
+use Rattle.engine.proofs.Beginning.{ledger-new}
+use Rattle.engine.specs.Layout.{ledgerIn}
 use Rattle.outcome.specs.Figures.{numberOf, valueOf}
 use Rattle.runfile.specs.Run.{Run, after, carriedOut, cutShort, ended, going, isHeader, isReadable, opened, opens, runText, turn}
 use Rattle.runfile.specs.Steps.{bodySize, commandAt, journalBy, replyOf, wordAt}
@@ -61,14 +61,14 @@ pub header-long : (input : List ℕ) → isHeader input ≡ true → 9 ≤ lengt
 unfolding isHeader
 header-long input e = leb-true 9 (length input) (and-true (leb 9 (length input)) _ e .0)
 
--- the new ledger has the header's settings, lawful or not
-pub new-opened : (input : List ℕ) (w : ℕ) → w ≡ wordAt input 7 → (r : Reply) → r ≡ newOf (getD input 5 0) (getD input 6 0) w → r .ledger ≡ opened input
-unfolding newOf opened
-new-opened input w e r q = rw (q, e) (by (isLawful (newLedger (getD input 5 0) (getD input 6 0) (wordAt input 7) .settings)) _ _)
-  where
-    by : (b : Bool) (x : ℕ) (l : Ledger) → cond b (answered x l) (refused BadSettings l) .ledger ≡ l
-    by true x l = refl
-    by false x l = refl
+-- the tables that a run begins with are those of a new ledger with the header's settings
+pub settings-are : (input : List ℕ) (w : ℕ) → w ≡ wordAt input 7 → record { n = getD input 5 0; b = getD input 6 0; faulty = w } ≡ opened input .settings
+unfolding opened newLedger
+settings-are input w e = rw e
+
+pub opened-is : (input : List ℕ) (w : ℕ) → w ≡ wordAt input 7 → ledgerIn (record { n = getD input 5 0; b = getD input 6 0; faulty = w }) (replicate 578 0) ≡ opened input
+unfolding opened
+opened-is input w e = rw e (ledger-new (getD input 5 0) (getD input 6 0) (wordAt input 7))
 
 -- ---- the end
 whole : (input : List ℕ) (k : ℕ) → opens input ≡ true → k ≤ length input → ended input (after input k) ≡ true → runText input ≡ after input k .text

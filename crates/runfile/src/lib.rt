@@ -6,7 +6,7 @@ mod text;
 ghost use Prim.Native.Nat.{_≤_};
 ghost use Rattle.runfile.specs.Run.{runText};
 ghost use Rattle.runfile.specs.Text.{Put};
-use ledger::Ledger;
+use ledger::Settings;
 
 // Writes the whole text for any input, as much of it as `out` takes, and answers its length. A step has at least two bytes and
 // a line at most 33, so no text is longer than 33 times 32,768.
@@ -19,12 +19,18 @@ pub fn run(input: &[u8], out: &mut [u8]) -> usize
     if !header::is_header(input) {
         return text::put_line(out, 0, 0, 1, 0);
     }
-    let opened = Ledger::new(input[5], input[6], header::word_at(input, 7));
-    let mut l = opened.ledger;
-    if !l.settings.is_lawful() {
+    let settings = Settings {
+        n: input[5],
+        b: input[6],
+        faulty: header::word_at(input, 7),
+    };
+    if !settings.is_lawful() {
         return text::put_line(out, 0, 0, 1, 0);
     }
     let mut journal = [0u8; 12800];
+    let mut table = [0u64; 578];
+    let mut index = [0u64; 3072];
+    let mut sieve = [0u64; 2042];
     let mut pos: usize = 9;
     let mut at: usize = 0;
     let mut k: u32 = 0;
@@ -37,9 +43,16 @@ pub fn run(input: &[u8], out: &mut [u8]) -> usize
         if input.len() <= pos + n {
             return text::put_line(out, at, k + 1, 2, 0);
         }
-        let reply = steps::step(kind, l, &mut journal, input, pos + 1);
-        let outcome = reply.outcome;
-        l = reply.ledger;
+        let outcome = steps::step(
+            kind,
+            settings,
+            &mut table,
+            &mut journal,
+            &mut index,
+            &mut sieve,
+            input,
+            pos + 1,
+        );
         k += 1;
         pos = pos + n + 1;
         at = text::put_line(out, at, k, outcome.number() as u32, outcome.value());

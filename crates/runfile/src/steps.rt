@@ -2,10 +2,11 @@
 ghost use mathlib.Core.Path.{_≡_};
 ghost use Prim.Native.Nat.{_+_, _<_, _≤_};
 ghost use lib.ListN.{length};
-ghost use Rattle.runfile.specs.Steps.{bodySize, commandAt, journalBy, replyOf};
+ghost use Rattle.runfile.specs.Steps.{bodySize, commandAt};
+ghost use Rattle.engine.specs.Kept.{Kept};
+ghost use Rattle.runfile.specs.Tables.{Stepped};
 use crate::header;
-use ledger::Ledger;
-use ledger::Reply;
+use ledger::Settings;
 use outcome::Outcome;
 
 // How long the body is, 0 for an unknown kind.
@@ -25,31 +26,44 @@ pub(crate) fn body_size(kind: u8) -> usize
     }
 }
 
-fn reads(outcome: Outcome, ledger: Ledger) -> Reply
-    ensures { λ r. ⌜ r ≡ record { outcome = outcome; ledger = ledger } ⌝ }
-{
-    Reply { outcome, ledger }
-}
-
-// The step of a known kind whose body starts at `at` and is all there.
-pub(crate) fn step(kind: u8, l: Ledger, journal: &mut [u8], input: &[u8], at: usize) -> Reply
-    requires { ⌜ (at < 65536) × (0 < bodySize kind) × (at + bodySize kind ≤ length (now input)) ⌝ }
-    ensures { λ r. ⌜ (r ≡ replyOf l (now (journal .entry)) (commandAt kind (now (input .entry)) at)) × (now (journal .exit) ≡ journalBy l (now (journal .entry)) (commandAt kind (now (input .entry)) at)) ⌝ }
+// The step of a known kind whose body starts at `at` and is all there, on the tables that the run keeps.
+pub(crate) fn step(
+    kind: u8,
+    settings: Settings,
+    table: &mut [u64],
+    journal: &mut [u8],
+    index: &mut [u64],
+    sieve: &mut [u64],
+    input: &[u8],
+    at: usize,
+) -> Outcome
+    requires { ⌜ Kept settings (now table) (now journal) (now index) (now sieve) × (at < 65536) × (0 < bodySize kind) × (at + bodySize kind ≤ length (now input)) ⌝ }
+    ensures { λ r. ⌜ Stepped settings (now (table .entry)) (now (journal .entry)) (commandAt kind (now (input .entry)) at) r (now (table .exit)) (now (journal .exit)) (now (index .exit)) (now (sieve .exit)) ⌝ }
 {
     match kind {
-        1 => l.propose(journal, &input[at..at + 100]),
-        2 => l.preflight(&journal[..], input[at], input[at + 1]),
-        3 => l.commit(
+        1 => engine::propose::propose(settings, table, journal, index, sieve, &input[at..at + 100]),
+        2 => engine::preflight::preflight(
+            settings,
+            table,
             &journal[..],
+            &index[..],
+            input[at],
+            input[at + 1],
+        ),
+        3 => engine::commit::commit(
+            settings,
+            table,
+            &journal[..],
+            &index[..],
             input[at],
             input[at + 1],
             header::word_at(input, at + 2),
         ),
-        4 => l.faulty_sign(&journal[..], input[at], input[at + 1]),
-        5 => l.faulty_acknowledge(&journal[..], input[at], input[at + 1]),
-        6 => reads(l.show(&journal[..], input[at]), l),
-        7 => reads(draw::draw(l.settings, input[at]), l),
-        8 => reads(l.generations(&journal[..], input[at]), l),
-        _ => reads(Outcome::Done(0), l),
+        4 => engine::faulty::sign(settings, table, &journal[..], input[at], input[at + 1]),
+        5 => engine::faulty::acknowledge(settings, table, &journal[..], input[at], input[at + 1]),
+        6 => engine::show::show(settings, &table[..], &journal[..], input[at]),
+        7 => draw::draw(settings, input[at]),
+        8 => engine::generations::generations(settings, &table[..], &journal[..], input[at]),
+        _ => Outcome::Done(0),
     }
 }

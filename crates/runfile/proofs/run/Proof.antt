@@ -1,4 +1,4 @@
--- The loop's head holds the run of specs/Run.antt after k steps, with its text written; each way out is one end of that run.
+-- The loop's head holds the run of specs/Run.antt after k steps, in the tables and with its text written; each way out is one end of that run.
 -- Assumes nothing.
 use mathlib.Core.Bool.{true}
 use mathlib.Core.List.{List, []}
@@ -10,42 +10,35 @@ use borrow.Author.Needs.{needs}
 use borrow.Author.Tests.{not-false, not-true}
 use Rattle.ledger.specs.Federation.{isLawful}
 use Rattle.ledger.specs.declared.Ledger.{Ledger}
-use Rattle.runfile.proofs.Turns.{done, header-long, new-opened, next, no-header, no-settings, opens-when, short, too-long, unknown}
+use Rattle.ledger.specs.declared.Settings.{Settings}
+use Rattle.runfile.proofs.Turns.{done, header-long, next, no-header, no-settings, opened-is, opens-when, settings-are, short, too-long, unknown}
 use Rattle.runfile.proofs.Writing.{then}
 use Rattle.runfile.proofs.run.Statement.{statement}
 use Rattle.runfile.specs.Run.{after, going, opens}
 use Rattle.runfile.specs.Text.{Put}
 use Rattle.runfile.proofs.run.Tie as tie
-use Rattle.runfile.proofs.run.Reads as reads
-use Rattle.runfile.proofs.run.Lts as lts
-use Rattle.ledger.proofs.Ledger.new.Reads as new-reads
-use Rattle.ledger.proofs.Settings.is_lawful.Reads as is-lawful-reads
-use Rattle.outcome.proofs.Outcome.number.Reads as number-reads
-use Rattle.outcome.proofs.Outcome.value.Reads as value-reads
-use Rattle.runfile.proofs.header.is_header.Reads as is-header-reads
-use Rattle.runfile.proofs.header.word_at.Reads as word-at-reads
-use Rattle.runfile.proofs.steps.body_size.Reads as body-size-reads
-use Rattle.runfile.proofs.steps.step.Reads as step-reads
-use Rattle.runfile.proofs.text.put_line.Reads as put-line-reads
+use Rattle.engine.proofs.Beginning.{kept-new}
+use Rattle.engine.specs.Kept.{Kept}
+use Rattle.engine.specs.Layout.{ledgerIn}
 
 -- what holds at the loop's head: the run after k steps, whose text is written
-record Turn (input out₀ out journal : List ℕ) (ledger : Ledger) (pos at k : ℕ) : Type 0 where
+record Turn (input out₀ out journal table index sieve : List ℕ) (settings : Settings) (pos at k : ℕ) : Type 0 where
   text : List ℕ
-  is : after input k ≡ going pos ledger journal text
+  is : after input k ≡ going pos (ledgerIn settings table) journal text
   lawful : opens input ≡ true
   few : length input ≤ 65536
   put : Put out₀ 0 text out at
   same : length out ≡ length out₀
-  full : length journal ≡ 12800
+  kept : Kept settings table journal index sieve
   steps : 2 * k + 9 ≤ pos
   inside : pos ≤ length input
   room : at ≤ 33 * k
 
 abbrev Inv-loop : tie.InvT-loop
-Inv-loop input out₀ l₀ journal₀ pos₀ at₀ k₀ out l journal pos at k = Turn input out₀ out journal l pos at k
+Inv-loop input out₀ settings journal₀ table₀ index₀ sieve₀ pos₀ at₀ k₀ out journal table index sieve pos at k = Turn input out₀ out journal table index sieve settings pos at k
 
 abbrev μ-loop : tie.MeasureT-loop
-μ-loop input out₀ l₀ journal₀ pos₀ at₀ k₀ out l journal pos at k = length input - pos
+μ-loop input out₀ settings journal₀ table₀ index₀ sieve₀ pos₀ at₀ k₀ out journal table index sieve pos at k = length input - pos
 
 put-line-requires : tie.Need-put-line-requires Inv-loop μ-loop
 put-line-requires c κs = omega arith
@@ -68,17 +61,14 @@ same-length-2 c = search needs
 returns-2 : tie.Need-returns-2 Inv-loop μ-loop
 returns-2 c = (rw (no-header _ (sym (c .before .before .before .before .before .is-header .ensures) ∙ not-true _ (c .before .before .before .before .if2 .taken))) (c .before .before .put-line2 .ensures .0), omega arith)
 
-shared-slice-read-new : tie.Need-shared-slice-read-new Inv-loop μ-loop
-shared-slice-read-new c = omega (arith, header-long _ (sym (c .before .before .is-header .ensures) ∙ not-false _ (c .before .if2 .left)))
+shared-slice-read-t22 : tie.Need-shared-slice-read-t22 Inv-loop μ-loop
+shared-slice-read-t22 c = omega (arith, header-long _ (sym (c .before .before .is-header .ensures) ∙ not-false _ (c .before .if2 .left)))
 
-shared-slice-read-new-2 : tie.Need-shared-slice-read-new-2 Inv-loop μ-loop
-shared-slice-read-new-2 c = omega (arith, header-long _ (sym (c .before .before .before .is-header .ensures) ∙ not-false _ (c .before .before .if2 .left)))
+shared-slice-read-t24 : tie.Need-shared-slice-read-t24 Inv-loop μ-loop
+shared-slice-read-t24 c = omega (arith, header-long _ (sym (c .before .before .before .is-header .ensures) ∙ not-false _ (c .before .before .if2 .left)))
 
 word-at-requires : tie.Need-word-at-requires Inv-loop μ-loop
 word-at-requires c κs = omega (arith, header-long _ (sym (c .before .before .before .is-header .ensures) ∙ not-false _ (c .before .before .if2 .left)))
-
-new-requires : tie.Need-new-requires Inv-loop μ-loop
-new-requires c κs = search needs
 
 is-lawful-requires : tie.Need-is-lawful-requires Inv-loop μ-loop
 is-lawful-requires c κs = search needs
@@ -90,25 +80,22 @@ same-length-3 : tie.Need-same-length-3 Inv-loop μ-loop
 same-length-3 c = search needs
 
 returns-3 : tie.Need-returns-3 Inv-loop μ-loop
-returns-3 c = (
-  rw (no-settings _ (ap (λ (x : Ledger). isLawful (x .settings)) (sym (new-opened _ _ (c .before .before .before .before .before .before .before .before .word-at .ensures) _ (c .before .before .before .before .before .before .before .new .ensures))) ∙ sym (c .before .before .before .before .before .is-lawful .ensures) ∙ not-true _ (c .before .before .before .before .if3 .taken)))
-      (c .before .before .put-line3 .ensures .0),
-  omega arith,
-)
+returns-3 c = (rw (no-settings _ (ap isLawful (sym (settings-are _ _ (c .before .before .before .before .before .before .word-at .ensures))) ∙ sym (c .before .before .before .before .before .is-lawful .ensures) ∙ not-true _ (c .before .before .before .before .if3 .taken))) (c .before .before .put-line3 .ensures .0), omega arith)
 
 loop-holds : tie.Need-loop-holds Inv-loop μ-loop
 unfolding after
 loop-holds c =
-    let e = (new-opened _ _ (c .before .before .before .before .word-at .ensures) _ (c .before .before .before .new .ensures)) in
-    let head = (sym (c .before .before .before .before .before .before .before .before .is-header .ensures) ∙ not-false _ (c .before .before .before .before .before .before .before .if2 .left)) in
+    let w = c .before .before .word-at .ensures in
+    let head = (sym (c .before .before .before .before .before .before .is-header .ensures) ∙ not-false _ (c .before .before .before .before .before .if2 .left)) in
+    let lawful = sym (c .before .is-lawful .ensures) ∙ not-false _ (c .if3 .left) in
     record {
       text = [];
-      is = ap (λ (x : Ledger). going 9 x (replicate 12800 0) []) (sym e);
-      lawful = opens-when _ (c .before .before .before .before .before .before .before .before .before .if1 .left) head (ap (λ (x : Ledger). isLawful (x .settings)) (sym e) ∙ sym (c .before .is-lawful .ensures) ∙ not-false _ (c .if3 .left));
-      few = c .before .before .before .before .before .before .before .before .before .if1 .left;
+      is = ap (λ (x : Ledger). going 9 x (replicate 12800 0) []) (sym (opened-is _ _ w));
+      lawful = opens-when _ (c .before .before .before .before .before .before .before .if1 .left) head (ap isLawful (sym (settings-are _ _ w)) ∙ lawful);
+      few = c .before .before .before .before .before .before .before .if1 .left;
       put = record { moved = refl; wrote = refl };
       same = refl;
-      full = refl;
+      kept = kept-new _ lawful;
       steps = omega arith;
       inside = header-long _ head;
       room = omega arith;
@@ -130,12 +117,7 @@ same-length-4 : tie.Need-same-length-4 Inv-loop μ-loop
 same-length-4 c = c .before .before .put-line4 .kept .0 ∙ c .before .before .before .before .before .before .before .before .loop .inv .same
 
 returns-4 : tie.Need-returns-4 Inv-loop μ-loop
-returns-4 c =
-    let l = c .before .before .before .before .before .before .before .before .loop .inv in (
-      rw (unknown _ _ _ _ _ _ (l .is) (l .lawful) _ (c .before .before .before .before .before .body-size .ensures .0) (c .before .before .before .before .before .before .before .loop-test .taken) (omega arith) (c .before .before .before .before .if4 .taken))
-          (then (l .put) (c .before .before .put-line4 .ensures .0)),
-      omega (arith, l .room, l .steps, l .inside, l .few),
-    )
+returns-4 c = let l = c .before .before .before .before .before .before .before .before .loop .inv in (rw (unknown _ _ _ _ _ _ (l .is) (l .lawful) _ (c .before .before .before .before .before .body-size .ensures .0) (c .before .before .before .before .before .before .before .loop-test .taken) (omega arith) (c .before .before .before .before .if4 .taken)) (then (l .put) (c .before .before .put-line4 .ensures .0)), omega (arith, l .room, l .steps, l .inside, l .few))
 
 add-if5 : tie.Need-add-if5 Inv-loop μ-loop
 add-if5 c = omega arith
@@ -150,21 +132,25 @@ same-length-5 : tie.Need-same-length-5 Inv-loop μ-loop
 same-length-5 c = c .before .before .put-line5 .kept .0 ∙ c .before .before .before .before .before .before .before .before .before .loop .inv .same
 
 returns-5 : tie.Need-returns-5 Inv-loop μ-loop
-returns-5 c =
-    let l = c .before .before .before .before .before .before .before .before .before .loop .inv in (
-      rw (short _ _ _ _ _ _ (l .is) (l .lawful) _ (c .before .before .before .before .before .before .body-size .ensures .0) (c .before .before .before .before .before .before .before .before .loop-test .taken) (omega arith) (c .before .before .before .before .before .if4 .left) (c .before .before .before .before .if5 .taken))
-          (then (l .put) (c .before .before .put-line5 .ensures .0)),
-      omega (arith, l .room, l .steps, l .inside, l .few),
-    )
+returns-5 c = let l = c .before .before .before .before .before .before .before .before .before .loop .inv in (rw (short _ _ _ _ _ _ (l .is) (l .lawful) _ (c .before .before .before .before .before .before .body-size .ensures .0) (c .before .before .before .before .before .before .before .before .loop-test .taken) (omega arith) (c .before .before .before .before .before .if4 .left) (c .before .before .before .before .if5 .taken)) (then (l .put) (c .before .before .put-line5 .ensures .0)), omega (arith, l .room, l .steps, l .inside, l .few))
 
 slice-aggregate-step : tie.Need-slice-aggregate-step Inv-loop μ-loop
-slice-aggregate-step c = sym (c .before .before .before .before .before .before .loop .inv .full)
+slice-aggregate-step c = sym (c .before .before .before .before .before .before .loop .inv .kept .sound .size)
+
+slice-aggregate-step-2 : tie.Need-slice-aggregate-step-2 Inv-loop μ-loop
+slice-aggregate-step-2 c = sym (c .before .before .before .before .before .before .before .loop .inv .kept .full)
+
+slice-aggregate-step-3 : tie.Need-slice-aggregate-step-3 Inv-loop μ-loop
+slice-aggregate-step-3 c = sym (c .before .before .before .before .before .before .before .before .loop .inv .kept .indexed .size)
+
+slice-aggregate-step-4 : tie.Need-slice-aggregate-step-4 Inv-loop μ-loop
+slice-aggregate-step-4 c = sym (c .before .before .before .before .before .before .before .before .before .loop .inv .kept .sieved .size)
 
 add-step : tie.Need-add-step Inv-loop μ-loop
 add-step c = omega arith
 
 step-requires : tie.Need-step-requires Inv-loop μ-loop
-step-requires c κs = (omega arith, omega (arith, c .before .before .before .body-size .ensures .0), omega (arith, c .before .before .before .body-size .ensures .0))
+step-requires c κs = (c .before .before .before .before .before .before .before .before .before .loop .inv .kept, omega arith, omega (arith, (c .before .before .before .before .before .before .body-size .ensures .0)), omega (arith, (c .before .before .before .before .before .before .body-size .ensures .0)))
 
 add-k : tie.Need-add-k Inv-loop μ-loop
 add-k c = omega arith
@@ -192,17 +178,16 @@ loop-less c = omega arith
 
 loop-again : tie.Need-loop-again Inv-loop μ-loop
 loop-again c =
-    let l = c .before .before .before .before .before .before .before .before .before .before .before .before .before .before .before .loop .inv in
-    let s = c .before .before .before .before .before .before .before .before .step in
-    let p = c .before .before .put-line6 in
+    let l = c .before .before .before .before .before .before .before .before .before .before .before .before .before .before .before .before .before .before .before .before .loop .inv in
+    let s = c .before .before .before .before .before .before .before .before .before .before .step .ensures in
     record {
       text = _;
-      is = next _ _ _ _ _ _ (l .is) (l .lawful) _ (c .before .before .before .before .before .before .before .before .before .before .before .before .body-size .ensures .0) (c .before .before .before .before .before .before .before .before .before .before .before .before .before .before .loop-test .taken) (c .before .before .before .before .before .before .before .before .before .before .before .if4 .left) (c .before .before .before .before .before .before .before .before .before .before .if5 .left) _ (s .ensures .0) _ (s .ensures .1) _ _ (c .before .before .before .before .number .ensures) (c .before .before .before .value .ensures);
+      is = next _ _ _ _ _ _ (l .is) (l .lawful) _ (c .before .before .before .before .before .before .before .before .before .before .before .before .before .before .before .before .before .body-size .ensures .0) (c .before .before .before .before .before .before .before .before .before .before .before .before .before .before .before .before .before .before .before .loop-test .taken) (c .before .before .before .before .before .before .before .before .before .before .before .before .before .before .before .before .if4 .left) (c .before .before .before .before .before .before .before .before .before .before .before .before .before .before .before .if5 .left) _ (sym (s .reply)) _ (s .written) _ _ (c .before .before .before .before .number .ensures) (c .before .before .before .value .ensures);
       lawful = l .lawful;
       few = l .few;
-      put = then (l .put) (p .ensures .0);
-      same = p .kept .0 ∙ l .same;
-      full = s .kept .1 .1 .0 ∙ l .full;
+      put = then (l .put) (c .before .before .put-line6 .ensures .0);
+      same = c .before .before .put-line6 .kept .0 ∙ l .same;
+      kept = s .kept;
       steps = omega arith;
       inside = omega arith;
       room = omega arith;
@@ -227,10 +212,9 @@ run-spec =
     put-line-requires-2
     same-length-2
     returns-2
-    shared-slice-read-new
-    shared-slice-read-new-2
+    shared-slice-read-t22
+    shared-slice-read-t24
     word-at-requires
-    new-requires
     is-lawful-requires
     put-line-requires-3
     same-length-3
@@ -248,6 +232,9 @@ run-spec =
     same-length-5
     returns-5
     slice-aggregate-step
+    slice-aggregate-step-2
+    slice-aggregate-step-3
+    slice-aggregate-step-4
     add-step
     step-requires
     add-k

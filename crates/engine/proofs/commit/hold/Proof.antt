@@ -1,6 +1,5 @@
 -- The set, the vote and the arrival, one after the other.
 -- Assumes nothing.
-use native.Mathlib.Omega.{arith}
 use borrow.Author.Needs.{needs}
 use Rattle.engine.proofs.Holds.{held-done, ready}
 use Rattle.engine.proofs.commit.hold.Statement.{statement}

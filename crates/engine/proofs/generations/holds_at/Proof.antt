@@ -2,8 +2,6 @@
 -- Assumes nothing.
 use mathlib.Core.Path.{_∙_, sym}
 use borrow.Author.Needs.{needs}
-use Rattle.base.proofs.Tests.{chain}
-use Rattle.ledger.specs.Generations.{holdsAt}
 use Rattle.engine.proofs.Lives.{holds-is}
 use Rattle.engine.proofs.generations.holds_at.Statement.{statement}
 use Rattle.engine.proofs.generations.holds_at.Tie as tie

@@ -7,9 +7,8 @@ use Prim.Native.Nat.{_-_, _≤_}
 use native.Mathlib.Omega.{arith}
 use borrow.Author.Needs.{needs}
 use Rattle.base.proofs.Search.{any-more, any-start}
-use Rattle.base.proofs.Search.{searches}
 use Rattle.base.specs.Search.{anyBelow}
-use Rattle.ledger.specs.Generations.{holdsAt, isHeld}
+use Rattle.ledger.specs.Generations.{holdsAt}
 use Rattle.ledger.specs.Generations.{holdsAt}
 use Rattle.engine.proofs.Lives.{few-vaults, held-found, held-none}
 use Rattle.engine.proofs.Lives.{few-vaults}

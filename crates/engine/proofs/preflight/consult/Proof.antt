@@ -1,7 +1,6 @@
 -- A job signed here before is accepted again; of another the index answers as the vault does.
 -- Assumes nothing.
 use mathlib.Core.Path.{_∙_, sym}
-use native.Mathlib.Omega.{arith}
 use borrow.Author.Needs.{needs}
 use Rattle.engine.proofs.Answers.{consult-refused, consult-signed, consulted-again}
 use Rattle.engine.proofs.preflight.consult.Statement.{statement}

@@ -1,6 +1,5 @@
 -- The set and the vote stored, one after the other.
 -- Assumes nothing.
-use native.Mathlib.Omega.{arith}
 use borrow.Author.Needs.{needs}
 use Rattle.engine.proofs.Answers.{countersigned-as}
 use Rattle.engine.proofs.preflight.countersign.Statement.{statement}
