@@ -48,9 +48,10 @@ fn book(
     requires { ⌜ Kept settings (now table) (now journal) (now index) (now sieve) × (n ≡ getD (now table) 0 0) × (n < 128) × (length (now bytes) ≡ 100) ⌝ }
     ensures { λ _. ⌜ Booked (now (table .entry)) (now (journal .entry)) (now (index .entry)) (now (sieve .entry)) (now (bytes .entry)) n (now (table .exit)) (now (journal .exit)) (now (index .exit)) (now (sieve .exit)) ⌝ }
 {
+    let next = n + 1;
     journal::put_at(journal, n, bytes);
-    index::enter(index, sieve, &journal[..], n + 1, n);
-    table[0] = n as u64 + 1;
+    index::enter(index, sieve, &journal[..], next, n);
+    table[0] = next as u64;
 }
 
 // A record that is new and passes checks 6 to 9, where there is room.
