@@ -2,6 +2,7 @@
 //! executable: `compare EXECUTABLE [COUNT [FIRST_SEED]]`.
 
 mod case;
+mod edges;
 mod proved;
 mod tally;
 
@@ -39,6 +40,8 @@ fn compare(executable: &str, count: u64, first: u64) -> Result<(), String> {
     let whole = reference::whole_run();
     proved::short_of_room(&whole, reference::whole_text().as_bytes())?;
 
+    near_each_edge(executable)?;
+
     let mut cases = case::seeds(first, count);
     cases.extend(case::prefixes());
     cases.extend(case::changes());
@@ -56,6 +59,29 @@ fn compare(executable: &str, count: u64, first: u64) -> Result<(), String> {
     if !missing.is_empty() {
         return Err(format!("never occurred: {}", missing.join(", ")));
     }
+    Ok(())
+}
+
+/// The reference and the proved program, both ways, against texts that are worked out in `edges`.
+fn near_each_edge(executable: &str) -> Result<(), String> {
+    let edges = edges::all();
+    let mut out = vec![0; proved::LONGEST_TEXT];
+    for edge in &edges {
+        let wrong = |who: &str| format!("DIFFERENCE: {}: {who} prints something else", edge.name);
+        if reference::run(&edge.file) != edge.text.as_bytes() {
+            return Err(wrong("the reference"));
+        }
+        if proved::text(&edge.file, &mut out)? != edge.text.as_bytes() {
+            return Err(wrong("the proved library"));
+        }
+        if proved::whole_process(executable, &edge.file)? != edge.text.as_bytes() {
+            return Err(wrong("the proved program"));
+        }
+    }
+    println!(
+        "near the edges: {} files are answered as document 01 says",
+        edges.len()
+    );
     Ok(())
 }
 
