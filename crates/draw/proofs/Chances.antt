@@ -1,13 +1,16 @@
 -- What the draw computes with stays within its types where the settings are lawful: there is a quorum, no more of them are without the
 -- absent vaults than there are, and a share is at most a thousand thousandths.
 -- Assumes nothing.
-use mathlib.Core.Bool.{Bool, false, true}
+use mathlib.Core.Bool.{Bool, cond, false, true}
 use mathlib.Core.Path.{_≡_, refl, subst}
 use Prim.Native.Nat.{_*_, _+_, _-_, _<_, _≤_, ℕ}
 use native.Mathlib.Nat.{mul-le-mul-right}
 use native.Mathlib.Omega.{arith}
 use lib.Dec.{leb}
 use borrow.Author.Tests.{leb-false, leb-true}
+use Rattle.outcome.specs.Figures.{valueOf}
+use Rattle.outcome.specs.declared.Outcome.the-variants.{Done, Refused}
+use Rattle.outcome.specs.declared.Refusal.the-variants.{Settings as BadSettings, TooManyAbsent}
 use Rattle.ledger.proofs.Gates.{reflect-lawful}
 use Rattle.ledger.specs.Federation.{isLawful, thresholdOf}
 use Rattle.ledger.specs.Meaning.{Lawful}
@@ -15,7 +18,7 @@ use Rattle.ledger.specs.declared.Settings.{Settings}
 use Rattle.draw.proofs.Quotients.{choose-bound, choose-grows, choose-positive}
 use Rattle.draw.proofs.Rounding.{nearest}
 use Rattle.draw.specs.Binomials.{choose}
-use Rattle.draw.specs.Draw.{thousandths}
+use Rattle.draw.specs.Draw.{drawOf, failing, thousandths}
 
 pub share-most : (part whole : ℕ) → 0 < whole → part ≤ whole → thousandths part whole ≤ 1000
 share-most part whole h l = by (leb 1001 (thousandths part whole)) refl
@@ -46,3 +49,14 @@ module _ (s : Settings) (u : ℕ) (e : isLawful s ≡ true) (l : u ≤ s .n) whe
       let back : u + (s .n - u) ≡ s .n = omega (arith, l) in
       subst (λ (n : ℕ). choose (s .n - u) (thresholdOf s) ≤ choose n (thresholdOf s)) back
       (choose-grows u (s .n - u) (thresholdOf s) (omega (arith, l, small)) (omega (arith, within, small)))
+
+-- so a draw's value, refused or not, has at most four digits
+pub draw-small : (s : Settings) (u : ℕ) → valueOf (drawOf s u) ≤ 1000
+unfolding drawOf failing
+draw-small s u = by (isLawful s) refl (leb u (s .n)) refl
+  where
+    by : (a : Bool) → isLawful s ≡ a → (b : Bool) → leb u (s .n) ≡ b
+        → valueOf (cond a (cond b (Done (thousandths (failing s u) (choose (s .n) (thresholdOf s)))) (Refused TooManyAbsent)) (Refused BadSettings)) ≤ 1000
+    by true e true l = share-most (failing s u) (choose (s .n) (thresholdOf s)) (some-quorum s u e (leb-true u (s .n) l)) (omega arith)
+    by true e false l = omega arith
+    by false e b l = omega arith

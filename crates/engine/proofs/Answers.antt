@@ -35,7 +35,7 @@ use Rattle.index.specs.Checks.{admissionBy}
 use Rattle.index.specs.Slots.{Indexed}
 use Rattle.index.specs.Words.{setAt}
 use Rattle.engine.proofs.Fields.{acknowledged-is, acknowledgement-stored, part-out, signature-stored, signed-is, signed-stored, vault-is}
-use Rattle.engine.specs.Kept.{Countersigned, Same, Sound, answer}
+use Rattle.engine.specs.Kept.{Countersigned, Modest, Same, Sound, answer}
 use Rattle.engine.specs.Layout.{heldOf, ledgerIn, signedOf, storing, vaultIn}
 
 pub same-refl : (table : List ℕ) → Same table table
@@ -80,9 +80,9 @@ unfolding ledgerIn
 known-at s table journal v job faulty e = entered (ledgerIn s table) journal v job faulty e .known .below
 
 pub countersigned-as : (table mid after : List ℕ) (at : ℕ) (signed t : JobSet) (v job r : ℕ) → t ≡ jobWith signed job → mid ≡ storing table at t
-    → after ≡ set mid (66 + job) (withMember 16 (getD mid (66 + job) 0) v) → r ≡ ones (getD after (66 + job) 0) → Countersigned table at signed v job after r
+    → after ≡ set mid (66 + job) (withMember 16 (getD mid (66 + job) 0) v) → (r ≡ ones (getD after (66 + job) 0)) × (r ≤ 64) → Countersigned table at signed v job after r
 countersigned-as table mid after at signed t v job r e m a q =
-    record { stored = a ∙ rw (m ∙ ap (storing table at) e); votes = q }
+    record { stored = a ∙ rw (m ∙ ap (storing table at) e); votes = q .0; few = q .1 }
 
 module _ (s : Settings) (table journal : List ℕ) (ok : Sound s table) (full : length journal ≡ 12800) where
   pub sane : isSane (ledgerIn s table) ≡ true
@@ -111,34 +111,34 @@ module _ (s : Settings) (table journal : List ℕ) (ok : Sound s table) (full : 
   -- ---- kinds 4 and 5
   module _ (v job : ℕ) where
     pub sign-refused : (why : Refusal) → vaultGate (ledgerIn s table) journal v job true ≡ Fail why
-        → (faultySignOf (ledgerIn s table) journal v job ≡ answer s (Refused why) table) × Same table table
+        → (faultySignOf (ledgerIn s table) journal v job ≡ answer s (Refused why) table) × Same table table × Modest (Refused why)
     unfolding faultySignOf
-    sign-refused why e = (simp e, same-refl table)
+    sign-refused why e = (simp e, same-refl table, tt)
 
     pub acknowledge-refused : (why : Refusal) → vaultGate (ledgerIn s table) journal v job true ≡ Fail why
-        → (faultyAcknowledgeOf (ledgerIn s table) journal v job ≡ answer s (Refused why) table) × Same table table
+        → (faultyAcknowledgeOf (ledgerIn s table) journal v job ≡ answer s (Refused why) table) × Same table table × Modest (Refused why)
     unfolding faultyAcknowledgeOf
-    acknowledge-refused why e = (simp e, same-refl table)
+    acknowledge-refused why e = (simp e, same-refl table, tt)
 
     module _ (gate : vaultGate (ledgerIn s table) journal v job true ≡ Pass) (after : List ℕ) (r : ℕ) where
       few : job < 128
       few = job-below (ledgerIn s table) journal v job true gate
 
-      pub sign-done : after ≡ set table (66 + job) (withMember 16 (getD table (66 + job) 0) v) → r ≡ ones (getD after (66 + job) 0)
-          → (faultySignOf (ledgerIn s table) journal v job ≡ answer s (Done r) after) × Same table after
+      pub sign-done : after ≡ set table (66 + job) (withMember 16 (getD table (66 + job) 0) v) → (r ≡ ones (getD after (66 + job) 0)) × (r ≤ 64)
+          → (faultySignOf (ledgerIn s table) journal v job ≡ answer s (Done r) after) × Same table after × Modest (Done r)
       unfolding faultySignOf
       sign-done e q =
           let led : ledgerIn s after ≡ countersigned (ledgerIn s table) v job = ap (ledgerIn s) e ∙ signature-stored s table v job few in
-          let votes : r ≡ ones (signersOf (countersigned (ledgerIn s table) v job) job) = q ∙ ap ones (sym (signed-is s after job few)) ∙ ap (λ (l : Ledger). ones (signersOf l job)) led in
-          (simp (gate, led, votes), rw e (same-vote table (66 + job) _ (omega arith) (omega (arith, few))))
+          let votes : r ≡ ones (signersOf (countersigned (ledgerIn s table) v job) job) = q .0 ∙ ap ones (sym (signed-is s after job few)) ∙ ap (λ (l : Ledger). ones (signersOf l job)) led in
+          (simp (gate, led, votes), rw e (same-vote table (66 + job) _ (omega arith) (omega (arith, few))), omega (arith, q .1))
 
-      pub acknowledge-done : after ≡ set table (194 + job) (withMember 16 (getD table (194 + job) 0) v) → r ≡ ones (getD after (194 + job) 0)
-          → (faultyAcknowledgeOf (ledgerIn s table) journal v job ≡ answer s (Done r) after) × Same table after
+      pub acknowledge-done : after ≡ set table (194 + job) (withMember 16 (getD table (194 + job) 0) v) → (r ≡ ones (getD after (194 + job) 0)) × (r ≤ 64)
+          → (faultyAcknowledgeOf (ledgerIn s table) journal v job ≡ answer s (Done r) after) × Same table after × Modest (Done r)
       unfolding faultyAcknowledgeOf
       acknowledge-done e q =
           let led : ledgerIn s after ≡ acknowledged (ledgerIn s table) v job = ap (ledgerIn s) e ∙ acknowledgement-stored s table v job few in
-          let votes : r ≡ ones (holdersOf (acknowledged (ledgerIn s table) v job) job) = q ∙ ap ones (sym (acknowledged-is s after job few)) ∙ ap (λ (l : Ledger). ones (holdersOf l job)) led in
-          (simp (gate, led, votes), rw e (same-vote table (194 + job) _ (omega arith) (omega (arith, few))))
+          let votes : r ≡ ones (holdersOf (acknowledged (ledgerIn s table) v job) job) = q .0 ∙ ap ones (sym (acknowledged-is s after job few)) ∙ ap (λ (l : Ledger). ones (holdersOf l job)) led in
+          (simp (gate, led, votes), rw e (same-vote table (194 + job) _ (omega arith) (omega (arith, few))), omega (arith, q .1))
 
   -- ---- kind 2
   module _ (v job : ℕ) (few : v < 16) (known : job < getD table 0 0) where
@@ -149,10 +149,10 @@ module _ (s : Settings) (table journal : List ℕ) (ok : Sound s table) (full : 
     unfolding vaultIn
     vault = vault-is s table v few
 
-    pub consulted-again : (signed : JobSet) → signed ≡ setAt table (signedOf v) → jobHas signed job ≡ true → (r : ℕ) → r ≡ ones (getD table (66 + job) 0)
-        → (consulted (ledgerIn s table) journal v job ≡ answer s (Done r) table) × Same table table
+    pub consulted-again : (signed : JobSet) → signed ≡ setAt table (signedOf v) → jobHas signed job ≡ true → (r : ℕ) → (r ≡ ones (getD table (66 + job) 0)) × (r ≤ 64)
+        → (consulted (ledgerIn s table) journal v job ≡ answer s (Done r) table) × Same table table × Modest (Done r)
     unfolding consulted vaultPreflight
-    consulted-again signed es e r q = (simp (vault, ap (λ (t : JobSet). jobHas t job) (sym es) ∙ e, q, signed-is s table job small), same-refl table)
+    consulted-again signed es e r q = (simp (vault, ap (λ (t : JobSet). jobHas t job) (sym es) ∙ e, q .0, signed-is s table job small), same-refl table, omega (arith, q .1))
 
     module _ (index : List ℕ) (x : Indexed (jobAt journal (getD table 0 0)) (getD table 0 0) index)
         (held signed : JobSet) (eh : (held ≡ setAt table (heldOf v)) × InWords held) (es : (signed ≡ setAt table (signedOf v)) × InWords signed)
@@ -187,11 +187,11 @@ module _ (s : Settings) (table journal : List ℕ) (ok : Sound s table) (full : 
       consults = simp (vault, fresh, checked)
 
       pub consult-refused : (why : Refusal) → admissionBy index inputs held signed job ≡ Fail why
-          → (consulted (ledgerIn s table) journal v job ≡ answer s (Refused why) table) × Same table table
-      consult-refused why e = (consults ∙ simp (verdict (Fail why) e), same-refl table)
+          → (consulted (ledgerIn s table) journal v job ≡ answer s (Refused why) table) × Same table table × Modest (Refused why)
+      consult-refused why e = (consults ∙ simp (verdict (Fail why) e), same-refl table, tt)
 
       pub consult-signed : admissionBy index inputs held signed job ≡ Pass → (after : List ℕ) (r : ℕ) → Countersigned table (signedOf v) signed v job after r
-          → (consulted (ledgerIn s table) journal v job ≡ answer s (Done r) after) × Same table after
+          → (consulted (ledgerIn s table) journal v job ≡ answer s (Done r) after) × Same table after × Modest (Done r)
       unfolding signing
       consult-signed e after r d′ =
           let t : JobSet = jobWith (setAt table (signedOf v)) job in
@@ -201,13 +201,13 @@ module _ (s : Settings) (table journal : List ℕ) (ok : Sound s table) (full : 
           let led : ledgerIn s after ≡ next =
           ap (ledgerIn s) (d .stored) ∙ signature-stored s mid v job small ∙ ap (λ (l : Ledger). countersigned l v job) (signed-stored s table (ok .size) v few t) in
           let votes : r ≡ ones (signersOf next job) = d .votes ∙ ap ones (sym (signed-is s after job small)) ∙ ap (λ (l : Ledger). ones (signersOf l job)) led in
-          (consults ∙ simp (verdict Pass e) (sym (simp (led, votes))), rw (d .stored) (same-trans (same-storing table (signedOf v) t (omega arith) (omega arith)) (same-vote mid (66 + job) _ (omega arith) (omega (arith, small)))))
+          (consults ∙ simp (verdict Pass e) (sym (simp (led, votes))), rw (d .stored) (same-trans (same-storing table (signedOf v) t (omega arith) (omega arith)) (same-vote mid (66 + job) _ (omega arith) (omega (arith, small)))), omega (arith, d .few))
 
   pub preflight-is : (v job : ℕ) → vaultGate (ledgerIn s table) journal v job false ≡ Pass → preflightOf (ledgerIn s table) journal v job ≡ consulted (ledgerIn s table) journal v job
   unfolding preflightOf
   preflight-is v job e = simp e
 
   pub preflight-refused : (v job : ℕ) (why : Refusal) → vaultGate (ledgerIn s table) journal v job false ≡ Fail why
-      → (preflightOf (ledgerIn s table) journal v job ≡ answer s (Refused why) table) × Same table table
+      → (preflightOf (ledgerIn s table) journal v job ≡ answer s (Refused why) table) × Same table table × Modest (Refused why)
   unfolding preflightOf
-  preflight-refused v job why e = (simp e, same-refl table)
+  preflight-refused v job why e = (simp e, same-refl table, tt)

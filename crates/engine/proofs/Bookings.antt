@@ -160,20 +160,20 @@ module _ (s : Settings) (table journal index sieve : List ℕ) (k : Kept s table
   proposed-known r e l =
       let f = first-least (equalAt journal bytes) (getD table 0 0) (rw e at l) in
       let p : placeOf (ledgerIn s table) journal bytes ≡ Known r = place-is ∙ simp (equal-passes _ (f .below) (f .has), ← e, lt-ltb _ _ l) in
-      record { reply = simp p; written = sym (simp p); kept = k }
+      record { reply = simp p; written = sym (simp p); kept = k; modest = omega (arith, l, few) }
 
   pub proposed-bad : (why : Refusal) → length bytes ≡ 100 → checkOf (jobOf bytes) ≡ Fail why → Proposed s table journal bytes (Refused why) table journal index sieve
   unfolding proposeOf journalAfter examined
   proposed-bad why size e =
       let p : placeOf (ledgerIn s table) journal bytes ≡ Turned why = place-is ∙ simp (eq-eqb _ _ size, e) in
-      record { reply = simp p; written = sym (simp p); kept = k }
+      record { reply = simp p; written = sym (simp p); kept = k; modest = tt }
 
   pub proposed-full : (n : ℕ) → n ≡ getD table 0 0 → Fresh journal bytes n → 128 ≤ n → Proposed s table journal bytes (Refused Full) table journal index sieve
   unfolding proposeOf journalAfter
   proposed-full n en f l =
       let u : firstBelow (getD table 0 0) (equalAt journal bytes) ≡ getD table 0 0 = subst (λ (m : ℕ). firstBelow m (equalAt journal bytes) ≡ m) en (f .unknown) in
       let p : placeOf (ledgerIn s table) journal bytes ≡ Turned Full = place-is ∙ simp (f .passes, u, le-ltb (getD table 0 0) (getD table 0 0) (omega arith), le-ltb (getD table 0 0) 128 (omega (arith, en, l))) in
-      record { reply = simp p; written = sym (simp p); kept = k }
+      record { reply = simp p; written = sym (simp p); kept = k; modest = tt }
 
   -- ---- what the code found
   module _ (n : ℕ) (en : n ≡ getD table 0 0) (j : Job) (label : ℕ) (likely : JobSet) (r : ℕ) (ej : j ≡ jobOf bytes) (el : label ≡ labelOf j 4)
@@ -265,4 +265,5 @@ module _ (s : Settings) (table journal index sieve : List ℕ) (k : Kept s table
           kept =
               rw (b .table-is, b .index-is ∙ ap (λ (x : List ℕ). indexWith (jobAt x (n + 1)) index sieve n) (b .journal-is), b .sieve-is ∙ ap (λ (x : List ℕ). sieveWith (jobAt x (n + 1)) sieve n) (b .journal-is), b .journal-is)
               (kept-booked (f .passes));
+          modest = omega (arith, small);
         }

@@ -3,7 +3,7 @@
 use mathlib.Core.Bool.{cond, false, true}
 use mathlib.Core.List.{List}
 use mathlib.Core.Path.{_∙_, _≡_, ap, refl, sym}
-use Prim.Native.Nat.{_+_, _<_, ℕ}
+use Prim.Native.Nat.{_+_, _<_, _≤_, ℕ}
 use native.Mathlib.Omega.{arith}
 use lib.Count.{ones}
 use lib.Dec.{leb}
@@ -27,7 +27,7 @@ use Rattle.index.specs.Slots.{Indexed}
 use Rattle.index.specs.Words.{setAt}
 use Rattle.engine.proofs.Answers.{same-storing, same-trans, same-vote}
 use Rattle.engine.proofs.Fields.{acknowledged-is, acknowledgement-stored, held-stored, signed-is, vault-is}
-use Rattle.engine.specs.Kept.{Holding, Kept, Moved, Same, Sound, Timely, answer}
+use Rattle.engine.specs.Kept.{Holding, Kept, Modest, Moved, Same, Sound, Timely, answer}
 use Rattle.engine.specs.Layout.{heldOf, ledgerIn, signedOf, storing, vaultIn}
 
 pub certificate-is : (s : Settings) (table : List ℕ) (job signers : ℕ) → job < 128 → certificate (ledgerIn s table) job signers
@@ -63,12 +63,13 @@ module _ (s : Settings) (table journal index : List ℕ) (ok : Sound s table) (x
   vault = vault-is s table v few
 
   -- it held it before
-  pub committed-again : (h : JobSet) → h ≡ setAt table (heldOf v) → jobHas h job ≡ true → (r : ℕ) → r ≡ ones (getD table (194 + job) 0)
-      → (committed (ledgerIn s table) v job ≡ answer s (Done r) table) × Moved table table journal
+  pub committed-again : (h : JobSet) → h ≡ setAt table (heldOf v) → jobHas h job ≡ true → (r : ℕ) → (r ≡ ones (getD table (194 + job) 0)) × (r ≤ 64)
+      → (committed (ledgerIn s table) v job ≡ answer s (Done r) table) × Moved table table journal × Modest (Done r)
   unfolding committed
   committed-again h eh e r q = (
-    simp (vault, ap (λ (y : JobSet). jobHas y job) (sym eh) ∙ e, q, acknowledged-is s table job small),
+    simp (vault, ap (λ (y : JobSet). jobHas y job) (sym eh) ∙ e, q .0, acknowledged-is s table job small),
     record { size = refl; booked = refl; arrivals = ok .arrivals; aged = t },
+    omega (arith, q .1),
   )
 
   -- the two words of its set and the vote
@@ -87,20 +88,21 @@ module _ (s : Settings) (table journal index : List ℕ) (ok : Sound s table) (x
         ∙ ap (λ (l : Ledger). acknowledged l v job) (ap (ledgerIn s) (e1 ∙ ap (storing table (heldOf v)) (eu ∙ ap (λ (y : JobSet). jobWith y job) eh)) ∙ held-stored s table (ok .size) v few _
         ∙ sym (simp vault))
 
-    pub held-done : (after : List ℕ) (r : ℕ) → (ledgerIn s after ≡ arriving (ledgerIn s two) job) × Moved two after journal → r ≡ ones (getD after (194 + job) 0)
+    pub held-done : (after : List ℕ) (r : ℕ) → (ledgerIn s after ≡ arriving (ledgerIn s two) job) × Moved two after journal → (r ≡ ones (getD after (194 + job) 0)) × (r ≤ 64)
         → Holding s table journal v job after r
     unfolding held
     held-done after r a q = record {
       ledger = a .0 ∙ ap (λ (l : Ledger). arriving l job) stored;
-      votes = q ∙ ap ones (sym (acknowledged-is s after job small));
+      votes = q .0 ∙ ap ones (sym (acknowledged-is s after job small));
+      few = q .1;
       moved = moved-after table two same journal after (a .1);
     }
 
   pub committed-done : (h : JobSet) → h ≡ setAt table (heldOf v) → jobHas h job ≡ false → (after : List ℕ) (r : ℕ) → Holding s table journal v job after r
-      → (committed (ledgerIn s table) v job ≡ answer s (Done r) after) × Moved table after journal
+      → (committed (ledgerIn s table) v job ≡ answer s (Done r) after) × Moved table after journal × Modest (Done r)
   unfolding committed
   committed-done h eh e after r d =
-      (simp (vault, ap (λ (y : JobSet). jobHas y job) (sym eh) ∙ e) (sym (simp (d .votes, d .ledger))), d .moved)
+      (simp (vault, ap (λ (y : JobSet). jobHas y job) (sym eh) ∙ e) (sym (simp (d .votes, d .ledger))), d .moved, omega (arith, d .few))
 
 pub commit-is : (s : Settings) (table journal : List ℕ) (v job signers : ℕ) → commitChecks (ledgerIn s table) journal v job signers ≡ Pass
     → commitOf (ledgerIn s table) journal v job signers ≡ committed (ledgerIn s table) v job
@@ -108,9 +110,9 @@ unfolding commitOf
 commit-is s table journal v job signers e = simp e
 
 pub commit-refused : (s : Settings) (table journal : List ℕ) → Sound s table → Timely table journal → (v job signers : ℕ) (why : Refusal) → commitChecks (ledgerIn s table) journal v job signers ≡ Fail why
-    → (commitOf (ledgerIn s table) journal v job signers ≡ answer s (Refused why) table) × Moved table table journal
+    → (commitOf (ledgerIn s table) journal v job signers ≡ answer s (Refused why) table) × Moved table table journal × Modest (Refused why)
 unfolding commitOf
-commit-refused s table journal ok t v job signers why e = (simp e, record { size = refl; booked = refl; arrivals = ok .arrivals; aged = t })
+commit-refused s table journal ok t v job signers why e = (simp e, record { size = refl; booked = refl; arrivals = ok .arrivals; aged = t }, tt)
 
 -- behind the checks of a commit is the gate
 pub gate-passed : (s : Settings) (table journal : List ℕ) (v job signers : ℕ) → commitChecks (ledgerIn s table) journal v job signers ≡ Pass → vaultGate (ledgerIn s table) journal v job false ≡ Pass

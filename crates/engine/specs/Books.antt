@@ -14,7 +14,7 @@ use Rattle.ledger.specs.Journal.{equalAt, jobAt, putAt}
 use Rattle.ledger.specs.Steps.{journalAfter, proposeOf}
 use Rattle.ledger.specs.declared.Settings.{Settings}
 use Rattle.index.specs.Entering.{indexWith, sieveWith}
-use Rattle.engine.specs.Kept.{Kept, answer}
+use Rattle.engine.specs.Kept.{Kept, Modest, answer}
 use Rattle.engine.specs.Layout.{ledgerIn}
 
 -- record k is in the set and has these bytes
@@ -38,3 +38,4 @@ pub record Proposed (s : Settings) (table journal bytes : List ℕ) (r : Outcome
   pub reply : proposeOf (ledgerIn s table) journal bytes ≡ answer s r table′
   pub written : journal′ ≡ journalAfter (ledgerIn s table) journal bytes
   pub kept : Kept s table′ journal′ index′ sieve′
+  pub modest : Modest r

@@ -9,6 +9,7 @@ use lib.Count.{ones}
 use lib.ListN.{getD, length, set}
 use Rattle.base.specs.Search.{anyBelow, firstBelow}
 use Rattle.outcome.specs.declared.Outcome.{Outcome}
+use Rattle.outcome.specs.declared.Outcome.the-variants.{Done, Refused}
 use Rattle.outcome.specs.declared.Verdict.the-variants.{Pass}
 use Rattle.record.specs.Checks.{examined}
 use Rattle.record.specs.declared.Job.{Job}
@@ -74,13 +75,20 @@ pub record Moved (table after journal : List ℕ) : Type 0 where
 pub record Countersigned (table : List ℕ) (at : ℕ) (signed : JobSet) (v job : ℕ) (after : List ℕ) (r : ℕ) : Type 0 where
   pub stored : after ≡ set (storing table at (jobWith signed job)) (66 + job) (withMember 16 (getD (storing table at (jobWith signed job)) (66 + job) 0) v)
   pub votes : r ≡ ones (getD after (66 + job) 0)
+  pub few : r ≤ 64
 
 -- the vault holds the job, and r counts its acknowledgements
 pub record Holding (s : Settings) (table journal : List ℕ) (v job : ℕ) (after : List ℕ) (r : ℕ) : Type 0 where
   pub ledger : ledgerIn s after ≡ held (ledgerIn s table) v job
   pub votes : r ≡ ones (holdersOf (ledgerIn s after) job)
+  pub few : r ≤ 64
   pub moved : Moved table after journal
 
 -- a step was answered so, and left the ledger in the table
 abbrev pub answer : Settings → Outcome → List ℕ → Reply
 answer s outcome table = record { outcome = outcome; ledger = ledgerIn s table }
+
+-- what a step that is carried out has to tell takes four digits at most; what a refusal tells is a byte
+abbrev pub Modest : Outcome → Type 0
+Modest (Done v) = v < 10000
+Modest (Refused why) = Unit {0}

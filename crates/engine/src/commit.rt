@@ -6,7 +6,7 @@ ghost use Rattle.ledger.specs.Journal.{jobAt};
 ghost use Rattle.ledger.specs.Steps.{certificate, commitChecks, commitOf, committed};
 ghost use Rattle.index.specs.Slots.{Indexed};
 ghost use Rattle.index.specs.Words.{setAt};
-ghost use Rattle.engine.specs.Kept.{Holding, Moved, Sound, Timely, answer};
+ghost use Rattle.engine.specs.Kept.{Holding, Modest, Moved, Sound, Timely, answer};
 ghost use Rattle.engine.specs.Layout.{ledgerIn};
 use crate::arrivals;
 use crate::gates;
@@ -78,7 +78,7 @@ fn committed(
     job: usize,
 ) -> Outcome
     requires { ⌜ Sound settings (now table) × (length (now journal) ≡ 12800) × Indexed (jobAt (now journal) (getD (now table) 0 0)) (getD (now table) 0 0) (now index) × Timely (now table) (now journal) × (v < 16) × (job < getD (now table) 0 0) ⌝ }
-    ensures { λ r. ⌜ (committed (ledgerIn settings (now (table .entry))) v job ≡ answer settings r (now (table .exit))) × Moved (now (table .entry)) (now (table .exit)) (now (journal .entry)) ⌝ }
+    ensures { λ r. ⌜ (committed (ledgerIn settings (now (table .entry))) v job ≡ answer settings r (now (table .exit))) × Moved (now (table .entry)) (now (table .exit)) (now (journal .entry)) × Modest r ⌝ }
 {
     let held = index::set_at(&table[..], 2 + 4 * v as usize);
     if held.has(job) {
@@ -97,7 +97,7 @@ pub fn commit(
     signers: u16,
 ) -> Outcome
     requires { ⌜ Sound settings (now table) × (length (now journal) ≡ 12800) × Indexed (jobAt (now journal) (getD (now table) 0 0)) (getD (now table) 0 0) (now index) × Timely (now table) (now journal) ⌝ }
-    ensures { λ r. ⌜ (commitOf (ledgerIn settings (now (table .entry))) (now (journal .entry)) v job signers ≡ answer settings r (now (table .exit))) × Moved (now (table .entry)) (now (table .exit)) (now (journal .entry)) ⌝ }
+    ensures { λ r. ⌜ (commitOf (ledgerIn settings (now (table .entry))) (now (journal .entry)) v job signers ≡ answer settings r (now (table .exit))) × Moved (now (table .entry)) (now (table .exit)) (now (journal .entry)) × Modest r ⌝ }
 {
     match commit_checks(settings, &table[..], journal, v, job, signers) {
         Verdict::Pass => committed(settings, table, journal, index, v, job as usize),

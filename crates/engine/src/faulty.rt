@@ -2,7 +2,7 @@
 ghost use mathlib.Core.Path.{_≡_};
 ghost use lib.ListN.{length};
 ghost use Rattle.ledger.specs.Steps.{faultySignOf, faultyAcknowledgeOf};
-ghost use Rattle.engine.specs.Kept.{Same, Sound, answer};
+ghost use Rattle.engine.specs.Kept.{Modest, Same, Sound, answer};
 ghost use Rattle.engine.specs.Layout.{ledgerIn};
 use crate::gates;
 use crate::table;
@@ -12,7 +12,7 @@ use outcome::Verdict;
 
 pub fn sign(settings: Settings, table: &mut [u64], journal: &[u8], v: u8, job: u8) -> Outcome
     requires { ⌜ Sound settings (now table) × (length (now journal) ≡ 12800) ⌝ }
-    ensures { λ r. ⌜ (faultySignOf (ledgerIn settings (now (table .entry))) (now (journal .entry)) v job ≡ answer settings r (now (table .exit))) × Same (now (table .entry)) (now (table .exit)) ⌝ }
+    ensures { λ r. ⌜ (faultySignOf (ledgerIn settings (now (table .entry))) (now (journal .entry)) v job ≡ answer settings r (now (table .exit))) × Same (now (table .entry)) (now (table .exit)) × Modest r ⌝ }
 {
     match gates::vault_gate(settings, &table[..], journal, v, job, true) {
         Verdict::Pass => {
@@ -26,7 +26,7 @@ pub fn sign(settings: Settings, table: &mut [u64], journal: &[u8], v: u8, job: u
 
 pub fn acknowledge(settings: Settings, table: &mut [u64], journal: &[u8], v: u8, job: u8) -> Outcome
     requires { ⌜ Sound settings (now table) × (length (now journal) ≡ 12800) ⌝ }
-    ensures { λ r. ⌜ (faultyAcknowledgeOf (ledgerIn settings (now (table .entry))) (now (journal .entry)) v job ≡ answer settings r (now (table .exit))) × Same (now (table .entry)) (now (table .exit)) ⌝ }
+    ensures { λ r. ⌜ (faultyAcknowledgeOf (ledgerIn settings (now (table .entry))) (now (journal .entry)) v job ≡ answer settings r (now (table .exit))) × Same (now (table .entry)) (now (table .exit)) × Modest r ⌝ }
 {
     match gates::vault_gate(settings, &table[..], journal, v, job, true) {
         Verdict::Pass => {

@@ -5,7 +5,7 @@ ghost use lib.ListN.{getD, length};
 ghost use Rattle.ledger.specs.Journal.{jobAt};
 ghost use Rattle.ledger.specs.Steps.{consulted, preflightOf};
 ghost use Rattle.index.specs.Slots.{Indexed};
-ghost use Rattle.engine.specs.Kept.{Countersigned, Same, Sound, answer};
+ghost use Rattle.engine.specs.Kept.{Countersigned, Modest, Same, Sound, answer};
 ghost use Rattle.engine.specs.Layout.{ledgerIn};
 use crate::gates;
 use crate::table;
@@ -35,7 +35,7 @@ fn consult(
     job: usize,
 ) -> Outcome
     requires { ⌜ Sound settings (now table) × (length (now journal) ≡ 12800) × Indexed (jobAt (now journal) (getD (now table) 0 0)) (getD (now table) 0 0) (now index) × (v < 16) × (job < getD (now table) 0 0) ⌝ }
-    ensures { λ r. ⌜ (consulted (ledgerIn settings (now (table .entry))) (now (journal .entry)) v job ≡ answer settings r (now (table .exit))) × Same (now (table .entry)) (now (table .exit)) ⌝ }
+    ensures { λ r. ⌜ (consulted (ledgerIn settings (now (table .entry))) (now (journal .entry)) v job ≡ answer settings r (now (table .exit))) × Same (now (table .entry)) (now (table .exit)) × Modest r ⌝ }
 {
     let at = 4 + 4 * v as usize;
     let held = index::set_at(&table[..], 2 + 4 * v as usize);
@@ -59,7 +59,7 @@ pub fn preflight(
     job: u8,
 ) -> Outcome
     requires { ⌜ Sound settings (now table) × (length (now journal) ≡ 12800) × Indexed (jobAt (now journal) (getD (now table) 0 0)) (getD (now table) 0 0) (now index) ⌝ }
-    ensures { λ r. ⌜ (preflightOf (ledgerIn settings (now (table .entry))) (now (journal .entry)) v job ≡ answer settings r (now (table .exit))) × Same (now (table .entry)) (now (table .exit)) ⌝ }
+    ensures { λ r. ⌜ (preflightOf (ledgerIn settings (now (table .entry))) (now (journal .entry)) v job ≡ answer settings r (now (table .exit))) × Same (now (table .entry)) (now (table .exit)) × Modest r ⌝ }
 {
     match gates::vault_gate(settings, &table[..], journal, v, job, false) {
         Verdict::Pass => consult(settings, table, journal, index, v, job as usize),

@@ -1,6 +1,6 @@
 // The words of the table.
 ghost use mathlib.Core.Path.{_≡_};
-ghost use Prim.Native.Nat.{_+_, _<_};
+ghost use Prim.Native.Nat.{_+_, _<_, _≤_};
 ghost use lib.Count.{ones};
 ghost use lib.ListN.{getD, length, set};
 ghost use Rattle.sets.specs.Bits.{withMember};
@@ -32,12 +32,19 @@ pub(crate) fn join(table: &mut [u64], at: usize, v: u8)
     table[at] = table[at] | (1u64 << v);
 }
 
+// At most 64, as many as a word has bits.
+fn ones_of(word: u64) -> u32
+    ensures { λ r. ⌜ (r ≡ ones word) × (r ≤ 64) ⌝ }
+{
+    u64::count_ones(word)
+}
+
 // How many vaults a word's set has.
 pub(crate) fn count(table: &[u64], at: usize) -> u32
     requires { ⌜ at < length (now table) ⌝ }
-    ensures { λ r. ⌜ r ≡ ones (getD (now (table .entry)) at 0) ⌝ }
+    ensures { λ r. ⌜ (r ≡ ones (getD (now (table .entry)) at 0)) × (r ≤ 64) ⌝ }
 {
-    u64::count_ones(table[at])
+    ones_of(table[at])
 }
 
 pub(crate) fn wide(x: u8) -> usize

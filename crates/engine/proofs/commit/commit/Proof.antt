@@ -24,7 +24,7 @@ same-length : tie.Need-same-length
 same-length c = search needs
 
 returns : tie.Need-returns
-returns c = (commit-is _ _ _ _ _ _ (sym (c .before .before .before .before .before .before .commit-checks .ensures) ∙ c .before .before .before .before .enum-told .given .1) ∙ c .before .before .committed .ensures .0, c .before .before .committed .ensures .1)
+returns c = (commit-is _ _ _ _ _ _ (sym (c .before .before .before .before .before .before .commit-checks .ensures) ∙ c .before .before .before .before .enum-told .given .1) ∙ c .before .before .committed .ensures .0, c .before .before .committed .ensures .1, c .before .before .committed .ensures .2)
 
 same-length-2 : tie.Need-same-length-2
 same-length-2 c = search needs

@@ -22,11 +22,11 @@ enum-known-why c = search needs
 
 returns : tie.Need-returns
 unfolding generationsOf
-returns c = simp (← c .before .before .before .booked-gate .ensures, c .before .enum-told .given .1) (c .held-age .ensures)
+returns c = (simp (← c .before .before .before .booked-gate .ensures, c .before .enum-told .given .1) (c .held-age .ensures .0), c .held-age .ensures .1)
 
 returns-2 : tie.Need-returns-2
 unfolding generationsOf
-returns-2 c = simp (← c .before .before .before .booked-gate .ensures, c .before .why .given .1)
+returns-2 c = (simp (← c .before .before .before .booked-gate .ensures, c .before .why .given .1), tt)
 
 pub generations-spec : {M : Type 1} → statement M
 generations-spec =

@@ -23,7 +23,7 @@ same-length : tie.Need-same-length
 same-length c = search needs
 
 returns : tie.Need-returns
-returns c = (preflight-is _ _ _ (c .before .before .before .before .before .before .before .before .before .before .before .pre .0) (c .before .before .before .before .before .before .before .before .before .before .before .pre .1) _ _ (sym (c .before .before .before .before .before .before .vault-gate .ensures) ∙ c .before .before .before .before .enum-told .given .1) ∙ c .before .before .consult .ensures .0, c .before .before .consult .ensures .1)
+returns c = (preflight-is _ _ _ (c .before .before .before .before .before .before .before .before .before .before .before .pre .0) (c .before .before .before .before .before .before .before .before .before .before .before .pre .1) _ _ (sym (c .before .before .before .before .before .before .vault-gate .ensures) ∙ c .before .before .before .before .enum-told .given .1) ∙ c .before .before .consult .ensures .0, c .before .before .consult .ensures .1, c .before .before .consult .ensures .2)
 
 same-length-2 : tie.Need-same-length-2
 same-length-2 c = search needs

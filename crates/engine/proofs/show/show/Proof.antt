@@ -22,11 +22,11 @@ enum-known-why c = search needs
 
 returns : tie.Need-returns
 unfolding showOf
-returns c = simp (← c .before .before .before .booked-gate .ensures, c .before .enum-told .given .1, ← c .status .ensures)
+returns c = (simp (← c .before .before .before .booked-gate .ensures, c .before .enum-told .given .1, ← c .status .ensures .0), omega (arith, c .status .ensures .1))
 
 returns-2 : tie.Need-returns-2
 unfolding showOf
-returns-2 c = simp (← c .before .before .before .booked-gate .ensures, c .before .why .given .1)
+returns-2 c = (simp (← c .before .before .before .booked-gate .ensures, c .before .why .given .1), tt)
 
 pub show-spec : {M : Type 1} → statement M
 show-spec =

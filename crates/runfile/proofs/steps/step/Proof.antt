@@ -4,7 +4,7 @@ use mathlib.Core.Path.{ap, refl}
 use native.Mathlib.Omega.{arith}
 use denote.Ref.{now}
 use borrow.Author.Needs.{needs}
-use Rattle.runfile.proofs.Commands.{command-1, command-2, command-3, command-4, command-5, command-6, command-7, command-8, drawn, read-only, stepped}
+use Rattle.runfile.proofs.Commands.{command-1, command-2, command-3, command-4, command-5, command-6, command-7, command-8, draw-modest, drawn, read-only, stepped}
 use Rattle.runfile.proofs.Unknown.{unknown-kind}
 use Rattle.runfile.proofs.steps.step.Statement.{statement}
 use Rattle.runfile.specs.Steps.{bodySize}
@@ -117,7 +117,7 @@ same-length-4 : tie.Need-same-length-4
 same-length-4 c = search needs
 
 returns : tie.Need-returns
-returns c = let d = c .before .before .before .before .before .before .before .before .propose .ensures in stepped _ _ _ _ _ (command-1 _ _ _ (c .before .before .before .before .before .before .before .before .before .before .before .before .before .before .match .keys1)) _ _ _ _ _ (d .reply) (d .written) (d .kept)
+returns c = let d = c .before .before .before .before .before .before .before .before .propose .ensures in stepped _ _ _ _ _ (command-1 _ _ _ (c .before .before .before .before .before .before .before .before .before .before .before .before .before .before .match .keys1)) _ _ _ _ _ (d .reply) (d .written) (d .kept) (d .modest)
 
 same-length-5 : tie.Need-same-length-5
 same-length-5 c = search needs
@@ -129,7 +129,7 @@ same-length-7 : tie.Need-same-length-7
 same-length-7 c = search needs
 
 returns-2 : tie.Need-returns-2
-returns-2 c = stepped _ _ _ _ _ (command-2 _ _ _ (c .before .before .before .before .before .before .before .before .match .keys2)) _ _ _ _ _ (c .before .before .preflight .ensures .0) refl (kept-same _ _ _ _ _ _ (c .before .before .before .before .before .before .before .before .before .before .before .before .before .before .pre .0) (c .before .before .preflight .ensures .1))
+returns-2 c = stepped _ _ _ _ _ (command-2 _ _ _ (c .before .before .before .before .before .before .before .before .match .keys2)) _ _ _ _ _ (c .before .before .preflight .ensures .0) refl (kept-same _ _ _ _ _ _ (c .before .before .before .before .before .before .before .before .before .before .before .before .before .before .pre .0) (c .before .before .preflight .ensures .1)) (c .before .before .preflight .ensures .2)
 
 same-length-8 : tie.Need-same-length-8
 same-length-8 c = search needs
@@ -141,7 +141,7 @@ same-length-10 : tie.Need-same-length-10
 same-length-10 c = search needs
 
 returns-3 : tie.Need-returns-3
-returns-3 c = stepped _ _ _ _ _ (command-3 _ _ _ (c .before .before .before .before .before .before .before .before .before .match .keys3) _ (c .before .before .before .word-at .ensures)) _ _ _ _ _ (c .before .before .commit .ensures .0) refl (kept-moved _ _ _ _ _ _ (c .before .before .before .before .before .before .before .before .before .before .before .before .before .before .before .pre .0) (c .before .before .commit .ensures .1))
+returns-3 c = stepped _ _ _ _ _ (command-3 _ _ _ (c .before .before .before .before .before .before .before .before .before .match .keys3) _ (c .before .before .before .word-at .ensures)) _ _ _ _ _ (c .before .before .commit .ensures .0) refl (kept-moved _ _ _ _ _ _ (c .before .before .before .before .before .before .before .before .before .before .before .before .before .before .before .pre .0) (c .before .before .commit .ensures .1)) (c .before .before .commit .ensures .2)
 
 same-length-11 : tie.Need-same-length-11
 same-length-11 c = search needs
@@ -150,7 +150,7 @@ same-length-12 : tie.Need-same-length-12
 same-length-12 c = search needs
 
 returns-4 : tie.Need-returns-4
-returns-4 c = stepped _ _ _ _ _ (command-4 _ _ _ (c .before .before .before .before .before .before .before .match .keys4)) _ _ _ _ _ (c .before .before .sign .ensures .0) refl (kept-same _ _ _ _ _ _ (c .before .before .before .before .before .before .before .before .before .before .before .before .before .pre .0) (c .before .before .sign .ensures .1))
+returns-4 c = stepped _ _ _ _ _ (command-4 _ _ _ (c .before .before .before .before .before .before .before .match .keys4)) _ _ _ _ _ (c .before .before .sign .ensures .0) refl (kept-same _ _ _ _ _ _ (c .before .before .before .before .before .before .before .before .before .before .before .before .before .pre .0) (c .before .before .sign .ensures .1)) (c .before .before .sign .ensures .2)
 
 same-length-13 : tie.Need-same-length-13
 same-length-13 c = search needs
@@ -159,7 +159,7 @@ same-length-14 : tie.Need-same-length-14
 same-length-14 c = search needs
 
 returns-5 : tie.Need-returns-5
-returns-5 c = stepped _ _ _ _ _ (command-5 _ _ _ (c .before .before .before .before .before .before .before .match .keys5)) _ _ _ _ _ (c .before .before .acknowledge .ensures .0) refl (kept-same _ _ _ _ _ _ (c .before .before .before .before .before .before .before .before .before .before .before .before .before .pre .0) (c .before .before .acknowledge .ensures .1))
+returns-5 c = stepped _ _ _ _ _ (command-5 _ _ _ (c .before .before .before .before .before .before .before .match .keys5)) _ _ _ _ _ (c .before .before .acknowledge .ensures .0) refl (kept-same _ _ _ _ _ _ (c .before .before .before .before .before .before .before .before .before .before .before .before .before .pre .0) (c .before .before .acknowledge .ensures .1)) (c .before .before .acknowledge .ensures .2)
 
 same-length-15 : tie.Need-same-length-15
 same-length-15 c = search needs
@@ -168,10 +168,10 @@ same-length-16 : tie.Need-same-length-16
 same-length-16 c = search needs
 
 returns-6 : tie.Need-returns-6
-returns-6 c = read-only _ _ _ _ _ (command-6 _ _ _ (c .before .before .before .before .match .keys6)) _ refl refl _ (c .show .ensures) _ _ (c .before .before .before .before .before .before .before .before .before .before .pre .0)
+returns-6 c = read-only _ _ _ _ _ (command-6 _ _ _ (c .before .before .before .before .match .keys6)) _ refl refl _ (c .show .ensures .0) _ _ (c .before .before .before .before .before .before .before .before .before .before .pre .0) (c .show .ensures .1)
 
 returns-7 : tie.Need-returns-7
-returns-7 c = read-only _ _ _ _ _ (command-7 _ _ _ (c .before .before .match .keys7)) _ (drawn _ _ (now (c .before .before .before .before .before .before .before .before .args .journal)) _) refl _ (c .draw .ensures) _ _ (c .before .before .before .before .before .before .before .before .pre .0)
+returns-7 c = read-only _ _ _ _ _ (command-7 _ _ _ (c .before .before .match .keys7)) _ (drawn _ _ (now (c .before .before .before .before .before .before .before .before .args .journal)) _) refl _ (c .draw .ensures) _ _ (c .before .before .before .before .before .before .before .before .pre .0) (draw-modest _ _ _ (c .draw .ensures))
 
 same-length-17 : tie.Need-same-length-17
 same-length-17 c = search needs
@@ -180,7 +180,7 @@ same-length-18 : tie.Need-same-length-18
 same-length-18 c = search needs
 
 returns-8 : tie.Need-returns-8
-returns-8 c = read-only _ _ _ _ _ (command-8 _ _ _ (c .before .before .before .before .match .keys8)) _ refl refl _ (c .generations .ensures) _ _ (c .before .before .before .before .before .before .before .before .before .before .pre .0)
+returns-8 c = read-only _ _ _ _ _ (command-8 _ _ _ (c .before .before .before .before .match .keys8)) _ refl refl _ (c .generations .ensures .0) _ _ (c .before .before .before .before .before .before .before .before .before .before .pre .0) (c .generations .ensures .1)
 
 returns-9 : tie.Need-returns-9
 returns-9 c = let r = c .match .rest in absurd (omega (arith, unknown-kind _ (r .0 .0 .0 .0 .0 .0 .0 .1) (r .0 .0 .0 .0 .0 .0 .1) (r .0 .0 .0 .0 .0 .1) (r .0 .0 .0 .0 .1) (r .0 .0 .0 .1) (r .0 .0 .1) (r .0 .1) (r .1)))
