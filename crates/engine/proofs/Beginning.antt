@@ -36,7 +36,7 @@ index-new job = record {
 }
 
 sieve-new : (job : ℕ → Job) → Sieved job 0 (replicate 2042 0)
-sieve-new job = record { size = length-replicate {A = ℕ} 2042 0; all = λ k e l m u. absurd (not-suc-le-zero l) }
+sieve-new job = record { size = length-replicate {A = ℕ} 2042 0; all = λ k e l m u. absurd (not-suc-le-zero l); sums = λ k l. absurd (not-suc-le-zero l) }
 
 pub kept-new : (s : Settings) → isLawful s ≡ true → Kept s (replicate 578 0) (replicate 12800 0) (replicate 3072 0) (replicate 2042 0)
 unfolding anyBelow

@@ -7,7 +7,7 @@ use mathlib.Core.Logic.{inl}
 use mathlib.Core.Path.{_∙_, _≡_, ap, ap₂, refl, subst, sym}
 use Prim.Native.Nat.{_*_, _+_, _/_, _<_, _≤_, ℕ}
 use native.Mathlib.Omega.{arith}
-use lib.Dec.{eqb, ltb}
+use lib.Dec.{ltb}
 use lib.ListN.{getD, length, length-set, set}
 use lib.Seq.{getD-set-other, getD-set-same}
 use borrow.Author.Tests.{eq-eqb, le-leb, le-ltb, lt-ltb, ltb-false, ltb-true}
@@ -16,16 +16,14 @@ use Rattle.base.proofs.Search.{first-any, first-le, first-least, first-same}
 use Rattle.base.specs.Search.{anyBelow, firstBelow}
 use Rattle.outcome.specs.declared.Outcome.the-variants.{Done, Refused}
 use Rattle.outcome.specs.declared.Refusal.{Refusal}
-use Rattle.outcome.specs.declared.Refusal.the-variants.{Full, Malformed}
+use Rattle.outcome.specs.declared.Refusal.the-variants.{Full}
 use Rattle.outcome.specs.declared.Verdict.the-variants.{Fail, Pass}
-use Rattle.record.proofs.Meaning.{reflect-formed}
-use Rattle.record.specs.Checks.{checkOf, examined, wellFormed}
-use Rattle.record.specs.Codec.{jobOf, recordSize}
-use Rattle.record.specs.Entries.{isUsed, labelOf}
+use Rattle.record.specs.Checks.{checkOf, examined}
+use Rattle.record.specs.Codec.{jobOf}
+use Rattle.record.specs.Entries.{isUsed}
 use Rattle.record.specs.declared.Job.{Job}
 use Rattle.sets.specs.Jobs.{jobHas}
 use Rattle.sets.specs.declared.job_set.JobSet.{JobSet}
-use Rattle.ledger.proofs.Gates.{passed-rest, passed-test}
 use Rattle.ledger.proofs.Putting.{put-length, slot-before, slot-put}
 use Rattle.ledger.specs.Generations.{generationAt}
 use Rattle.ledger.specs.Journal.{equalAt, equalIn, hasRoom, insideOf, isBooked, jobAt, putAt, recordAt, slotAt}
@@ -35,12 +33,11 @@ use Rattle.ledger.specs.declared.Ledger.{Ledger}
 use Rattle.ledger.specs.declared.Place.the-variants.{Known, New, Turned}
 use Rattle.ledger.specs.declared.Settings.{Settings}
 use Rattle.index.proofs.Enters.{index-grows}
-use Rattle.index.proofs.Marks.{set-bit}
-use Rattle.index.proofs.Sifts.{sieve-grows}
+use Rattle.index.proofs.Sifts.{has-sum, sieve-grows}
 use Rattle.index.specs.Entering.{indexWith, sieveWith}
-use Rattle.index.specs.Sieve.{Sieved, bucketOf}
+use Rattle.index.specs.Sieve.{Sieved, sumOf}
 use Rattle.index.specs.Slots.{Indexed, shares}
-use Rattle.index.specs.Words.{bitAt, setAt}
+use Rattle.index.specs.Words.{setAt}
 use Rattle.engine.proofs.Answers.{sane}
 use Rattle.engine.proofs.Fields.{part-out, vaults-out}
 use Rattle.engine.proofs.Order.{generation-same}
@@ -64,14 +61,6 @@ and-self : (a : Bool) → (a && a) ≡ a
 and-self true = refl
 and-self false = refl
 
-first-output : (j : Job) → checkOf j ≡ Pass → isUsed j 4 ≡ true
-unfolding checkOf isUsed
-first-output j e = lt-ltb 0 (j .outputs) (omega (arith, reflect-formed j .sound (passed-test (wellFormed j) _ _ e) .outputs .0))
-
-examined-check : (bytes : List ℕ) → examined bytes ≡ Pass → checkOf (jobOf bytes) ≡ Pass
-unfolding examined
-examined-check bytes e = passed-rest (eqb (length bytes) recordSize) _ Malformed e
-
 -- ---- what is kept of some jobs is kept of others that are alike
 module _ (job job′ : ℕ → Job) (n : ℕ) (alike : (k : ℕ) → k < n → job′ k ≡ job k) where
   indexed-alike : (index : List ℕ) → Indexed job n index → Indexed job′ n index
@@ -89,6 +78,7 @@ module _ (job job′ : ℕ → Job) (n : ℕ) (alike : (k : ℕ) → k < n → j
   sieved-alike sieve x = record {
     size = x .size;
     all = λ k e l m u. rw (alike k l) (x .all k e l m (subst (λ (j : Job). isUsed j e ≡ true) (alike k l) u));
+    sums = λ k l. rw (alike k l) (x .sums k l);
   }
 
   aged-alike : (arrivals : ℕ) (order ages : List ℕ) → Aged job n arrivals order ages → Aged job′ (n + 1) arrivals order ages
@@ -121,22 +111,16 @@ module _ (s : Settings) (table journal index sieve : List ℕ) (k : Kept s table
     is-job : jobAt journal (getD table 0 0) m ≡ jobOf bytes
     is-job = job-slot journal (getD table 0 0) m (k .full) few l ∙ ap jobOf same
 
-    is-candidate : (label : ℕ) → label ≡ labelOf (jobOf bytes) 4 → jobHas (setAt sieve (2 * bucketOf label)) m ≡ true
-    is-candidate label e =
-        let b : 64 * (2 * bucketOf label) + m ≡ 128 * bucketOf label + m = omega arith in
-        let used : isUsed (jobAt journal (getD table 0 0) m) 4 ≡ true = ap (λ (j : Job). isUsed j 4) is-job ∙ first-output (jobOf bytes) (examined-check bytes equal-passes) in
-        let q : labelOf (jobAt journal (getD table 0 0) m) 4 ≡ label = ap (λ (j : Job). labelOf j 4) is-job ∙ sym e in
-        set-bit sieve (2 * bucketOf label) m (omega (arith, l, few)) ∙ ap (bitAt sieve) b
-        ∙ subst (λ (x : ℕ). bitAt sieve (128 * bucketOf x + m) ≡ true) q (k .sieved .all m 4 l (omega arith) used)
+    is-candidate : jobHas (setAt sieve (2 * sumOf (jobOf bytes))) m ≡ true
+    is-candidate = subst (λ (j : Job). jobHas (setAt sieve (2 * sumOf j)) m ≡ true) is-job (has-sum _ _ sieve few (k .sieved) m l)
 
-  pub find-is : (label : ℕ) → label ≡ labelOf (jobOf bytes) 4
-      → firstBelow (getD table 0 0) (candidateAt journal bytes (setAt sieve (2 * bucketOf label))) ≡ firstBelow (getD table 0 0) (equalAt journal bytes)
+  find-is : firstBelow (getD table 0 0) (candidateAt journal bytes (setAt sieve (2 * sumOf (jobOf bytes)))) ≡ firstBelow (getD table 0 0) (equalAt journal bytes)
   unfolding candidateAt
-  find-is label e = first-same (candidateAt journal bytes (setAt sieve (2 * bucketOf label))) (equalAt journal bytes) (getD table 0 0) (λ m l. by m l (equalAt journal bytes m) refl)
+  find-is = first-same (candidateAt journal bytes (setAt sieve (2 * sumOf (jobOf bytes)))) (equalAt journal bytes) (getD table 0 0) (λ m l. by m l (equalAt journal bytes m) refl)
     where
-      by : (m : ℕ) → m < getD table 0 0 → (b : Bool) → equalAt journal bytes m ≡ b → (jobHas (setAt sieve (2 * bucketOf label)) m && equalAt journal bytes m) ≡ equalAt journal bytes m
-      by m l true q = simp (is-candidate m l q label e)
-      by m l false q = simp q (and-false (jobHas (setAt sieve (2 * bucketOf label)) m))
+      by : (m : ℕ) → m < getD table 0 0 → (b : Bool) → equalAt journal bytes m ≡ b → (jobHas (setAt sieve (2 * sumOf (jobOf bytes))) m && equalAt journal bytes m) ≡ equalAt journal bytes m
+      by m l true q = simp (is-candidate m l q)
+      by m l false q = simp q (and-false (jobHas (setAt sieve (2 * sumOf (jobOf bytes))) m))
 
   -- ---- where the record belongs
   whole : length journal / 100 ≡ 128
@@ -176,10 +160,10 @@ module _ (s : Settings) (table journal index sieve : List ℕ) (k : Kept s table
       record { reply = simp p; written = sym (simp p); kept = k; modest = tt }
 
   -- ---- what the code found
-  module _ (n : ℕ) (en : n ≡ getD table 0 0) (j : Job) (label : ℕ) (likely : JobSet) (r : ℕ) (ej : j ≡ jobOf bytes) (el : label ≡ labelOf j 4)
-      (es : likely ≡ setAt sieve (2 * bucketOf label)) (er : r ≡ firstBelow n (candidateAt journal bytes likely)) where
+  module _ (n : ℕ) (en : n ≡ getD table 0 0) (j : Job) (likely : JobSet) (r : ℕ) (ej : j ≡ jobOf bytes) (es : likely ≡ setAt sieve (2 * sumOf j))
+      (er : r ≡ firstBelow n (candidateAt journal bytes likely)) where
     pub found : r ≡ firstBelow (getD table 0 0) (equalAt journal bytes)
-    found = er ∙ rw (en, es) (find-is label (el ∙ ap (λ (x : Job). labelOf x 4) ej))
+    found = er ∙ rw (en, es, ej) find-is
 
     pub is-fresh : n ≤ r → length bytes ≡ 100 → checkOf j ≡ Pass → Fresh journal bytes n
     unfolding examined

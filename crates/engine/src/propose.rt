@@ -88,7 +88,7 @@ pub fn propose(
 {
     let n = table[0] as usize;
     let job = record::read(bytes);
-    let likely = index::alike(&sieve[..], record::label(job, 4));
+    let likely = index::same_sum(&sieve[..], job);
     let equal = find(&journal[..], bytes, likely, n);
     if equal < n {
         return Outcome::Done(equal as u32);

@@ -1,9 +1,9 @@
--- Jobs that share a label are in a common bucket, so the sieve's likely jobs have every job that a new one can match.
+-- Jobs that share a label are in a common bucket, so the sieve's likely jobs have every job that a new one can match; and each is found by its sum.
 -- Assumes nothing.
 use mathlib.Core.Bool.{Bool, cond, false, true}
 use mathlib.Core.List.{List}
 use mathlib.Core.Logic.{_⊎_, inl, inr, ⊎-elim}
-use mathlib.Core.Path.{_∙_, _≡_, refl, sym}
+use mathlib.Core.Path.{_∙_, _≡_, ap, refl, sym}
 use Prim.Native.Nat.{_*_, _+_, _-_, _<_, _≤_, suc, zero, ℕ}
 use native.Mathlib.Nat.{eq-or-lt-of-le, le-of-suc-le-suc, mod-lt, not-suc-le-zero}
 use native.Mathlib.Omega.{arith}
@@ -19,7 +19,7 @@ use Rattle.sets.proofs.Jobs.{job-union-has}
 use Rattle.sets.specs.Jobs.{jobHas, jobUnion}
 use Rattle.sets.specs.declared.job_set.JobSet.{JobSet}
 use Rattle.index.proofs.Marks.{mark-keeps, mark-sets, mark-size, set-bit}
-use Rattle.index.specs.Sieve.{Sieved, bucketOf, likelyTo, siftTo}
+use Rattle.index.specs.Sieve.{Sieved, bucketOf, likelyTo, siftOf, siftTo, sumOf, sumTo}
 use Rattle.index.specs.Slots.{entryOf, sideOf, matches, shares}
 use Rattle.index.specs.Words.{bitAt, setAt}
 
@@ -95,6 +95,10 @@ pub bucket-below : (label : ℕ) → bucketOf label < 1021
 unfolding bucketOf
 bucket-below label = mod-lt label (omega arith)
 
+sum-below : (a : Job) → sumOf a < 1021
+unfolding sumTo
+sum-below a = mod-lt _ (omega arith)
+
 pub sift-size : (e : ℕ) (sieve : List ℕ) (a : Job) (n : ℕ) → length (siftTo e sieve a n) ≡ length sieve
 unfolding siftTo
 sift-size zero sieve a n = refl
@@ -118,18 +122,51 @@ module _ (sieve : List ℕ) (size : length sieve ≡ 2042) (a : Job) (n : ℕ) (
       (λ (l : e < m). mark-keeps (siftTo m sieve a n) _ (room m) _ _ (sift-sets m e l u))
       (eq-or-lt-of-le (le-of-suc-le-suc h))
 
+  -- then its sum
+  sum-room : 128 * sumOf a + n < 64 * length (siftTo 8 sieve a n)
+  sum-room = omega (arith, sift-size 8 sieve a n, size, sum-below a)
+
+  enter-size : length (siftOf sieve a n) ≡ 2042
+  unfolding siftOf
+  enter-size = mark-size (siftTo 8 sieve a n) _ _ ∙ sift-size 8 sieve a n ∙ size
+
+  enter-keeps : (x : ℕ) → bitAt sieve x ≡ true → bitAt (siftOf sieve a n) x ≡ true
+  unfolding siftOf
+  enter-keeps x h = mark-keeps (siftTo 8 sieve a n) _ sum-room x _ (sift-keeps 8 x h)
+
+  enter-labels : (e : ℕ) → e < 8 → isUsed a e ≡ true → bitAt (siftOf sieve a n) (128 * bucketOf (labelOf a e) + n) ≡ true
+  unfolding siftOf
+  enter-labels e h u = mark-keeps (siftTo 8 sieve a n) _ sum-room _ _ (sift-sets 8 e h u)
+
+  enter-sum : bitAt (siftOf sieve a n) (128 * sumOf a + n) ≡ true
+  unfolding siftOf
+  enter-sum = mark-sets (siftTo 8 sieve a n) _ sum-room true refl
+
 -- one job more
-pub sieve-grows : (job : ℕ → Job) (n : ℕ) (sieve : List ℕ) → n < 128 → Sieved job n sieve → Sieved job (n + 1) (siftTo 8 sieve (job n) n)
+pub sieve-grows : (job : ℕ → Job) (n : ℕ) (sieve : List ℕ) → n < 128 → Sieved job n sieve → Sieved job (n + 1) (siftOf sieve (job n) n)
 sieve-grows job n sieve h s = record {
-  size = sift-size 8 sieve (job n) n ∙ s .size;
-  all = λ k e l m u. by k e (ltb k n) refl l m u;
+  size = enter-size sieve (s .size) (job n) n h;
+  all = λ k e l m. ⊎-elim (now-label k e m) (λ o u. enter-keeps sieve (s .size) (job n) n h _ (s .all k e o m u)) (last k l);
+  sums = λ k l. ⊎-elim (now-sum k) (λ o. enter-keeps sieve (s .size) (job n) n h _ (s .sums k o)) (last k l);
 }
   where
-    by : (k e : ℕ) (t : Bool) → ltb k n ≡ t → k < n + 1 → e < 8 → isUsed (job k) e ≡ true → bitAt (siftTo 8 sieve (job n) n) (128 * bucketOf (labelOf (job k) e) + k) ≡ true
-    by k e true q l m u = sift-keeps sieve (s .size) (job n) n h 8 _ (s .all k e (ltb-true k n q) m u)
-    by k e false q l m u =
-        let r : k ≡ n = omega (arith, ltb-false k n q) in
-        rw r (sift-sets sieve (s .size) (job n) n h 8 e m (rw r at u))
+    -- the new job, or one before it
+    last : (k : ℕ) → k < n + 1 → (k ≡ n) ⊎ (k < n)
+    last k l = eq-or-lt-of-le (omega arith)
+
+    now-label : (k e : ℕ) → e < 8 → k ≡ n → isUsed (job k) e ≡ true → bitAt (siftOf sieve (job n) n) (128 * bucketOf (labelOf (job k) e) + k) ≡ true
+    now-label k e m r u = rw r (enter-labels sieve (s .size) (job n) n h e m (rw r at u))
+
+    now-sum : (k : ℕ) → k ≡ n → bitAt (siftOf sieve (job n) n) (128 * sumOf (job k) + k) ≡ true
+    now-sum k r = rw r (enter-sum sieve (s .size) (job n) n h)
+
+-- the set of a bucket has the jobs that are in it
+bucket-has : (sieve : List ℕ) (b k : ℕ) → k < 128 → jobHas (setAt sieve (2 * b)) k ≡ bitAt sieve (128 * b + k)
+bucket-has sieve b k h = let p : 64 * (2 * b) + k ≡ 128 * b + k = omega arith in set-bit sieve (2 * b) k h ∙ ap (bitAt sieve) p
+
+-- every job is found by its sum
+pub has-sum : (job : ℕ → Job) (n : ℕ) (sieve : List ℕ) → n ≤ 128 → Sieved job n sieve → (k : ℕ) → k < n → jobHas (setAt sieve (2 * sumOf (job k))) k ≡ true
+has-sum job n sieve h s k l = bucket-has sieve (sumOf (job k)) k (omega (arith, h, l)) ∙ s .sums k l
 
 -- ---- the likely jobs
 likely-has : (sieve : List ℕ) (a : Job) (k m e : ℕ) → k < 128 → e < m → isUsed a e ≡ true → bitAt sieve (128 * bucketOf (labelOf a e) + k) ≡ true
@@ -147,9 +184,7 @@ likely-has sieve a k (suc m) e lk h u b =
 
     here : isUsed a m ≡ true → bitAt sieve (128 * bucketOf (labelOf a m) + k) ≡ true
         → jobHas (cond (isUsed a m) (jobUnion (likelyTo m sieve a) (setAt sieve (2 * bucketOf (labelOf a m)))) (likelyTo m sieve a)) k ≡ true
-    here v c =
-        let p : 64 * (2 * bucketOf (labelOf a m)) + k ≡ 128 * bucketOf (labelOf a m) + k = omega arith in
-        simp v (joined (setAt sieve (2 * bucketOf (labelOf a m))) (inr (set-bit sieve (2 * bucketOf (labelOf a m)) k lk ∙ rw p c)))
+    here v c = simp v (joined (setAt sieve (2 * bucketOf (labelOf a m))) (inr (bucket-has sieve (bucketOf (labelOf a m)) k lk ∙ c)))
 
     there : (t : Bool) → jobHas (likelyTo m sieve a) k ≡ true
         → jobHas (cond t (jobUnion (likelyTo m sieve a) (setAt sieve (2 * bucketOf (labelOf a m)))) (likelyTo m sieve a)) k ≡ true

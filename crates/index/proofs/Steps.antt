@@ -1,16 +1,16 @@
 -- A turn of each loop is a step of its definition.
 -- Assumes nothing.
-use mathlib.Core.Bool.{Bool, cond}
+use mathlib.Core.Bool.{Bool, cond, true}
 use mathlib.Core.List.{List}
 use mathlib.Core.Path.{_∙_, _≡_}
-use Prim.Native.Nat.{_*_, _+_, ℕ}
+use Prim.Native.Nat.{_%_, _*_, _+_, ℕ}
 use native.Mathlib.Numerals.{add-one}
-use Rattle.record.specs.Entries.{isUsed, labelOf}
+use Rattle.record.specs.Entries.{framesOf, isUsed, labelOf}
 use Rattle.record.specs.declared.Job.{Job}
 use Rattle.sets.specs.Jobs.{jobHas}
 use Rattle.sets.specs.declared.job_set.JobSet.{JobSet}
 use Rattle.index.specs.Entering.{againstTo, bothWays, extended, indexWith, pairTo, sieveWith}
-use Rattle.index.specs.Sieve.{bucketOf, likelyTo, siftTo}
+use Rattle.index.specs.Sieve.{bucketOf, likelyTo, siftOf, siftTo, sumOf, sumTo}
 use Rattle.index.specs.Slots.{place, shares}
 use Rattle.index.specs.Words.{marked}
 
@@ -19,10 +19,18 @@ pub pair-next : (index before after : List ℕ) (a : Job) (j : ℕ) (c : Job) (k
 unfolding pairTo
 pair-next index before after a j c k i t e u m = m ∙ rw (add-one i, e, u)
 
+pub sum-next : (a : Job) (e before b f : ℕ) → before ≡ sumTo e a → b ≡ bucketOf (labelOf a e) → f ≡ framesOf a e → (31 * before + b + f) % 1021 ≡ sumTo (e + 1) a
+unfolding sumTo
+sum-next a e before b f q v u = rw (add-one e, q, v, u)
+
 pub sift-next : (sieve before after : List ℕ) (a : Job) (n e b : ℕ) (t : Bool)
     → before ≡ siftTo e sieve a n → b ≡ bucketOf (labelOf a e) → t ≡ isUsed a e → after ≡ marked before (128 * b + n) t → after ≡ siftTo (e + 1) sieve a n
 unfolding siftTo
 sift-next sieve before after a n e b t q v u m = m ∙ rw (add-one e, q, v, u)
+
+pub sift-sum : (sieve mid after : List ℕ) (a : Job) (n s : ℕ) → mid ≡ siftTo 8 sieve a n → s ≡ sumOf a → after ≡ marked mid (128 * s + n) true → after ≡ siftOf sieve a n
+unfolding siftOf
+sift-sum sieve mid after a n s q v m = m ∙ rw (q, v)
 
 pub against-next : (job : ℕ → Job) (index before after : List ℕ) (s : JobSet) (a : Job) (n k : ℕ)
     → before ≡ againstTo job k index s n → a ≡ job n → after ≡ cond (jobHas s k) (bothWays before a n (job k) k) before → after ≡ againstTo job (k + 1) index s n
@@ -34,5 +42,5 @@ pub entered : (job : ℕ → Job) (index mid after sieve : List ℕ) (a : Job) (
 unfolding extended
 entered job index mid after sieve a s n e l m p = p ∙ rw (m, l, e)
 
-pub sifted : (job : ℕ → Job) (sieve after : List ℕ) (a : Job) (n : ℕ) → a ≡ job n → after ≡ siftTo 8 sieve a n → after ≡ sieveWith job sieve n
+pub sifted : (job : ℕ → Job) (sieve after : List ℕ) (a : Job) (n : ℕ) → a ≡ job n → after ≡ siftOf sieve a n → after ≡ sieveWith job sieve n
 sifted job sieve after a n e m = m ∙ rw e

@@ -5,7 +5,7 @@ use Prim.Native.Nat.{suc, zero, ℕ}
 use Rattle.record.specs.declared.Job.{Job}
 use Rattle.sets.specs.Jobs.{jobHas}
 use Rattle.sets.specs.declared.job_set.JobSet.{JobSet}
-use Rattle.index.specs.Sieve.{likelyTo, siftTo}
+use Rattle.index.specs.Sieve.{likelyTo, siftOf}
 use Rattle.index.specs.Slots.{place, shares}
 use Rattle.index.specs.Words.{marked}
 
@@ -32,4 +32,4 @@ module _ (job : ℕ → Job) where
   indexWith index sieve n = extended index (likelyTo 8 sieve (job n)) n
 
   abbrev pub sieveWith : List ℕ → ℕ → List ℕ
-  sieveWith sieve n = siftTo 8 sieve (job n) n
+  sieveWith sieve n = siftOf sieve (job n) n

@@ -7,5 +7,5 @@ mod words;
 
 pub use checks::admission;
 pub use entering::enter;
-pub use sieve::alike;
+pub use sieve::same_sum;
 pub use words::set_at;

@@ -14,14 +14,11 @@ slice-read-n c = search needs
 read-requires : tie.Need-read-requires
 read-requires c κs = search needs
 
-label-requires : tie.Need-label-requires
-label-requires c κs = search needs
-
-alike-requires : tie.Need-alike-requires
-alike-requires c κs = c .before .before .before .before .before .before .before .before .before .pre .0 .sieved .size
+same-sum-requires : tie.Need-same-sum-requires
+same-sum-requires c κs = c .before .before .before .before .before .before .before .before .pre .0 .sieved .size
 
 find-requires : tie.Need-find-requires
-find-requires c κs = omega (arith, c .before .before .before .before .before .before .before .before .before .before .before .pre .0 .full, c .before .before .before .before .before .before .before .before .before .before .before .pre .0 .sound .booked)
+find-requires c κs = omega (arith, c .before .before .before .before .before .before .before .before .before .before .pre .0 .full, c .before .before .before .before .before .before .before .before .before .before .pre .0 .sound .booked)
 
 cast-t19 : tie.Need-cast-t19
 cast-t19 c = search needs
@@ -33,7 +30,7 @@ same-length-2 : tie.Need-same-length-2
 same-length-2 c = search needs
 
 returns : tie.Need-returns
-returns c = proposed-known _ _ _ _ _ (c .before .before .before .before .before .before .before .before .before .before .before .before .before .pre .0) _ _ (found _ _ _ _ _ (c .before .before .before .before .before .before .before .before .before .before .before .before .before .pre .0) _ _ refl _ _ _ _ (c .before .before .before .before .before .before .read .ensures) (c .before .before .before .before .label .ensures) (c .before .before .before .alike .ensures) (c .before .find .ensures)) (c .if1 .taken)
+returns c = proposed-known _ _ _ _ _ (c .before .before .before .before .before .before .before .before .before .before .before .before .pre .0) _ _ (found _ _ _ _ _ (c .before .before .before .before .before .before .before .before .before .before .before .before .pre .0) _ _ refl _ _ _ (c .before .before .before .before .before .read .ensures) (c .before .before .before .same-sum .ensures) (c .before .find .ensures)) (c .if1 .taken)
 
 check-requires : tie.Need-check-requires
 check-requires c κs = search needs
@@ -42,7 +39,7 @@ enum-told : tie.Need-enum-told
 enum-told c = search needs
 
 book-new-requires : tie.Need-book-new-requires
-book-new-requires c κs = (c .before .before .before .before .before .before .before .before .before .before .before .before .before .before .before .before .before .before .before .before .pre .0, refl, c .before .before .before .before .before .before .before .before .before .before .before .before .before .before .before .before .before .before .before .before .pre .1, is-fresh _ _ _ _ _ (c .before .before .before .before .before .before .before .before .before .before .before .before .before .before .before .before .before .before .before .before .pre .0) _ _ refl _ _ _ _ (c .before .before .before .before .before .before .before .before .before .before .before .before .before .read .ensures) (c .before .before .before .before .before .before .before .before .before .before .before .label .ensures) (c .before .before .before .before .before .before .before .before .before .before .alike .ensures) (c .before .before .before .before .before .before .before .before .find .ensures) (c .before .before .before .before .before .before .before .if1 .left) (c .before .before .before .before .before .before .before .before .before .before .before .before .before .before .before .before .before .before .before .before .pre .1) (sym (c .before .before .before .before .before .before .check .ensures) ∙ c .before .before .before .before .enum-told .given .1))
+book-new-requires c κs = (c .before .before .before .before .before .before .before .before .before .before .before .before .before .before .before .before .before .before .before .pre .0, refl, c .before .before .before .before .before .before .before .before .before .before .before .before .before .before .before .before .before .before .before .pre .1, is-fresh _ _ _ _ _ (c .before .before .before .before .before .before .before .before .before .before .before .before .before .before .before .before .before .before .before .pre .0) _ _ refl _ _ _ (c .before .before .before .before .before .before .before .before .before .before .before .before .read .ensures) (c .before .before .before .before .before .before .before .before .before .before .same-sum .ensures) (c .before .before .before .before .before .before .before .before .find .ensures) (c .before .before .before .before .before .before .before .if1 .left) (c .before .before .before .before .before .before .before .before .before .before .before .before .before .before .before .before .before .before .before .pre .1) (sym (c .before .before .before .before .before .before .check .ensures) ∙ c .before .before .before .before .enum-told .given .1))
 
 enum-known-why : tie.Need-enum-known-why
 enum-known-why c = search needs
@@ -69,7 +66,7 @@ same-length-8 : tie.Need-same-length-8
 same-length-8 c = search needs
 
 returns-3 : tie.Need-returns-3
-returns-3 c = proposed-bad _ _ _ _ _ (c .before .before .before .before .before .before .before .before .before .before .before .before .before .before .before .before .before .pre .0) _ _ (c .before .before .before .before .before .before .before .before .before .before .before .before .before .before .before .before .before .pre .1) (ap checkOf (sym (c .before .before .before .before .before .before .before .before .before .before .read .ensures)) ∙ sym (c .before .before .before .check .ensures) ∙ c .before .why .given .1)
+returns-3 c = proposed-bad _ _ _ _ _ (c .before .before .before .before .before .before .before .before .before .before .before .before .before .before .before .before .pre .0) _ _ (c .before .before .before .before .before .before .before .before .before .before .before .before .before .before .before .before .pre .1) (ap checkOf (sym (c .before .before .before .before .before .before .before .before .before .read .ensures)) ∙ sym (c .before .before .before .check .ensures) ∙ c .before .why .given .1)
 
 pub propose-spec : {M : Type 1} → statement M
 propose-spec =
@@ -77,8 +74,7 @@ propose-spec =
     (tie.spec
     slice-read-n
     read-requires
-    label-requires
-    alike-requires
+    same-sum-requires
     find-requires
     cast-t19
     same-length
