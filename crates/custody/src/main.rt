@@ -11,10 +11,10 @@ fn input_buffer() -> [u8; 65537]
 }
 
 // As long as the longest text.
-fn output_buffer() -> [u8; 1081344]
-    ensures { λ r. ⌜ 1081344 ≡ length r ⌝ }
+fn output_buffer() -> [u8; 458696]
+    ensures { λ r. ⌜ 458696 ≡ length r ⌝ }
 {
-    [0; 1081344]
+    [0; 458696]
 }
 
 fn main() {

@@ -154,7 +154,7 @@ module _ (input : List ℕ) (items : List Item) (k : ℕ) (r : Run) (f : Follows
 
   next : Follows input (items ++ nextItem input r) (suc k) (turn input k r)
   unfolding nextItem turn
-  next = by (ended input r) refl (isReadable input r)
+  next = by (ended input r) refl (isReadable input (r .pos))
     where
       by : (e : Bool) → ended input r ≡ e → (b : Bool)
           → Follows input (items ++ cond e [] (cond b (itemOf r (commandOf input r) ∷ []) [])) (suc k) (cond e r (cond b (carriedOut input k r) (cutShort r k)))

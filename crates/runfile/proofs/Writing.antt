@@ -1,16 +1,17 @@
 -- Texts written one after another are written whole, and a number's last digit follows the rest of it.
 -- Assumes nothing.
 use mathlib.Core.Bool.{Bool, false, true}
-use mathlib.Core.List.{List, [], _++_, _∷_}
-use mathlib.Core.Path.{_∙_, _≡_, refl, sym}
+use mathlib.Core.List.{List, [], _++_, _∷_, append-assoc}
+use mathlib.Core.Path.{_∙_, _≡_, ap, refl, sym}
 use Prim.Native.Nat.{_%_, _*_, _+_, _/_, _<_, _^_, _≤_, suc, zero, ℕ}
-use native.Mathlib.Nat.{add-suc, add-zero, mod-eq-of-lt, not-suc-le-zero, pow-suc, suc-add}
+use native.Mathlib.Nat.{add-suc, add-zero, not-suc-le-zero, pow-suc, suc-add, zero-add}
+use native.Mathlib.Numerals.{add-one}
 use native.Mathlib.Omega.{arith}
 use lib.Dec.{ltb}
-use lib.ListN.{length, length-append, set}
-use lib.Seq.{sets}
+use lib.ListN.{drop, getD, length, length-append, length-take, set, take}
+use lib.Seq.{sets, sets-eq, take-all, take-at, take-suc}
 use borrow.Author.Tests.{le-ltb, lt-ltb, ltb-false, ltb-true}
-use Rattle.runfile.specs.Text.{Put, decimal, digits}
+use Rattle.runfile.specs.Text.{Put, decimal, digits, twoDigits}
 
 sets-append : (s t l : List ℕ) (i : ℕ) → sets (sets l i s) (i + length s) t ≡ sets l i (s ++ t)
 sets-append [] t l i = simp add-zero
@@ -45,19 +46,62 @@ enough (suc k) n h (suc j) g =
     by-ten n (λ l. small (suc k) n l ∙ sym (small (suc j) n l))
     (λ m. more k n m ∙ rw (enough k (n / 10) (omega arith) j (omega arith)) (sym (more j n m)))
 
--- as the code has the last digit
-pub decimal-one : (n : ℕ) → n < 10 → decimal n ≡ (48 + n % 10) ∷ []
+decimal-one : (n : ℕ) → n < 10 → decimal n ≡ (48 + n) ∷ []
 unfolding decimal
-decimal-one n h = rw (mod-eq-of-lt h) (small n n h)
+decimal-one n h = small n n h
 
-pub decimal-more : (n : ℕ) → 10 ≤ n → decimal n ≡ decimal (n / 10) ++ ((48 + n % 10) ∷ [])
+decimal-more : (n : ℕ) → 10 ≤ n → decimal n ≡ decimal (n / 10) ++ ((48 + n % 10) ∷ [])
 unfolding decimal
 decimal-more zero h = absurd (not-suc-le-zero h)
 decimal-more (suc n) h = more n (suc n) h ∙ rw (enough n (suc n / 10) (omega arith) (suc n / 10) (omega arith))
 
+decimal-two : (n : ℕ) → 10 ≤ n → n < 100 → decimal n ≡ twoDigits n
+decimal-two n h g = decimal-more n h ∙ ap (λ (t : List ℕ). t ++ ((48 + n % 10) ∷ [])) (decimal-one (n / 10) (omega arith))
+
+decimal-hundreds : (n : ℕ) → 100 ≤ n → decimal n ≡ decimal (n / 100) ++ twoDigits (n % 100)
+decimal-hundreds n h =
+    let a : n / 10 / 10 ≡ n / 100 = omega arith in
+    let b : n / 10 % 10 ≡ n % 100 / 10 = omega arith in
+    let c : n % 10 ≡ n % 100 % 10 = omega arith in
+    decimal-more n (omega arith) ∙ rw (decimal-more (n / 10) (omega arith), a, b, c) (append-assoc (decimal (n / 100)) _ _)
+
 -- how many digits
-pub decimal-length : (k n : ℕ) → n < 10 ^ k * 10 → length (decimal n) ≤ k + 1
+decimal-length : (k n : ℕ) → n < 10 ^ k * 10 → length (decimal n) ≤ k + 1
 decimal-length zero n h = rw (decimal-one n (omega arith)) (omega arith)
 decimal-length (suc k) n h =
     by-ten n (λ l. rw (decimal-one n l) (omega arith))
     (λ m. rw (decimal-more n m) (simp length-append (omega (arith, decimal-length k (n / 10) (omega (arith, rw (pow-suc 10 k) at h))))))
+
+-- ---- numbers written
+module _ {o p : List ℕ} {i r n : ℕ} where
+  pub one-digit : n < 10 → Put o i ((48 + n) ∷ []) p r → Put o i (decimal n) p r
+  one-digit h w = rw (decimal-one n h) w
+
+  pub two-digits : 10 ≤ n → n < 100 → Put o i (twoDigits n) p r → Put o i (decimal n) p r
+  two-digits h g w = rw (decimal-two n h g) w
+
+  -- the hundreds, and two digits more
+  pub hundreds : 100 ≤ n → {q : List ℕ} {j : ℕ} → Put o i (decimal (n / 100)) q j → Put q j (twoDigits (n % 100)) p r → Put o i (decimal n) p r
+  hundreds h v w = rw (decimal-hundreds n h) (then v w)
+
+  -- where a number with at most k + 1 digits ends
+  pub number-ends : (k : ℕ) → n < 10 ^ k * 10 → Put o i (decimal n) p r → r ≤ i + (k + 1)
+  number-ends k h w = omega (arith, w .moved, decimal-length k n h)
+
+-- ---- a text put byte by byte
+module _ {o p : List ℕ} {at r : ℕ} (text : List ℕ) (i : ℕ) where
+  pub one-more : i < length text → Put o at (take i text ++ (getD text i 0 ∷ [])) p r → Put o at (take (i + 1) text) p r
+  one-more h w = rw (add-one, take-suc text i 0 h) w
+
+  pub all-put : length text ≤ i → Put o at (take i text) p r → Put o at text p r
+  all-put h w = rw (take-all i text h) at w
+
+pub part-short : (k n : ℕ) (l : List ℕ) → n ≤ k → length (take n l) ≤ k
+part-short k n l h = omega (arith, length-take n l)
+
+-- a text made at the start of a buffer with room for it is what the buffer's first bytes are
+pub made : {o p t : List ℕ} {r : ℕ} → r ≤ length o → Put o 0 t p r → take r p ≡ t
+made {o} {p} {t} {r} h w =
+    let e : r ≡ length t = w .moved ∙ zero-add (length t) in
+    let all : sets o 0 t ≡ t ++ drop (length t) o = sets-eq t o 0 (rw zero-add (omega (arith, e))) ∙ rw zero-add in
+    rw (w .wrote, all) (take-at t (drop (length t) o) r (sym e))

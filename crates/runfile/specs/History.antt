@@ -40,7 +40,7 @@ itemOf r (draw u) = drawn u
 
 -- the next step, none where the run has ended or is cut short
 unfoldable pub nextItem : List ℕ → Run → List Item
-nextItem input r = cond (ended input r) [] (cond (isReadable input r) (itemOf r (commandOf input r) ∷ []) [])
+nextItem input r = cond (ended input r) [] (cond (isReadable input (r .pos)) (itemOf r (commandOf input r) ∷ []) [])
 
 -- the first k steps
 unfoldable pub history : List ℕ → ℕ → List Item

@@ -1,7 +1,7 @@
 -- The whole run: the header, then a line for each step. "Refusal 1 prints `0 1 0` and nothing else; refusal 2 prints its line and ends."
 use mathlib.Core.Bool.{Bool, _&&_, cond, false, true}
 use mathlib.Core.List.{List, [], _++_}
-use Prim.Native.Nat.{_+_, suc, zero, ℕ}
+use Prim.Native.Nat.{_*_, _+_, min, suc, zero, ℕ}
 use lib.Dec.{eqb, leb, ltb}
 use lib.ListN.{getD, length, replicate}
 use Rattle.ledger.specs.Federation.{isLawful}
@@ -50,9 +50,9 @@ cutShort r k = record { pos = r .pos; ledger = r .ledger; journal = r .journal; 
 unfoldable pub ended : List ℕ → Run → Bool
 ended input r = cond (r .over) true (leb (length input) (r .pos))
 
--- the next step can be read: its kind is known and its body is all there
-unfoldable pub isReadable : List ℕ → Run → Bool
-isReadable input r = let n = bodySize (getD input (r .pos) 0) in ltb 0 n && ltb (r .pos + n) (length input)
+-- the step at pos can be read: its kind is known and its body is all there
+unfoldable pub isReadable : List ℕ → ℕ → Bool
+isReadable input pos = let n = bodySize (getD input pos 0) in ltb 0 n && ltb (pos + n) (length input)
 
 abbrev pub commandOf : List ℕ → Run → Command
 commandOf input r = commandAt (getD input (r .pos) 0) input (r .pos + 1)
@@ -66,7 +66,7 @@ carriedOut input k r =
 
 -- the step after k others
 unfoldable pub turn : List ℕ → ℕ → Run → Run
-turn input k r = cond (ended input r) r (cond (isReadable input r) (carriedOut input k r) (cutShort r k))
+turn input k r = cond (ended input r) r (cond (isReadable input (r .pos)) (carriedOut input k r) (cutShort r k))
 
 -- the run after k steps
 unfoldable pub after : List ℕ → ℕ → Run
@@ -76,3 +76,7 @@ after input (suc k) = turn input k (after input k)
 -- the text for any input: there are no more steps than bytes
 unfoldable pub runText : List ℕ → List ℕ
 runText input = cond (opens input) (after input (length input) .text) (lineOf 0 1 0)
+
+-- no text for so many bytes is longer: refusal 1 takes 6 bytes, a step has two or more and its line 14 at most
+abbrev pub longestText : ℕ → ℕ
+longestText n = min (7 * n + 6) 458696

@@ -3,7 +3,7 @@
 use mathlib.Core.Bool.{cond}
 use mathlib.Core.List.{List, [], _++_, _∷_}
 use mathlib.Core.Path.{_≡_}
-use Prim.Native.Nat.{_+_, _/_, _%_, suc, zero, ℕ}
+use Prim.Native.Nat.{_+_, _/_, _%_, _<_, suc, zero, ℕ}
 use lib.Dec.{ltb}
 use lib.ListN.{length}
 use lib.Seq.{sets}
@@ -19,6 +19,10 @@ digits (suc k) n = cond (ltb n 10) ((48 + n) ∷ []) (digits k (n / 10) ++ ((48 
 unfoldable pub decimal : ℕ → List ℕ
 decimal n = digits n n
 
+-- the two digits of a number below 100
+abbrev pub twoDigits : ℕ → List ℕ
+twoDigits n = (48 + n / 10) ∷ (48 + n % 10) ∷ []
+
 -- a line: three numbers, single spaces between
 unfoldable pub lineOf : ℕ → ℕ → ℕ → List ℕ
 lineOf step number value = decimal step ++ (32 ∷ (decimal number ++ (32 ∷ (decimal value ++ (10 ∷ [])))))
@@ -26,6 +30,12 @@ lineOf step number value = decimal step ++ (32 ∷ (decimal number ++ (32 ∷ (d
 -- the line of a step that was answered so
 abbrev pub lineFor : ℕ → Outcome → List ℕ
 lineFor step outcome = lineOf step (numberOf outcome) (valueOf outcome)
+
+-- the numbers of a line that has 14 bytes at most
+pub record Brief (step number value : ℕ) : Type 0 where
+  pub step-digits : step < 100000
+  pub number-digits : number < 100
+  pub value-digits : value < 10000
 
 -- the text was written at the cursor, which moved on by its length
 pub record Put (before : List ℕ) (at : ℕ) (text after : List ℕ) (r : ℕ) : Type 0 where

@@ -3,7 +3,9 @@ ghost use mathlib.Core.Path.{_≡_};
 ghost use Prim.Native.Nat.{_+_, _<_, _≤_};
 ghost use lib.ListN.{length};
 ghost use Rattle.runfile.specs.Steps.{bodySize, commandAt};
-ghost use Rattle.engine.specs.Kept.{Kept};
+ghost use Rattle.outcome.specs.Figures.{valueOf};
+ghost use Rattle.engine.specs.Kept.{Kept, Modest};
+ghost use Rattle.runfile.specs.Run.{isReadable};
 ghost use Rattle.runfile.specs.Tables.{Stepped};
 use crate::header;
 use ledger::Settings;
@@ -23,6 +25,35 @@ pub(crate) fn body_size(kind: u8) -> usize
         7 => 1,
         8 => 1,
         _ => 0,
+    }
+}
+
+// The step at `pos` has a known kind, and its body is all there.
+pub(crate) fn is_readable(input: &[u8], pos: usize) -> bool
+    requires { ⌜ (pos < length (now input)) × (length (now input) ≤ 65536) ⌝ }
+    ensures { λ r. ⌜ r ≡ isReadable (now (input .entry)) pos ⌝ }
+{
+    let n = body_size(input[pos]);
+    if 0 < n {
+        return pos + n < input.len();
+    }
+    false
+}
+
+fn wide(x: u8) -> u32
+    ensures { λ r. ⌜ (r ≡ x) × (r < 256) ⌝ }
+{
+    x as u32
+}
+
+// What the outcome's line tells; a refusal tells a byte.
+pub(crate) fn value(outcome: Outcome) -> u32
+    requires { ⌜ Modest outcome ⌝ }
+    ensures { λ r. ⌜ (r ≡ valueOf outcome) × (r < 10000) ⌝ }
+{
+    match outcome {
+        Outcome::Done(value) => value,
+        Outcome::Refused(why) => wide(why.value()),
     }
 }
 

@@ -9,7 +9,7 @@ use Rattle.custody.proofs.output_buffer.Reads as reads
 use Rattle.custody.proofs.output_buffer.Lts as lts
 
 returns : tie.Need-returns
-returns c = sym (length-replicate {0} {A = ℕ} 1081344 0)
+returns c = sym (length-replicate {0} {A = ℕ} 458696 0)
 
 pub output-buffer-spec : {M : Type 1} → statement M
 output-buffer-spec = tie.close (tie.spec returns)

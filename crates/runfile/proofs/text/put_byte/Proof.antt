@@ -1,18 +1,13 @@
--- A byte past the end is dropped, as `sets` drops it.
+-- Past the end nothing is written.
 -- Assumes nothing.
-use mathlib.Core.Path.{refl, sym}
 use lib.Seq.{set-out}
+use mathlib.Core.Path.{refl, sym}
 use borrow.Author.Needs.{needs}
 use Rattle.runfile.proofs.text.put_byte.Statement.{statement}
 use Rattle.runfile.proofs.text.put_byte.Tie as tie
-use Rattle.runfile.proofs.text.put_byte.Reads as reads
-use Rattle.runfile.proofs.text.put_byte.Lts as lts
 
-slice-write-out : tie.Need-slice-write-out
-slice-write-out c = search needs
-
-add-result : tie.Need-add-result
-add-result c = search needs
+write-byte-requires : tie.Need-write-byte-requires
+write-byte-requires c κs = search needs
 
 same-length : tie.Need-same-length
 same-length c = search needs
@@ -20,12 +15,11 @@ same-length c = search needs
 returns : tie.Need-returns
 returns c = search needs
 
-add-result-2 : tie.Need-add-result-2
-add-result-2 c = search needs
+add-result : tie.Need-add-result
+add-result c = search needs
 
 returns-2 : tie.Need-returns-2
 returns-2 c = record { moved = refl; wrote = sym (set-out _ _ _ (c .if1 .left)) }
 
 pub put-byte-spec : {M : Type 1} → statement M
-put-byte-spec =
-    tie.close (tie.spec slice-write-out add-result same-length returns add-result-2 returns-2)
+put-byte-spec = tie.close (tie.spec write-byte-requires same-length returns add-result returns-2)
