@@ -1,9 +1,9 @@
--- Little-endian numbers: a step of each loop.
+-- Little-endian numbers: a step of each loop, and the sums that need none.
 -- Assumes nothing.
 use mathlib.Core.List.{List, [], _++_, _∷_}
 use mathlib.Core.Path.{_∙_, _≡_, ap, refl, sym}
 use Prim.Native.Nat.{_%_, _*_, _+_, _-_, _/_, _<_, _^_, _≤_, suc, zero, ℕ}
-use native.Mathlib.Nat.{add-suc, add-zero, sub-self, suc-add}
+use native.Mathlib.Nat.{add-assoc, add-suc, add-zero, sub-self, suc-add}
 use native.Mathlib.Numerals.{add-one}
 use native.Mathlib.Omega.{arith}
 use lib.ListN.{getD, length, set}
@@ -46,6 +46,16 @@ leAt-all s at k count acc h e =
 -- eight bytes at most: one more fits
 pub room : (k count acc : ℕ) → 0 < k → count ≤ 8 → acc < 2 ^ (8 * (count - k)) → acc < 2 ^ 56
 room k count acc hk hc h = omega (arith, pow-mono {i = 8 * (count - k)} {j = 56} (omega arith))
+
+-- four bytes as one sum
+pub leAt-four : (s : List ℕ) (at : ℕ) → leAt s at 4 ≡ getD s at 0 + 256 * (getD s (at + 1) 0 + 256 * (getD s (at + 2) 0 + 256 * getD s (at + 3) 0))
+unfolding leAt
+leAt-four s at = simp (add-assoc, add-zero)
+
+-- eight bytes as two times four
+pub leAt-halves : (s : List ℕ) (at : ℕ) → leAt s at 8 ≡ leAt s at 4 + 4294967296 * leAt s (at + 4) 4
+unfolding leAt
+leAt-halves s at = simp add-assoc (omega arith)
 
 -- ---- stores
 module _ {A : Type 0} where

@@ -38,10 +38,40 @@ fn number_at(s: &[u8], at: usize, count: usize) -> u64
     acc
 }
 
+// A byte is below 256.
+fn wide(x: u8) -> u64
+    ensures { λ r. ⌜ (r ≡ x) × (r < 256) ⌝ }
+{
+    x as u64
+}
+
+// The number of the four bytes from at on, which all lie inside. One sum, since it compiles to one load.
+fn four_in(s: &[u8], at: usize) -> u64
+    requires { ⌜ at + 4 ≤ length (now s) ⌝ }
+    ensures { λ r. ⌜ (r ≡ leAt (now (s .entry)) at 4) × (r < 2 ^ 32) ⌝ }
+{
+    wide(s[at]) + 256 * (wide(s[at + 1]) + 256 * (wide(s[at + 2]) + 256 * wide(s[at + 3])))
+}
+
+// An entry that lies inside. Its label is two halves of four bytes, the upper one times 2 ^ 32.
+fn entry_in(s: &[u8], at: usize) -> Entry
+    requires { ⌜ at + 12 ≤ length (now s) ⌝ }
+    ensures { λ r. ⌜ r ≡ entryAt (now (s .entry)) at ⌝ }
+{
+    Entry {
+        label: four_in(s, at) + 4294967296 * four_in(s, at + 4),
+        frames: four_in(s, at + 8) as u32,
+    }
+}
+
+// Any entry; only one that is cut short is read byte by byte.
 fn entry_at(s: &[u8], at: usize) -> Entry
     requires { ⌜ at < 60000 ⌝ }
     ensures { λ r. ⌜ r ≡ entryAt (now (s .entry)) at ⌝ }
 {
+    if at + ENTRY <= s.len() {
+        return entry_in(s, at);
+    }
     Entry {
         label: number_at(s, at, 8),
         frames: number_at(s, at + 8, 4) as u32,
