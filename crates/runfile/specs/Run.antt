@@ -1,7 +1,7 @@
 -- The whole run: the header, then a line for each step. "Refusal 1 prints `0 1 0` and nothing else; refusal 2 prints its line and ends."
 use mathlib.Core.Bool.{Bool, _&&_, cond, false, true}
 use mathlib.Core.List.{List, [], _++_}
-use Prim.Native.Nat.{_*_, _+_, min, suc, zero, ℕ}
+use Prim.Native.Nat.{_+_, suc, zero, ℕ}
 use lib.Dec.{eqb, leb, ltb}
 use lib.ListN.{getD, length, replicate}
 use Rattle.ledger.specs.Federation.{isLawful}
@@ -76,7 +76,3 @@ after input (suc k) = turn input k (after input k)
 -- the text for any input: there are no more steps than bytes
 unfoldable pub runText : List ℕ → List ℕ
 runText input = cond (opens input) (after input (length input) .text) (lineOf 0 1 0)
-
--- no text for so many bytes is longer: refusal 1 takes 6 bytes, a step has two or more and its line 14 at most
-abbrev pub longestText : ℕ → ℕ
-longestText n = min (7 * n + 6) 458696

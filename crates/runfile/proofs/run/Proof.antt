@@ -4,7 +4,7 @@ use Rattle.runfile.specs.Text.{Put}
 use Rattle.runfile.specs.Run.{after, going, opens}
 use Rattle.runfile.proofs.Writing.{then}
 use Rattle.runfile.proofs.Turns.{done, next, open-when, opened-is, readable, refused-run, unreadable}
-use Rattle.runfile.proofs.Short.{first-refusal, number-few}
+use Rattle.runfile.proofs.Short.{number-few}
 use Rattle.engine.specs.Layout.{ledgerIn}
 use Rattle.engine.specs.Kept.{Kept}
 use Rattle.engine.proofs.Beginning.{kept-new}
@@ -51,7 +51,7 @@ same-length : tie.Need-same-length Inv-loop μ-loop
 same-length c = search needs
 
 returns : tie.Need-returns Inv-loop μ-loop
-returns c = (rw (refused-run _ (sym (c .before .before .before .before .before .opens .ensures) ∙ not-true _ (c .before .before .before .before .if1 .taken))) (c .before .before .put-line .ensures .0), omega (arith, c .before .before .put-line .ensures .0 .moved, first-refusal))
+returns c = (rw (refused-run _ (sym (c .before .before .before .before .before .opens .ensures) ∙ not-true _ (c .before .before .before .before .if1 .taken))) (c .before .before .put-line .ensures .0), omega arith)
 
 settings-in-requires : tie.Need-settings-in-requires Inv-loop μ-loop
 settings-in-requires c κs = open-when _ (sym (c .before .opens .ensures) ∙ not-false _ (c .if1 .left)) .headed
@@ -142,12 +142,13 @@ loop-less c = omega arith
 
 loop-again : tie.Need-loop-again Inv-loop μ-loop
 loop-again c = let l = c .before .before .before .before .before .before .before .before .before .before .before .before .before .before .before .before .before .before .before .before .loop .inv in
-    let h = readable _ _ (sym (c .before .before .before .before .before .before .before .before .before .before .before .before .before .before .before .before .before .before .is-readable .ensures) ∙ not-false _ (c .before .before .before .before .before .before .before .before .before .before .before .before .before .before .before .before .before .if2 .left)) in
+    let e = sym (c .before .before .before .before .before .before .before .before .before .before .before .before .before .before .before .before .before .before .is-readable .ensures) ∙ not-false _ (c .before .before .before .before .before .before .before .before .before .before .before .before .before .before .before .before .before .if2 .left) in
+    let h = readable _ _ e in
     let s = c .before .before .before .before .before .before .before .before .before .before .before .step .ensures in
     let b = c .before .before .before .before .before .before .body-size .ensures .0 in
     record {
       text = _;
-      is = next _ _ _ _ _ _ (l .is) (l .open·) (c .before .before .before .before .before .before .before .before .before .before .before .before .before .before .before .before .before .before .before .loop-test .taken) (sym (c .before .before .before .before .before .before .before .before .before .before .before .before .before .before .before .before .before .before .is-readable .ensures) ∙ not-false _ (c .before .before .before .before .before .before .before .before .before .before .before .before .before .before .before .before .before .if2 .left)) _ (sym (s .reply)) _ (s .written) _ b _ _ (c .before .before .before .before .number .ensures) (c .before .before .before .value .ensures .0);
+      is = next _ _ _ _ _ _ (l .is) (l .open·) (c .before .before .before .before .before .before .before .before .before .before .before .before .before .before .before .before .before .before .before .loop-test .taken) e _ (sym (s .reply)) _ (s .written) _ b _ _ (c .before .before .before .before .number .ensures) (c .before .before .before .value .ensures .0);
       open· = l .open·;
       few = l .few;
       put = then (l .put) (c .before .before .put-line3 .ensures .0);
