@@ -24,8 +24,9 @@ use Rattle.sets.specs.Jobs.{InWords, jobHas, jobUnion, jobsMeet}
 use Rattle.sets.specs.declared.job_set.JobSet.{JobSet}
 use Rattle.ledger.specs.Admission.{admission, consumedAt, listedBy, listsAt, madeBefore, madeBy, makesAt, notCreatedAt, remadeAt}
 use Rattle.index.proofs.Marks.{same-truth, set-bit}
+use Rattle.index.proofs.Seeks.{shares-input, shares-made, shares-output}
 use Rattle.index.specs.Checks.{admissionBy, firstMet, firstUnmet, metAt, unmetAt}
-use Rattle.index.specs.Slots.{Indexed, entryOf, matches, place, shares, sideOf}
+use Rattle.index.specs.Slots.{Indexed, place, shares}
 use Rattle.index.specs.Words.{setAt}
 
 and-false : (a : Bool) → (a && false) ≡ false
@@ -60,62 +61,23 @@ module _ (job : ℕ → Job) (n : ℕ) (index : List ℕ) (x : Indexed job n ind
       seeks m l e = simp (lt-ltb k n lk, lt-ltb m n l) e
 
   -- where the entry is used, what is sought alone
-  slot-used : (i at : ℕ) (p : ℕ → Bool) → i < 12 → at ≡ 24 * k + 2 * i → ((m : ℕ) → matches (job k) i (job m) ≡ p m)
-      → jobsMeet (setAt index at) s ≡ (isUsed (job k) (entryOf i) && anyBelow n (λ m. jobHas s m && p m))
-  unfolding shares
-  slot-used i at p li q f = slot-any i at li q ∙ by (isUsed (job k) (entryOf i)) refl
-    where
-      by : (t : Bool) → isUsed (job k) (entryOf i) ≡ t
-          → anyBelow n (λ m. jobHas s m && (isUsed (job k) (entryOf i) && matches (job k) i (job m))) ≡ (t && anyBelow n (λ m. jobHas s m && p m))
-      by true e = any-same _ _ n (λ m l. simp (e, f m))
-      by false e = none-any _ n (λ m l. simp e (and-false (jobHas s m)))
+  slot-used : (i at : ℕ) (u : Bool) (p : ℕ → Bool) → i < 12 → at ≡ 24 * k + 2 * i → ((m : ℕ) → shares (job k) i (job m) ≡ (u && p m))
+      → jobsMeet (setAt index at) s ≡ (u && anyBelow n (λ m. jobHas s m && p m))
+  slot-used i at true p li q f = slot-any i at li q ∙ any-same _ _ n (λ m l. simp (f m))
+  slot-used i at false p li q f = slot-any i at li q ∙ none-any _ n (λ m l. simp (f m) (and-false (jobHas s m)))
 
   -- ---- the slots of the three kinds, at entry e
   made-slot : (e : ℕ) → e < 4 → metAt index (24 * k) s e ≡ (isUsed (job k) e && madeBy job n s (labelOf (job k) e) (framesOf (job k) e))
-  unfolding metAt madeBy makesAt matches entryOf
-  made-slot e l =
-      slot-used e (24 * k + 2 * e) (λ m. makesTape (job m) (labelOf (job k) e) (framesOf (job k) e)) (omega arith) refl (λ m. is m)
-      ∙ ap (λ (i : ℕ). isUsed (job k) i && anyBelow n (λ m. jobHas s m && makesTape (job m) (labelOf (job k) e) (framesOf (job k) e))) entry
-    where
-      is : (m : ℕ) → matches (job k) e (job m) ≡ makesTape (job m) (labelOf (job k) e) (framesOf (job k) e)
-      is m = simp (lt-ltb e 4 l)
-
-      entry : entryOf e ≡ e
-      entry = simp (lt-ltb e 4 l)
-
-  -- slots from 4 on seek the label of the entry four before, in one half
-  listed-slot : (i half at : ℕ) → 4 ≤ i → i < 12 → sideOf i ≡ half → at ≡ 24 * k + 2 * i
-      → jobsMeet (setAt index at) s ≡ (isUsed (job k) (i - 4) && listedBy job n half s (labelOf (job k) (i - 4)))
-  unfolding listedBy listsAt matches entryOf
-  listed-slot i half at l li h q =
-      slot-used i at (λ m. labelIn half (job m) (labelOf (job k) (i - 4))) li q (λ m. is m)
-      ∙ ap (λ (y : ℕ). isUsed (job k) y && anyBelow n (λ m. jobHas s m && labelIn half (job m) (labelOf (job k) (i - 4)))) entry
-    where
-      is : (m : ℕ) → matches (job k) i (job m) ≡ labelIn half (job m) (labelOf (job k) (i - 4))
-      is m = simp (le-ltb i 4 l, h)
-
-      entry : entryOf i ≡ i - 4
-      entry = simp (le-ltb i 4 l)
+  unfolding metAt madeBy makesAt
+  made-slot e l = slot-used e (24 * k + 2 * e) (isUsed (job k) e) (λ m. makesTape (job m) (labelOf (job k) e) (framesOf (job k) e)) (omega arith) refl (λ m. shares-made (job k) e (job m) l)
 
   consumed-slot : (e : ℕ) → e < 4 → metAt index (24 * k + 8) s e ≡ (isUsed (job k) e && listedBy job n 0 s (labelOf (job k) e))
-  unfolding metAt sideOf
-  consumed-slot e l =
-      let b : 4 + e - 4 ≡ e = omega arith in
-      listed-slot (4 + e) 0 (24 * k + 8 + 2 * e) (omega arith) (omega arith) side (omega arith)
-      ∙ ap (λ (y : ℕ). isUsed (job k) y && listedBy job n 0 s (labelOf (job k) y)) b
-    where
-      side : sideOf (4 + e) ≡ 0
-      side = simp (lt-ltb (4 + e) 8 (omega arith))
+  unfolding metAt listedBy listsAt
+  consumed-slot e l = slot-used (4 + e) (24 * k + 8 + 2 * e) (isUsed (job k) e) (λ m. labelIn 0 (job m) (labelOf (job k) e)) (omega arith) (omega arith) (λ m. shares-input (job k) e (job m) l)
 
   remade-slot : (e : ℕ) → e < 4 → metAt index (24 * k + 16) s e ≡ (isUsed (job k) (4 + e) && listedBy job n 4 s (labelOf (job k) (4 + e)))
-  unfolding metAt sideOf
-  remade-slot e l =
-      let b : 8 + e - 4 ≡ 4 + e = omega arith in
-      listed-slot (8 + e) 4 (24 * k + 16 + 2 * e) (omega arith) (omega arith) side (omega arith)
-      ∙ ap (λ (y : ℕ). isUsed (job k) y && listedBy job n 4 s (labelOf (job k) y)) b
-    where
-      side : sideOf (8 + e) ≡ 4
-      side = simp (le-ltb (8 + e) 8 (omega arith))
+  unfolding metAt listedBy listsAt
+  remade-slot e l = slot-used (8 + e) (24 * k + 16 + 2 * e) (isUsed (job k) (4 + e)) (λ m. labelIn 4 (job m) (labelOf (job k) (4 + e))) (omega arith) (omega arith) (λ m. shares-output (job k) e (job m) l)
 
 -- ---- four entries of eight: the first that offends, where those before and after the four never do
 four-of-eight : (off : ℕ) → off ≤ 4 → (p q : ℕ → Bool) → ((e : ℕ) → e < 4 → p e ≡ q (off + e))

@@ -4,7 +4,7 @@ use mathlib.Core.Bool.{Bool, _&&_, cond, false, true}
 use mathlib.Core.List.{List}
 use mathlib.Core.Logic.{_⊎_, inl, inr, ⊎-elim}
 use mathlib.Core.Path.{_∙_, _≡_, refl, sym}
-use Prim.Native.Nat.{_*_, _+_, _<_, _≤_, suc, zero, ℕ}
+use Prim.Native.Nat.{_%_, _*_, _+_, _/_, _<_, _≤_, suc, zero, ℕ}
 use native.Mathlib.Nat.{eq-or-lt-of-le, le-of-suc-le-suc, not-suc-le-zero}
 use native.Mathlib.Omega.{arith}
 use lib.Dec.{ltb}
@@ -16,7 +16,7 @@ use Rattle.sets.specs.Jobs.{jobHas}
 use Rattle.sets.specs.declared.job_set.JobSet.{JobSet}
 use Rattle.index.proofs.Marks.{mark-from, mark-keeps, mark-sets, mark-size, same-truth}
 use Rattle.index.proofs.Sifts.{common, is-likely}
-use Rattle.index.specs.Entering.{againstTo, bothWays, extended, pairTo}
+use Rattle.index.specs.Entering.{againstTo, bothWays, extended, nthSlot, pairTo}
 use Rattle.index.specs.Sieve.{Sieved, likelyTo}
 use Rattle.index.specs.Slots.{Indexed, place, shares}
 use Rattle.index.specs.Words.{bitAt}
@@ -36,7 +36,7 @@ pair-size zero index a j c k = refl
 pair-size (suc m) index a j c k = mark-size (pairTo m index a j c k) _ _ ∙ pair-size m index a j c k
 
 module _ (index : List ℕ) (size : length index ≡ 3072) (a : Job) (j : ℕ) (c : Job) (k : ℕ) (lj : j < 128) (lk : k < 128) where
-  room : (m : ℕ) → m < 12 → place j m k < 64 * length (pairTo m index a j c k)
+  room : (m : ℕ) → m < 12 → place j (nthSlot m) k < 64 * length (pairTo m index a j c k)
   room m h = omega (arith, pair-size m index a j c k, size)
 
   pair-keeps : (m x : ℕ) → m ≤ 12 → bitAt index x ≡ true → bitAt (pairTo m index a j c k) x ≡ true
@@ -44,7 +44,7 @@ module _ (index : List ℕ) (size : length index ≡ 3072) (a : Job) (j : ℕ) (
   pair-keeps zero x h b = b
   pair-keeps (suc m) x h b = mark-keeps (pairTo m index a j c k) _ (room m (omega arith)) x _ (pair-keeps m x (omega arith) b)
 
-  pair-sets : (m i : ℕ) → m ≤ 12 → i < m → shares a i c ≡ true → bitAt (pairTo m index a j c k) (place j i k) ≡ true
+  pair-sets : (m i : ℕ) → m ≤ 12 → i < m → shares a (nthSlot i) c ≡ true → bitAt (pairTo m index a j c k) (place j (nthSlot i) k) ≡ true
   unfolding pairTo
   pair-sets zero i h l e = absurd (not-suc-le-zero l)
   pair-sets (suc m) i h l e =
@@ -57,11 +57,14 @@ module _ (index : List ℕ) (size : length index ≡ 3072) (a : Job) (j : ℕ) (
   unfolding pairTo
   pair-from zero x h b = inl b
   pair-from (suc m) x h b =
-      ⊎-elim (pair-from m x (omega arith)) (λ q. inr (record { slot = m; below = omega arith; at = q .0; found = q .1 }))
+      ⊎-elim (pair-from m x (omega arith)) (λ q. inr (record { slot = nthSlot m; below = omega arith; at = q .0; found = q .1 }))
       (mark-from (pairTo m index a j c k) _ (room m (omega arith)) x _ b)
 
   match-set : (x : ℕ) → Match a j c k x → bitAt (pairTo 12 index a j c k) x ≡ true
-  match-set x m = rw (m .at) (pair-sets 12 (m .slot) (omega arith) (m .below) (m .found))
+  match-set x m =
+      let i : ℕ = 3 * (m .slot % 4) + m .slot / 4 in
+      let q : nthSlot i ≡ m .slot = omega (arith, m .below) in
+      rw (m .at, ← q) (pair-sets 12 i (omega arith) (omega (arith, m .below)) (rw q (m .found)))
 
 -- ---- a job against those of a set
 module _ (job : ℕ → Job) (n : ℕ) (ln : n < 128) where

@@ -1,7 +1,7 @@
 -- A job is entered: it is compared with each likely job, both ways, and with itself.
 use mathlib.Core.Bool.{cond}
 use mathlib.Core.List.{List}
-use Prim.Native.Nat.{suc, zero, ℕ}
+use Prim.Native.Nat.{_%_, _*_, _+_, _/_, suc, zero, ℕ}
 use Rattle.record.specs.declared.Job.{Job}
 use Rattle.sets.specs.Jobs.{jobHas}
 use Rattle.sets.specs.declared.job_set.JobSet.{JobSet}
@@ -9,10 +9,14 @@ use Rattle.index.specs.Sieve.{likelyTo, siftOf}
 use Rattle.index.specs.Slots.{place, shares}
 use Rattle.index.specs.Words.{marked}
 
+-- the slot that is entered i-th: 0, 4 and 8, then 1, 5 and 9, and so on, since those of input e and output e are entered together
+abbrev pub nthSlot : ℕ → ℕ
+nthSlot i = 4 * (i % 3) + i / 3
+
 -- job k entered in the first i slots of job j
 unfoldable pub pairTo : ℕ → List ℕ → Job → ℕ → Job → ℕ → List ℕ
 pairTo zero index a j c k = index
-pairTo (suc i) index a j c k = marked (pairTo i index a j c k) (place j i k) (shares a i c)
+pairTo (suc i) index a j c k = marked (pairTo i index a j c k) (place j (nthSlot i) k) (shares a (nthSlot i) c)
 
 -- each in the slots of the other
 unfoldable pub bothWays : List ℕ → Job → ℕ → Job → ℕ → List ℕ

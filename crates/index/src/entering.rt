@@ -8,18 +8,23 @@ ghost use Rattle.ledger.specs.Journal.{jobAt};
 ghost use Rattle.index.specs.Entering.{pairTo, bothWays, againstTo, indexWith, sieveWith};
 use crate::sieve;
 use crate::slots;
-use crate::words;
 use ledger::journal;
 use record::Job;
 use sets::JobSet;
 
-// Enters job k in the slots of job j.
+// Enters job k in the slots of job j. The entries are taken out here, because a callee that picks one copies the job first.
 fn pair(index: &mut [u64], a: Job, j: usize, c: Job, k: usize)
     requires { ⌜ (j < 128) × (k < 128) × (length (now index) ≡ 3072) ⌝ }
     ensures { λ _. ⌜ now (index .exit) ≡ pairTo 12 (now (index .entry)) a j c k ⌝ }
 {
-    for i in 0..12 {
-        words::mark(index, 1536 * j + 128 * i + k, slots::shares(a, i, c));
+    for e in 0..4 {
+        let input = a.entries[e];
+        let output = a.entries[4 + e];
+        let reads = record::used(a, e);
+        let makes = record::used(a, 4 + e);
+        slots::put(index, j, e, k, slots::made(reads, input, c));
+        slots::put(index, j, 4 + e, k, slots::listed(reads, input, c, false));
+        slots::put(index, j, 8 + e, k, slots::listed(makes, output, c, true));
     }
 }
 
