@@ -32,10 +32,9 @@ use Rattle.ledger.specs.declared.Ledger.{Ledger}
 use Rattle.ledger.specs.declared.Settings.{Settings}
 use Rattle.index.proofs.Admits.{by-index}
 use Rattle.index.specs.Checks.{admissionBy}
-use Rattle.index.specs.Slots.{Indexed}
 use Rattle.index.specs.Words.{setAt}
 use Rattle.engine.proofs.Fields.{acknowledged-is, acknowledgement-stored, part-out, signature-stored, signed-is, signed-stored, vault-is}
-use Rattle.engine.specs.Kept.{Countersigned, Modest, Same, Sound, answer}
+use Rattle.engine.specs.Kept.{Countersigned, Modest, Ready, Same, Sound, answer}
 use Rattle.engine.specs.Layout.{heldOf, ledgerIn, signedOf, storing, vaultIn}
 
 pub same-refl : (table : List ℕ) → Same table table
@@ -140,74 +139,73 @@ module _ (s : Settings) (table journal : List ℕ) (ok : Sound s table) (full : 
           let votes : r ≡ ones (holdersOf (acknowledged (ledgerIn s table) v job) job) = q .0 ∙ ap ones (sym (acknowledged-is s after job few)) ∙ ap (λ (l : Ledger). ones (holdersOf l job)) led in
           (simp (gate, led, votes), rw e (same-vote table (194 + job) _ (omega arith) (omega (arith, few))), omega (arith, q .1))
 
-  -- ---- kind 2
-  module _ (v job : ℕ) (few : v < 16) (known : job < getD table 0 0) where
-    small : job < 128
-    small = omega (arith, known, ok .booked)
+-- ---- kind 2
+module _ (s : Settings) (table journal index : List ℕ) (ready : Ready s table journal index) (v job : ℕ) (few : v < 16) (known : job < getD table 0 0) where
+  small : job < 128
+  small = omega (arith, known, ready .sound .booked)
 
-    vault : vaultAt (ledgerIn s table) v ≡ record { held = setAt table (heldOf v); signed = setAt table (signedOf v) }
-    unfolding vaultIn
-    vault = vault-is s table v few
+  vault : vaultAt (ledgerIn s table) v ≡ record { held = setAt table (heldOf v); signed = setAt table (signedOf v) }
+  unfolding vaultIn
+  vault = vault-is s table v few
 
-    pub consulted-again : (signed : JobSet) → signed ≡ setAt table (signedOf v) → jobHas signed job ≡ true → (r : ℕ) → (r ≡ ones (getD table (66 + job) 0)) × (r ≤ 64)
-        → (consulted (ledgerIn s table) journal v job ≡ answer s (Done r) table) × Same table table × Modest (Done r)
-    unfolding consulted vaultPreflight
-    consulted-again signed es e r q = (simp (vault, ap (λ (t : JobSet). jobHas t job) (sym es) ∙ e, q .0, signed-is s table job small), same-refl table, omega (arith, q .1))
+  pub consulted-again : (signed : JobSet) → signed ≡ setAt table (signedOf v) → jobHas signed job ≡ true → (r : ℕ) → (r ≡ ones (getD table (66 + job) 0)) × (r ≤ 64)
+      → (consulted (ledgerIn s table) journal v job ≡ answer s (Done r) table) × Same table table × Modest (Done r)
+  unfolding consulted vaultPreflight
+  consulted-again signed es e r q = (simp (vault, ap (λ (t : JobSet). jobHas t job) (sym es) ∙ e, q .0, signed-is s table job small), same-refl table, omega (arith, q .1))
 
-    module _ (index : List ℕ) (x : Indexed (jobAt journal (getD table 0 0)) (getD table 0 0) index)
-        (held signed : JobSet) (eh : (held ≡ setAt table (heldOf v)) × InWords held) (es : (signed ≡ setAt table (signedOf v)) × InWords signed)
-        (new : jobHas signed job ≡ false) (inputs : ℕ) (ei : inputs ≡ getD journal (100 * job + 2) 0) where
-      fresh : jobHas (setAt table (signedOf v)) job ≡ false
-      fresh = ap (λ (t : JobSet). jobHas t job) (sym (es .0)) ∙ new
+  module _ (held signed : JobSet) (eh : (held ≡ setAt table (heldOf v)) × InWords held) (es : (signed ≡ setAt table (signedOf v)) × InWords signed)
+      (new : jobHas signed job ≡ false) (inputs : ℕ) (ei : inputs ≡ getD journal (100 * job + 2) 0) where
+    fresh : jobHas (setAt table (signedOf v)) job ≡ false
+    fresh = ap (λ (t : JobSet). jobHas t job) (sym (es .0)) ∙ new
 
-      hw : InWords (setAt table (heldOf v))
-      hw = subst InWords (eh .0) (eh .1)
+    hw : InWords (setAt table (heldOf v))
+    hw = subst InWords (eh .0) (eh .1)
 
-      sw : InWords (setAt table (signedOf v))
-      sw = subst InWords (es .0) (es .1)
+    sw : InWords (setAt table (signedOf v))
+    sw = subst InWords (es .0) (es .1)
 
-      -- the verdict, as the code has it
-      verdict : (a : Verdict) → admissionBy index inputs held signed job ≡ a → admissionBy index (getD journal (100 * job + 2) 0) (setAt table (heldOf v)) (setAt table (signedOf v)) job ≡ a
-      verdict a e = rw (← (eh .0), ← (es .0), ← ei) e
+    -- the verdict, as the code has it
+    verdict : (a : Verdict) → admissionBy index inputs held signed job ≡ a → admissionBy index (getD journal (100 * job + 2) 0) (setAt table (heldOf v)) (setAt table (signedOf v)) job ≡ a
+    verdict a e = rw (← (eh .0), ← (es .0), ← ei) e
 
-      -- the index answers as the vault does
-      checked : admissionBy index (getD journal (100 * job + 2) 0) (setAt table (heldOf v)) (setAt table (signedOf v)) job
-          ≡ admissionAt (record { held = setAt table (heldOf v); signed = setAt table (signedOf v) }) journal (getD table 0 0) job
-      unfolding admissionAt
-      checked =
-          ap (λ (m : ℕ). admissionBy index m (setAt table (heldOf v)) (setAt table (signedOf v)) job) (inputs-at job known)
-          ∙ by-index (jobAt journal (getD table 0 0)) (getD table 0 0) index x job known (ok .booked) (setAt table (heldOf v)) (setAt table (signedOf v)) hw sw
-          ∙ ap (λ (t : JobSet). admission (jobAt journal (getD table 0 0)) (getD table 0 0) (setAt table (heldOf v)) t (jobAt journal (getD table 0 0) job)) (sym (job-without-absent (setAt table (signedOf v)) job fresh))
+    -- the index answers as the vault does
+    checked : admissionBy index (getD journal (100 * job + 2) 0) (setAt table (heldOf v)) (setAt table (signedOf v)) job
+        ≡ admissionAt (record { held = setAt table (heldOf v); signed = setAt table (signedOf v) }) journal (getD table 0 0) job
+    unfolding admissionAt
+    checked =
+        ap (λ (m : ℕ). admissionBy index m (setAt table (heldOf v)) (setAt table (signedOf v)) job) (inputs-at s table journal (ready .sound) (ready .full) job known)
+        ∙ by-index (jobAt journal (getD table 0 0)) (getD table 0 0) index (ready .indexed) job known (ready .sound .booked) (setAt table (heldOf v)) (setAt table (signedOf v)) hw sw
+        ∙ ap (λ (t : JobSet). admission (jobAt journal (getD table 0 0)) (getD table 0 0) (setAt table (heldOf v)) t (jobAt journal (getD table 0 0) job)) (sym (job-without-absent (setAt table (signedOf v)) job fresh))
 
-      -- what the vault answers
-      consults : consulted (ledgerIn s table) journal v job
-          ≡ (let a = consented (admissionBy index (getD journal (100 * job + 2) 0) (setAt table (heldOf v)) (setAt table (signedOf v)) job) (record { held = setAt table (heldOf v); signed = setAt table (signedOf v) }) job in
-          preflighted (a .consent) (a .vault) (ledgerIn s table) v job)
-      unfolding consulted vaultPreflight ledgerIn
-      consults = simp (vault, fresh, checked)
+    -- what the vault answers
+    consults : consulted (ledgerIn s table) journal v job
+        ≡ (let a = consented (admissionBy index (getD journal (100 * job + 2) 0) (setAt table (heldOf v)) (setAt table (signedOf v)) job) (record { held = setAt table (heldOf v); signed = setAt table (signedOf v) }) job in
+        preflighted (a .consent) (a .vault) (ledgerIn s table) v job)
+    unfolding consulted vaultPreflight ledgerIn
+    consults = simp (vault, fresh, checked)
 
-      pub consult-refused : (why : Refusal) → admissionBy index inputs held signed job ≡ Fail why
-          → (consulted (ledgerIn s table) journal v job ≡ answer s (Refused why) table) × Same table table × Modest (Refused why)
-      consult-refused why e = (consults ∙ simp (verdict (Fail why) e), same-refl table, tt)
+    pub consult-refused : (why : Refusal) → admissionBy index inputs held signed job ≡ Fail why
+        → (consulted (ledgerIn s table) journal v job ≡ answer s (Refused why) table) × Same table table × Modest (Refused why)
+    consult-refused why e = (consults ∙ simp (verdict (Fail why) e), same-refl table, tt)
 
-      pub consult-signed : admissionBy index inputs held signed job ≡ Pass → (after : List ℕ) (r : ℕ) → Countersigned table (signedOf v) signed v job after r
-          → (consulted (ledgerIn s table) journal v job ≡ answer s (Done r) after) × Same table after × Modest (Done r)
-      unfolding signing
-      consult-signed e after r d′ =
-          let t : JobSet = jobWith (setAt table (signedOf v)) job in
-          let d : Countersigned table (signedOf v) (setAt table (signedOf v)) v job after r = subst (λ (g : JobSet). Countersigned table (signedOf v) g v job after r) (es .0) d′ in
-          let mid : List ℕ = storing table (signedOf v) t in
-          let next : Ledger = countersigned (withVault (ledgerIn s table) v (record { held = setAt table (heldOf v); signed = t })) v job in
-          let led : ledgerIn s after ≡ next =
-          ap (ledgerIn s) (d .stored) ∙ signature-stored s mid v job small ∙ ap (λ (l : Ledger). countersigned l v job) (signed-stored s table (ok .size) v few t) in
-          let votes : r ≡ ones (signersOf next job) = d .votes ∙ ap ones (sym (signed-is s after job small)) ∙ ap (λ (l : Ledger). ones (signersOf l job)) led in
-          (consults ∙ simp (verdict Pass e) (sym (simp (led, votes))), rw (d .stored) (same-trans (same-storing table (signedOf v) t (omega arith) (omega arith)) (same-vote mid (66 + job) _ (omega arith) (omega (arith, small)))), omega (arith, d .few))
+    pub consult-signed : admissionBy index inputs held signed job ≡ Pass → (after : List ℕ) (r : ℕ) → Countersigned table (signedOf v) signed v job after r
+        → (consulted (ledgerIn s table) journal v job ≡ answer s (Done r) after) × Same table after × Modest (Done r)
+    unfolding signing
+    consult-signed e after r d′ =
+        let t : JobSet = jobWith (setAt table (signedOf v)) job in
+        let d : Countersigned table (signedOf v) (setAt table (signedOf v)) v job after r = subst (λ (g : JobSet). Countersigned table (signedOf v) g v job after r) (es .0) d′ in
+        let mid : List ℕ = storing table (signedOf v) t in
+        let next : Ledger = countersigned (withVault (ledgerIn s table) v (record { held = setAt table (heldOf v); signed = t })) v job in
+        let led : ledgerIn s after ≡ next =
+        ap (ledgerIn s) (d .stored) ∙ signature-stored s mid v job small ∙ ap (λ (l : Ledger). countersigned l v job) (signed-stored s table (ready .sound .size) v few t) in
+        let votes : r ≡ ones (signersOf next job) = d .votes ∙ ap ones (sym (signed-is s after job small)) ∙ ap (λ (l : Ledger). ones (signersOf l job)) led in
+        (consults ∙ simp (verdict Pass e) (sym (simp (led, votes))), rw (d .stored) (same-trans (same-storing table (signedOf v) t (omega arith) (omega arith)) (same-vote mid (66 + job) _ (omega arith) (omega (arith, small)))), omega (arith, d .few))
 
-  pub preflight-is : (v job : ℕ) → vaultGate (ledgerIn s table) journal v job false ≡ Pass → preflightOf (ledgerIn s table) journal v job ≡ consulted (ledgerIn s table) journal v job
-  unfolding preflightOf
-  preflight-is v job e = simp e
+pub preflight-is : (s : Settings) (table journal : List ℕ) (v job : ℕ) → vaultGate (ledgerIn s table) journal v job false ≡ Pass → preflightOf (ledgerIn s table) journal v job ≡ consulted (ledgerIn s table) journal v job
+unfolding preflightOf
+preflight-is s table journal v job e = simp e
 
-  pub preflight-refused : (v job : ℕ) (why : Refusal) → vaultGate (ledgerIn s table) journal v job false ≡ Fail why
-      → (preflightOf (ledgerIn s table) journal v job ≡ answer s (Refused why) table) × Same table table × Modest (Refused why)
-  unfolding preflightOf
-  preflight-refused v job why e = (simp e, same-refl table, tt)
+pub preflight-refused : (s : Settings) (table journal : List ℕ) (v job : ℕ) (why : Refusal) → vaultGate (ledgerIn s table) journal v job false ≡ Fail why
+    → (preflightOf (ledgerIn s table) journal v job ≡ answer s (Refused why) table) × Same table table × Modest (Refused why)
+unfolding preflightOf
+preflight-refused s table journal v job why e = (simp e, same-refl table, tt)

@@ -25,40 +25,37 @@ use Rattle.ledger.specs.State.{arriving, hasArrived, isArrival}
 use Rattle.ledger.specs.declared.Settings.{Settings}
 use Rattle.index.proofs.Admits.{used-input}
 use Rattle.index.proofs.Marks.{set-bit}
-use Rattle.index.specs.Slots.{Indexed, entryOf, matches, place, shares}
+use Rattle.index.specs.Slots.{entryOf, matches, place, shares}
 use Rattle.index.specs.Words.{bitAt, setAt}
 use Rattle.engine.proofs.Answers.{inputs-at}
 use Rattle.engine.proofs.Fields.{part-at, part-in, part-out, part-size, vaults-out}
+use Rattle.engine.proofs.Holds.{stays}
 use Rattle.engine.proofs.Order.{aged-arrives, highest-same}
 use Rattle.engine.specs.Ages.{Seated, broughtIn, madeAt, makerIn, seated}
-use Rattle.engine.specs.Kept.{Moved, Sound, Timely, arrivalOf}
+use Rattle.engine.specs.Kept.{Moved, Ready, Timely, arrivalOf}
 use Rattle.engine.specs.Layout.{agesIn, ledgerIn, orderIn, part, vaultsIn}
 
 or-full : {A : Type 0} (a b : Bool) (x y : A) → b ≡ true → cond (a || b) x y ≡ x
 or-full true b x y e = refl
 or-full false b x y e = ap (λ (c : Bool). cond c x y) e
 
-module _ (s : Settings) (table journal index : List ℕ) (ok : Sound s table) (full : length journal ≡ 12800)
-    (x : Indexed (jobAt journal (getD table 0 0)) (getD table 0 0) index) (t : Timely table journal) (k : ℕ) (lk : k < getD table 0 0) where
+module _ (s : Settings) (table journal index : List ℕ) (ready : Ready s table journal index) (k : ℕ) (lk : k < getD table 0 0) where
   small : k < 128
-  small = omega (arith, lk, ok .booked)
+  small = omega (arith, lk, ready .sound .booked)
 
   order-at : (q : ℕ) → q < 128 → getD (orderIn table) q 0 ≡ getD table (322 + q) 0
   order-at q l = part-at 322 table q l
 
   pub seats : (n : ℕ) → n ≤ getD table 1 0 → Seated table n
-  seats n h q l = rw (← order-at q (omega (arith, l, h, ok .arrivals))) (omega (arith, t .known q (omega arith), ok .booked))
+  seats n h q l = rw (← order-at q (omega (arith, l, h, ready .sound .arrivals))) (omega (arith, ready .aged .known q (omega arith), ready .sound .booked))
 
   age-at : (m : ℕ) → m < 128 → getD table (450 + m) 0 ≡ cond (anyBelow (getD table 1 0) (arrivalOf (orderIn table) m)) (generationAt (jobAt journal (getD table 0 0)) (λ q. getD (orderIn table) q 0) (firstBelow (getD table 1 0) (arrivalOf (orderIn table) m)) + 1) 0
-  age-at m l = sym (part-at 450 table m l) ∙ t .right m l
+  age-at m l = sym (part-at 450 table m l) ∙ ready .aged .right m l
 
   -- ---- whether it has arrived
   arrived : hasArrived (ledgerIn s table) k ≡ anyBelow (getD table 1 0) (arrivalOf (orderIn table) k)
   unfolding hasArrived isArrival ledgerIn
   arrived = refl
-
-  stays : Moved table table journal
-  stays = record { size = refl; booked = refl; arrivals = ok .arrivals; aged = t }
 
   aged-if : Bool → ℕ
   aged-if b = cond b (generationAt (jobAt journal (getD table 0 0)) (λ q. getD (orderIn table) q 0) (firstBelow (getD table 1 0) (arrivalOf (orderIn table) k)) + 1) 0
@@ -81,11 +78,11 @@ module _ (s : Settings) (table journal index : List ℕ) (ok : Sound s table) (f
 
   pub arrived-before : 0 < getD table (450 + k) 0 → (ledgerIn s table ≡ arriving (ledgerIn s table) k) × Moved table table journal
   unfolding arriving
-  arrived-before h = (sym (simp (arrived ∙ is-arrived h)), stays)
+  arrived-before h = (sym (simp (arrived ∙ is-arrived h)), stays s table journal index ready)
 
   pub order-full : 128 ≤ getD table 1 0 → (ledgerIn s table ≡ arriving (ledgerIn s table) k) × Moved table table journal
   unfolding arriving ledgerIn
-  order-full h = (sym (or-full (hasArrived (ledgerIn s table) k) (leb capacity (getD table 1 0)) (ledgerIn s table) _ (le-leb 128 (getD table 1 0) h)), stays)
+  order-full h = (sym (or-full (hasArrived (ledgerIn s table) k) (leb capacity (getD table 1 0)) (ledgerIn s table) _ (le-leb 128 (getD table 1 0) h)), stays s table journal index ready)
 
   -- ---- the age
   module _ (n : ℕ) (en : n ≡ getD table 1 0) where
@@ -95,29 +92,29 @@ module _ (s : Settings) (table journal index : List ℕ) (ok : Sound s table) (f
     unfolding madeAt shares entryOf matches
     made-is i l u q lq =
         let m : ℕ = getD (orderIn table) q 0 in
-        let few : q < 128 = omega (arith, lq, en, ok .arrivals) in
-        let known : m < getD table 0 0 = t .known q (omega (arith, lq, en)) in
+        let few : q < 128 = omega (arith, lq, en, ready .sound .arrivals) in
+        let known : m < getD table 0 0 = ready .aged .known q (omega (arith, lq, en)) in
         let p : 64 * (24 * k + 2 * i) + m ≡ place k i m = omega arith in
         ap (jobHas (setAt index (24 * k + 2 * i))) (sym (order-at q few))
-        ∙ set-bit index (24 * k + 2 * i) m (omega (arith, known, ok .booked))
+        ∙ set-bit index (24 * k + 2 * i) m (omega (arith, known, ready .sound .booked))
         ∙ ap (bitAt index) p
-        ∙ x .bits k i m small (omega arith) (omega (arith, known, ok .booked))
+        ∙ ready .indexed .bits k i m small (omega arith) (omega (arith, known, ready .sound .booked))
         ∙ simp (lt-ltb k (getD table 0 0) lk, lt-ltb m (getD table 0 0) known, lt-ltb i 4 l, u)
 
     -- an arrived job's age
     age-of : (q : ℕ) → q < n → getD table (450 + getD table (322 + q) 0) 0 ≡ suc (generationAt (jobAt journal (getD table 0 0)) (λ r. getD (orderIn table) r 0) q)
     age-of q l =
-        let few : q < 128 = omega (arith, l, en, ok .arrivals) in
+        let few : q < 128 = omega (arith, l, en, ready .sound .arrivals) in
         let here : q < getD table 1 0 = omega (arith, l, en) in
         let m : ℕ = getD (orderIn table) q 0 in
         let first : firstBelow (getD table 1 0) (arrivalOf (orderIn table) m) ≡ q = least-first (arrivalOf (orderIn table) m) (getD table 1 0) q (record {
           below = here;
           has = eq-eqb m m refl;
-          none-before = λ r lr h. let e = t .once r q (omega (arith, lr, here)) here (eqb-true (getD (orderIn table) r 0) m h) in omega (arith, lr, e);
+          none-before = λ r lr h. let e = ready .aged .once r q (omega (arith, lr, here)) here (eqb-true (getD (orderIn table) r 0) m h) in omega (arith, lr, e);
         }) in
         let any : anyBelow (getD table 1 0) (arrivalOf (orderIn table) m) ≡ true = any-intro (arrivalOf (orderIn table) m) (getD table 1 0) q here (eq-eqb m m refl) in
         ap (λ (y : ℕ). getD table (450 + y) 0) (sym (order-at q few))
-        ∙ age-at m (omega (arith, t .known q here, ok .booked))
+        ∙ age-at m (omega (arith, ready .aged .known q here, ready .sound .booked))
         ∙ simp (any, first, add-one)
 
     -- from the maker, or from none
@@ -134,7 +131,7 @@ module _ (s : Settings) (table journal index : List ℕ) (ok : Sound s table) (f
     brought-is inputs e i l = by (ltb i inputs) refl
       where
         used : isUsed (jobAt journal (getD table 0 0) k) i ≡ ltb i inputs
-        used = used-input (jobAt journal (getD table 0 0) k) i l ∙ ap (ltb i) (sym (e ∙ inputs-at s table journal ok full k lk))
+        used = used-input (jobAt journal (getD table 0 0) k) i l ∙ ap (ltb i) (sym (e ∙ inputs-at s table journal (ready .sound) (ready .full) k lk))
 
         by : (b : Bool) → ltb i inputs ≡ b
             → cond b (cond (ltb (firstBelow n (madeAt table (setAt index (24 * k + 2 * i)))) n) (getD table (450 + getD table (322 + firstBelow n (madeAt table (setAt index (24 * k + 2 * i)))) 0) 0) 1) 0
@@ -161,11 +158,11 @@ module _ (s : Settings) (table journal index : List ℕ) (ok : Sound s table) (f
 
       size-two : length two ≡ 578
       unfolding one two
-      size-two = length-set one (450 + k) (age + 1) ∙ length-set table (322 + n) k ∙ ok .size
+      size-two = length-set one (450 + k) (age + 1) ∙ length-set table (322 + n) k ∙ ready .sound .size
 
       seated-size : length (seated table n k age) ≡ length table
       unfolding seated one two
-      seated-size = length-set two 1 (n + 1) ∙ size-two ∙ sym (ok .size)
+      seated-size = length-set two 1 (n + 1) ∙ size-two ∙ sym (ready .sound .size)
 
       -- a part that none of the three words is in
       part-kept : (from : ℕ) → 2 ≤ from → from + 128 ≤ 322 → part from (seated table n k age) ≡ part from table
@@ -205,8 +202,8 @@ module _ (s : Settings) (table journal index : List ℕ) (ok : Sound s table) (f
       arrives-aged : Timely (seated table n k age) journal
       arrives-aged =
           rw (booked-kept, counted, order-grows, ages-grow)
-          (aged-arrives (jobAt journal (getD table 0 0)) (getD table 0 0) n (orderIn table) (agesIn table) k (rw en t)
-          (omega (arith, room, part-size 322 table (omega (arith, ok .size)))) (omega (arith, small, part-size 450 table (omega (arith, ok .size)))) lk (rw en (is-new new)) age as-defined)
+          (aged-arrives (jobAt journal (getD table 0 0)) (getD table 0 0) n (orderIn table) (agesIn table) k (rw en (ready .aged))
+          (omega (arith, room, part-size 322 table (omega (arith, ready .sound .size)))) (omega (arith, small, part-size 450 table (omega (arith, ready .sound .size)))) lk (rw en (is-new new)) age as-defined)
 
       pub arrives : (after : List ℕ) → after ≡ seated table n k age → (ledgerIn s after ≡ arriving (ledgerIn s table) k) × Moved table after journal
       arrives after e =

@@ -41,14 +41,16 @@ sieve-new job = record { size = length-replicate {A = ℕ} 2042 0; all = λ k e 
 pub kept-new : (s : Settings) → isLawful s ≡ true → Kept s (replicate 578 0) (replicate 12800 0) (replicate 3072 0) (replicate 2042 0)
 unfolding anyBelow
 kept-new s lawful = record {
-  sound = record { size = length-replicate {A = ℕ} 578 0; lawful = lawful; booked = omega arith; arrivals = omega arith };
-  full = length-replicate {A = ℕ} 12800 0;
-  indexed = index-new (jobAt (replicate 12800 0) 0);
+  ready = record {
+    sound = record { size = length-replicate {A = ℕ} 578 0; lawful = lawful; booked = omega arith; arrivals = omega arith };
+    full = length-replicate {A = ℕ} 12800 0;
+    indexed = index-new (jobAt (replicate 12800 0) 0);
+    aged = record {
+      known = λ p l. absurd (not-suc-le-zero l);
+      once = λ p q l m e. absurd (not-suc-le-zero l);
+      right = λ k l. part-at 450 (replicate 578 0) k l ∙ getD-replicate {A = ℕ} 578 (450 + k) 0 0 (omega arith);
+    };
+  };
   sieved = sieve-new (jobAt (replicate 12800 0) 0);
   passes = λ k l. absurd (not-suc-le-zero l);
-  aged = record {
-    known = λ p l. absurd (not-suc-le-zero l);
-    once = λ p q l m e. absurd (not-suc-le-zero l);
-    right = λ k l. part-at 450 (replicate 578 0) k l ∙ getD-replicate {A = ℕ} 578 (450 + k) 0 0 (omega arith);
-  };
 }

@@ -97,7 +97,7 @@ module _ (job job′ : ℕ → Job) (n : ℕ) (alike : (k : ℕ) → k < n → j
 
 module _ (s : Settings) (table journal index sieve : List ℕ) (k : Kept s table journal index sieve) (bytes : List ℕ) where
   few : getD table 0 0 ≤ 128
-  few = k .sound .booked
+  few = k .ready .sound .booked
 
   -- ---- the sieve leaves out no equal
   module _ (m : ℕ) (l : m < getD table 0 0) (h : equalAt journal bytes m ≡ true) where
@@ -109,7 +109,7 @@ module _ (s : Settings) (table journal index sieve : List ℕ) (k : Kept s table
     equal-passes = ap examined (sym same) ∙ k .passes m l
 
     is-job : jobAt journal (getD table 0 0) m ≡ jobOf bytes
-    is-job = job-slot journal (getD table 0 0) m (k .full) few l ∙ ap jobOf same
+    is-job = job-slot journal (getD table 0 0) m (k .ready .full) few l ∙ ap jobOf same
 
     is-candidate : jobHas (setAt sieve (2 * sumOf (jobOf bytes))) m ≡ true
     is-candidate = subst (λ (j : Job). jobHas (setAt sieve (2 * sumOf j)) m ≡ true) is-job (has-sum _ _ sieve few (k .sieved) m l)
@@ -124,7 +124,7 @@ module _ (s : Settings) (table journal index sieve : List ℕ) (k : Kept s table
 
   -- ---- where the record belongs
   whole : length journal / 100 ≡ 128
-  whole = omega (arith, k .full)
+  whole = omega (arith, k .ready .full)
 
   inside-is : insideOf journal (getD table 0 0) ≡ getD table 0 0
   unfolding insideOf
@@ -137,7 +137,7 @@ module _ (s : Settings) (table journal index sieve : List ℕ) (k : Kept s table
   place-is : placeOf (ledgerIn s table) journal bytes
       ≡ placed (examined bytes) (cond (ltb (firstBelow (getD table 0 0) (equalAt journal bytes)) (getD table 0 0)) (Known (firstBelow (getD table 0 0) (equalAt journal bytes))) (cond (ltb (getD table 0 0) 128) New (Turned Full)))
   unfolding placeOf newPlace equalIn ledgerIn
-  place-is = simp (sane s table journal (k .sound) (k .full), inside-is, room-is)
+  place-is = simp (sane s table journal (k .ready .sound) (k .ready .full), inside-is, room-is)
 
   pub proposed-known : (r : ℕ) → r ≡ firstBelow (getD table 0 0) (equalAt journal bytes) → r < getD table 0 0 → Proposed s table journal bytes (Done r) table journal index sieve
   unfolding proposeOf journalAfter
@@ -178,25 +178,25 @@ module _ (s : Settings) (table journal index sieve : List ℕ) (k : Kept s table
   -- ---- a record is booked
   module _ (n : ℕ) (en : n ≡ getD table 0 0) (small : n < 128) (size : length bytes ≡ 100) where
     space : 100 * n + 100 ≤ length journal
-    space = omega (arith, k .full, small)
+    space = omega (arith, k .ready .full, small)
 
     after : List ℕ
     after = putAt journal n bytes
 
     after-full : length after ≡ 12800
     unfolding after
-    after-full = put-length n journal bytes size space ∙ k .full
+    after-full = put-length n journal bytes size space ∙ k .ready .full
 
     jobs-alike : (m : ℕ) → m < n → jobAt after (n + 1) m ≡ jobAt journal (getD table 0 0) m
     unfolding after
     jobs-alike m l =
         job-slot after (n + 1) m after-full (omega arith) (omega arith) ∙ ap jobOf (slot-before n journal bytes size space m l)
-        ∙ sym (job-slot journal (getD table 0 0) m (k .full) few (omega (arith, l, en)))
+        ∙ sym (job-slot journal (getD table 0 0) m (k .ready .full) few (omega (arith, l, en)))
 
     grown-index : Indexed (jobAt after (n + 1)) (n + 1) (indexWith (jobAt after (n + 1)) index sieve n)
     grown-index =
         index-grows (jobAt after (n + 1)) n small index sieve
-        (indexed-alike (jobAt journal (getD table 0 0)) (jobAt after (n + 1)) n jobs-alike index (rw en (k .indexed)))
+        (indexed-alike (jobAt journal (getD table 0 0)) (jobAt after (n + 1)) n jobs-alike index (rw en (k .ready .indexed)))
         (sieved-alike (jobAt journal (getD table 0 0)) (jobAt after (n + 1)) n jobs-alike sieve (rw en (k .sieved)))
 
     grown-sieve : Sieved (jobAt after (n + 1)) (n + 1) (sieveWith (jobAt after (n + 1)) sieve n)
@@ -211,20 +211,22 @@ module _ (s : Settings) (table journal index sieve : List ℕ) (k : Kept s table
         by false e = let q : m ≡ n = omega (arith, l, ltb-false m n e) in ap (λ (x : ℕ). examined (slotAt (putAt journal n bytes) x)) q ∙ ap examined (slot-put n journal bytes size space) ∙ passes
 
     counted : getD (set table 0 (n + 1)) 0 0 ≡ n + 1
-    counted = getD-set-same table 0 (n + 1) 0 (omega (arith, k .sound .size))
+    counted = getD-set-same table 0 (n + 1) 0 (omega (arith, k .ready .sound .size))
 
     arrivals-kept : getD (set table 0 (n + 1)) 1 0 ≡ getD table 1 0
     arrivals-kept = getD-set-other table 0 1 (n + 1) 0 (λ e. omega (arith, e))
 
     kept-booked : examined bytes ≡ Pass → Kept s (set table 0 (n + 1)) after (indexWith (jobAt after (n + 1)) index sieve n) (sieveWith (jobAt after (n + 1)) sieve n)
     kept-booked passes = record {
-      sound = record { size = length-set table 0 (n + 1) ∙ k .sound .size; lawful = k .sound .lawful; booked = omega (arith, counted, small); arrivals = rw arrivals-kept (k .sound .arrivals) };
-      full = after-full;
-      indexed = rw counted grown-index;
+      ready = record {
+        sound = record { size = length-set table 0 (n + 1) ∙ k .ready .sound .size; lawful = k .ready .sound .lawful; booked = omega (arith, counted, small); arrivals = rw arrivals-kept (k .ready .sound .arrivals) };
+        full = after-full;
+        indexed = rw counted grown-index;
+        aged = rw (counted, arrivals-kept, part-out 322 table 0 (n + 1) (inl (omega arith)), part-out 450 table 0 (n + 1) (inl (omega arith)))
+            (aged-alike (jobAt journal (getD table 0 0)) (jobAt after (n + 1)) n jobs-alike (getD table 1 0) _ _ (rw en (k .ready .aged)));
+      };
       sieved = rw counted grown-sieve;
       passes = λ m l. all-pass passes m (rw counted at l);
-      aged = rw (counted, arrivals-kept, part-out 322 table 0 (n + 1) (inl (omega arith)), part-out 450 table 0 (n + 1) (inl (omega arith)))
-          (aged-alike (jobAt journal (getD table 0 0)) (jobAt after (n + 1)) n jobs-alike (getD table 1 0) _ _ (rw en (k .aged)));
     }
 
     booked-at : ledgerIn s table .booked ≡ getD table 0 0

@@ -2,7 +2,7 @@
 -- Assumes nothing.
 use mathlib.Core.Bool.{cond, false, true}
 use mathlib.Core.List.{List}
-use mathlib.Core.Path.{_∙_, _≡_, ap, refl, sym}
+use mathlib.Core.Path.{_∙_, _≡_, ap, sym}
 use Prim.Native.Nat.{_+_, _<_, _≤_, ℕ}
 use native.Mathlib.Omega.{arith}
 use lib.Count.{ones}
@@ -17,17 +17,15 @@ use Rattle.sets.specs.Jobs.{jobHas, jobWith}
 use Rattle.sets.specs.declared.job_set.JobSet.{JobSet}
 use Rattle.ledger.proofs.Gates.{first-passed}
 use Rattle.ledger.specs.Federation.{thresholdOf}
-use Rattle.ledger.specs.Journal.{jobAt}
 use Rattle.ledger.specs.State.{acknowledged, arriving, vaultAt, withVault}
 use Rattle.ledger.specs.Steps.{certificate, commitChecks, commitOf, committed, held, vaultGate}
 use Rattle.ledger.specs.Vaults.{holding}
 use Rattle.ledger.specs.declared.Ledger.{Ledger}
 use Rattle.ledger.specs.declared.Settings.{Settings}
-use Rattle.index.specs.Slots.{Indexed}
 use Rattle.index.specs.Words.{setAt}
-use Rattle.engine.proofs.Answers.{same-storing, same-trans, same-vote}
+use Rattle.engine.proofs.Answers.{same-refl, same-storing, same-trans, same-vote}
 use Rattle.engine.proofs.Fields.{acknowledged-is, acknowledgement-stored, held-stored, signed-is, vault-is}
-use Rattle.engine.specs.Kept.{Holding, Kept, Modest, Moved, Same, Sound, Timely, answer}
+use Rattle.engine.specs.Kept.{Holding, Kept, Modest, Moved, Ready, Same, answer}
 use Rattle.engine.specs.Layout.{heldOf, ledgerIn, signedOf, storing, vaultIn}
 
 pub certificate-is : (s : Settings) (table : List ℕ) (job signers : ℕ) → job < 128 → certificate (ledgerIn s table) job signers
@@ -35,28 +33,34 @@ pub certificate-is : (s : Settings) (table : List ℕ) (job signers : ℕ) → j
 unfolding certificate ledgerIn
 certificate-is s table job signers h = simp (signed-is s table job h)
 
--- ---- what is kept where the counts, the order and the ages are as they were
-module _ (table after : List ℕ) (same : Same table after) where
-  pub sound-same : (s : Settings) → Sound s table → Sound s after
-  sound-same s ok = record { size = same .size ∙ ok .size; lawful = ok .lawful; booked = rw (same .booked) (ok .booked); arrivals = rw (same .arrivals) (ok .arrivals) }
+-- ---- what is kept by a step that books nothing
+moved-after : (table after : List ℕ) → Same table after → (journal last : List ℕ) → Moved after last journal → Moved table last journal
+moved-after table after same journal last m = record { size = m .size ∙ same .size; booked = m .booked ∙ same .booked; arrivals = m .arrivals; aged = m .aged }
 
-  pub timely-same : (journal : List ℕ) → Timely table journal → Timely after journal
-  timely-same journal t = rw (same .booked, same .arrivals, same .order, same .ages) t
+module _ (s : Settings) (table journal index : List ℕ) (ready : Ready s table journal index) where
+  moved-same : (after : List ℕ) → Same table after → Moved table after journal
+  moved-same after same = record {
+    size = same .size;
+    booked = same .booked;
+    arrivals = rw (same .arrivals) (ready .sound .arrivals);
+    aged = rw (same .booked, same .arrivals, same .order, same .ages) (ready .aged);
+  }
 
-  pub indexed-same : (journal index : List ℕ) → Indexed (jobAt journal (getD table 0 0)) (getD table 0 0) index → Indexed (jobAt journal (getD after 0 0)) (getD after 0 0) index
-  indexed-same journal index x = rw (same .booked) x
+  pub stays : Moved table table journal
+  stays = moved-same table (same-refl table)
 
-  pub moved-after : (journal last : List ℕ) → Moved after last journal → Moved table last journal
-  moved-after journal last m = record { size = m .size ∙ same .size; booked = m .booked ∙ same .booked; arrivals = m .arrivals; aged = m .aged }
-
-  pub moved-same : (s : Settings) (journal : List ℕ) → Sound s table → Timely table journal → Moved table after journal
-  moved-same s journal ok t = record { size = same .size; booked = same .booked; arrivals = rw (same .arrivals) (ok .arrivals); aged = timely-same journal t }
+  ready-moved : (after : List ℕ) → Moved table after journal → Ready s after journal index
+  ready-moved after m = record {
+    sound = record { size = m .size ∙ ready .sound .size; lawful = ready .sound .lawful; booked = rw (m .booked) (ready .sound .booked); arrivals = m .arrivals };
+    full = ready .full;
+    indexed = rw (m .booked) (ready .indexed);
+    aged = m .aged;
+  }
 
 -- ---- the vault holds the job
-module _ (s : Settings) (table journal index : List ℕ) (ok : Sound s table) (x : Indexed (jobAt journal (getD table 0 0)) (getD table 0 0) index)
-    (t : Timely table journal) (v job : ℕ) (few : v < 16) (known : job < getD table 0 0) where
+module _ (s : Settings) (table journal index : List ℕ) (ready : Ready s table journal index) (v job : ℕ) (few : v < 16) (known : job < getD table 0 0) where
   small : job < 128
-  small = omega (arith, known, ok .booked)
+  small = omega (arith, known, ready .sound .booked)
 
   vault : vaultAt (ledgerIn s table) v ≡ record { held = setAt table (heldOf v); signed = setAt table (signedOf v) }
   unfolding vaultIn
@@ -68,7 +72,7 @@ module _ (s : Settings) (table journal index : List ℕ) (ok : Sound s table) (x
   unfolding committed
   committed-again h eh e r q = (
     simp (vault, ap (λ (y : JobSet). jobHas y job) (sym eh) ∙ e, q .0, acknowledged-is s table job small),
-    record { size = refl; booked = refl; arrivals = ok .arrivals; aged = t },
+    stays s table journal index ready,
     omega (arith, q .1),
   )
 
@@ -78,14 +82,14 @@ module _ (s : Settings) (table journal index : List ℕ) (ok : Sound s table) (x
     same : Same table two
     same = rw (e2, e1) (same-trans (same-storing table (heldOf v) u (omega arith) (omega arith)) (same-vote (storing table (heldOf v) u) (194 + job) _ (omega arith) (omega (arith, small))))
 
-    pub ready : Sound s two × ((Indexed (jobAt journal (getD two 0 0)) (getD two 0 0) index) × (Timely two journal × (job < getD two 0 0)))
-    ready = (sound-same table two same s ok, (indexed-same table two same journal index x, (timely-same table two same journal t, rw (same .booked) known)))
+    pub may-arrive : Ready s two journal index × (job < getD two 0 0)
+    may-arrive = (ready-moved s table journal index ready two (moved-same s table journal index ready two same), rw (same .booked) known)
 
     stored : ledgerIn s two ≡ acknowledged (withVault (ledgerIn s table) v (holding (vaultAt (ledgerIn s table) v) job)) v job
     unfolding holding
     stored =
         ap (ledgerIn s) e2 ∙ acknowledgement-stored s one v job small
-        ∙ ap (λ (l : Ledger). acknowledged l v job) (ap (ledgerIn s) (e1 ∙ ap (storing table (heldOf v)) (eu ∙ ap (λ (y : JobSet). jobWith y job) eh)) ∙ held-stored s table (ok .size) v few _
+        ∙ ap (λ (l : Ledger). acknowledged l v job) (ap (ledgerIn s) (e1 ∙ ap (storing table (heldOf v)) (eu ∙ ap (λ (y : JobSet). jobWith y job) eh)) ∙ held-stored s table (ready .sound .size) v few _
         ∙ sym (simp vault))
 
     pub held-done : (after : List ℕ) (r : ℕ) → (ledgerIn s after ≡ arriving (ledgerIn s two) job) × Moved two after journal → (r ≡ ones (getD after (194 + job) 0)) × (r ≤ 64)
@@ -109,10 +113,10 @@ pub commit-is : (s : Settings) (table journal : List ℕ) (v job signers : ℕ) 
 unfolding commitOf
 commit-is s table journal v job signers e = simp e
 
-pub commit-refused : (s : Settings) (table journal : List ℕ) → Sound s table → Timely table journal → (v job signers : ℕ) (why : Refusal) → commitChecks (ledgerIn s table) journal v job signers ≡ Fail why
+pub commit-refused : (s : Settings) (table journal index : List ℕ) → Ready s table journal index → (v job signers : ℕ) (why : Refusal) → commitChecks (ledgerIn s table) journal v job signers ≡ Fail why
     → (commitOf (ledgerIn s table) journal v job signers ≡ answer s (Refused why) table) × Moved table table journal × Modest (Refused why)
 unfolding commitOf
-commit-refused s table journal ok t v job signers why e = (simp e, record { size = refl; booked = refl; arrivals = ok .arrivals; aged = t }, tt)
+commit-refused s table journal index ready v job signers why e = (simp e, stays s table journal index ready, tt)
 
 -- behind the checks of a commit is the gate
 pub gate-passed : (s : Settings) (table journal : List ℕ) (v job signers : ℕ) → commitChecks (ledgerIn s table) journal v job signers ≡ Pass → vaultGate (ledgerIn s table) journal v job false ≡ Pass
@@ -122,13 +126,10 @@ gate-passed s table journal v job signers e = first-passed (vaultGate (ledgerIn 
 -- ---- all that is kept, after a step that books nothing
 pub kept-moved : (s : Settings) (table after journal index sieve : List ℕ) → Kept s table journal index sieve → Moved table after journal → Kept s after journal index sieve
 kept-moved s table after journal index sieve k m = record {
-  sound = record { size = m .size ∙ k .sound .size; lawful = k .sound .lawful; booked = rw (m .booked) (k .sound .booked); arrivals = m .arrivals };
-  full = k .full;
-  indexed = rw (m .booked) (k .indexed);
+  ready = ready-moved s table journal index (k .ready) after m;
   sieved = rw (m .booked) (k .sieved);
   passes = λ i l. k .passes i (rw (m .booked) at l);
-  aged = m .aged;
 }
 
 pub kept-same : (s : Settings) (table after journal index sieve : List ℕ) → Kept s table journal index sieve → Same table after → Kept s after journal index sieve
-kept-same s table after journal index sieve k e = kept-moved s table after journal index sieve k (moved-same table after e s journal (k .sound) (k .aged))
+kept-same s table after journal index sieve k e = kept-moved s table after journal index sieve k (moved-same s table journal index (k .ready) after e)

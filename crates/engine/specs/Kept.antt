@@ -48,13 +48,18 @@ pub record Aged (job : ℕ → Job) (booked arrivals : ℕ) (order ages : List �
 abbrev pub Timely : List ℕ → List ℕ → Type 0
 Timely table journal = Aged (jobAt journal (getD table 0 0)) (getD table 0 0) (getD table 1 0) (orderIn table) (agesIn table)
 
-pub record Kept (s : Settings) (table journal index sieve : List ℕ) : Type 0 where
+-- the most that a step asks which books nothing
+pub record Ready (s : Settings) (table journal index : List ℕ) : Type 0 where
   pub sound : Sound s table
   pub full : length journal ≡ 12800
   pub indexed : Indexed (jobAt journal (getD table 0 0)) (getD table 0 0) index
+  pub aged : Timely table journal
+
+-- what a proposal asks, and every step keeps
+pub record Kept (s : Settings) (table journal index sieve : List ℕ) : Type 0 where
+  pub ready : Ready s table journal index
   pub sieved : Sieved (jobAt journal (getD table 0 0)) (getD table 0 0) sieve
   pub passes : (k : ℕ) → k < getD table 0 0 → examined (slotAt journal k) ≡ Pass
-  pub aged : Timely table journal
 
 -- the counts, the order and the ages are as they were
 pub record Same (table after : List ℕ) : Type 0 where

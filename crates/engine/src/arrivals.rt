@@ -1,13 +1,11 @@
 // A job arrives: it joins the order, and its age is found from those that made its inputs.
 ghost use mathlib.Core.Path.{_≡_};
-ghost use Prim.Native.Nat.{_+_, _<_, _≤_, max};
+ghost use Prim.Native.Nat.{_<_, _≤_, max};
 ghost use lib.ListN.{getD, length};
 ghost use Rattle.ledger.specs.Generations.{highest};
-ghost use Rattle.ledger.specs.Journal.{jobAt};
 ghost use Rattle.ledger.specs.State.{arriving};
-ghost use Rattle.index.specs.Slots.{Indexed};
 ghost use Rattle.engine.specs.Ages.{Seated, broughtIn, madeAt, makerIn, seated};
-ghost use Rattle.engine.specs.Kept.{Moved, Sound, Timely};
+ghost use Rattle.engine.specs.Kept.{Moved, Ready};
 ghost use Rattle.engine.specs.Layout.{ledgerIn};
 use crate::table;
 use ledger::Settings;
@@ -86,7 +84,7 @@ pub(crate) fn arrive(
     index: &[u64],
     job: usize,
 )
-    requires { ⌜ Sound settings (now table) × (length (now journal) ≡ 12800) × Indexed (jobAt (now journal) (getD (now table) 0 0)) (getD (now table) 0 0) (now index) × Timely (now table) (now journal) × (job < getD (now table) 0 0) ⌝ }
+    requires { ⌜ Ready settings (now table) (now journal) (now index) × (job < getD (now table) 0 0) ⌝ }
     ensures { λ _. ⌜ (ledgerIn settings (now (table .exit)) ≡ arriving (ledgerIn settings (now (table .entry))) job) × Moved (now (table .entry)) (now (table .exit)) (now (journal .entry)) ⌝ }
 {
     if table[table::AGES + job] > 0 {

@@ -2,11 +2,9 @@
 ghost use mathlib.Core.Path.{_≡_};
 ghost use Prim.Native.Nat.{_+_, _*_, _<_};
 ghost use lib.ListN.{getD, length};
-ghost use Rattle.ledger.specs.Journal.{jobAt};
 ghost use Rattle.ledger.specs.Steps.{certificate, commitChecks, commitOf, committed};
-ghost use Rattle.index.specs.Slots.{Indexed};
 ghost use Rattle.index.specs.Words.{setAt};
-ghost use Rattle.engine.specs.Kept.{Holding, Modest, Moved, Sound, Timely, answer};
+ghost use Rattle.engine.specs.Kept.{Holding, Modest, Moved, Ready, Sound, answer};
 ghost use Rattle.engine.specs.Layout.{ledgerIn};
 use crate::arrivals;
 use crate::gates;
@@ -59,7 +57,7 @@ fn hold(
     job: usize,
     held: JobSet,
 ) -> u32
-    requires { ⌜ Sound settings (now table) × (length (now journal) ≡ 12800) × Indexed (jobAt (now journal) (getD (now table) 0 0)) (getD (now table) 0 0) (now index) × Timely (now table) (now journal) × (v < 16) × (job < getD (now table) 0 0) × (held ≡ setAt (now table) (2 + 4 * v)) ⌝ }
+    requires { ⌜ Ready settings (now table) (now journal) (now index) × (v < 16) × (job < getD (now table) 0 0) × (held ≡ setAt (now table) (2 + 4 * v)) ⌝ }
     ensures { λ r. ⌜ Holding settings (now (table .entry)) (now (journal .entry)) v job (now (table .exit)) r ⌝ }
 {
     table::store(table, 2 + 4 * v as usize, held.with(job));
@@ -77,7 +75,7 @@ fn committed(
     v: u8,
     job: usize,
 ) -> Outcome
-    requires { ⌜ Sound settings (now table) × (length (now journal) ≡ 12800) × Indexed (jobAt (now journal) (getD (now table) 0 0)) (getD (now table) 0 0) (now index) × Timely (now table) (now journal) × (v < 16) × (job < getD (now table) 0 0) ⌝ }
+    requires { ⌜ Ready settings (now table) (now journal) (now index) × (v < 16) × (job < getD (now table) 0 0) ⌝ }
     ensures { λ r. ⌜ (committed (ledgerIn settings (now (table .entry))) v job ≡ answer settings r (now (table .exit))) × Moved (now (table .entry)) (now (table .exit)) (now (journal .entry)) × Modest r ⌝ }
 {
     let held = index::set_at(&table[..], 2 + 4 * v as usize);
@@ -96,7 +94,7 @@ pub fn commit(
     job: u8,
     signers: u16,
 ) -> Outcome
-    requires { ⌜ Sound settings (now table) × (length (now journal) ≡ 12800) × Indexed (jobAt (now journal) (getD (now table) 0 0)) (getD (now table) 0 0) (now index) × Timely (now table) (now journal) ⌝ }
+    requires { ⌜ Ready settings (now table) (now journal) (now index) ⌝ }
     ensures { λ r. ⌜ (commitOf (ledgerIn settings (now (table .entry))) (now (journal .entry)) v job signers ≡ answer settings r (now (table .exit))) × Moved (now (table .entry)) (now (table .exit)) (now (journal .entry)) × Modest r ⌝ }
 {
     match commit_checks(settings, &table[..], journal, v, job, signers) {

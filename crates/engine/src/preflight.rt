@@ -2,10 +2,8 @@
 ghost use mathlib.Core.Path.{_≡_};
 ghost use Prim.Native.Nat.{_<_};
 ghost use lib.ListN.{getD, length};
-ghost use Rattle.ledger.specs.Journal.{jobAt};
 ghost use Rattle.ledger.specs.Steps.{consulted, preflightOf};
-ghost use Rattle.index.specs.Slots.{Indexed};
-ghost use Rattle.engine.specs.Kept.{Countersigned, Modest, Same, Sound, answer};
+ghost use Rattle.engine.specs.Kept.{Countersigned, Modest, Ready, Same, answer};
 ghost use Rattle.engine.specs.Layout.{ledgerIn};
 use crate::gates;
 use crate::table;
@@ -34,7 +32,7 @@ fn consult(
     v: u8,
     job: usize,
 ) -> Outcome
-    requires { ⌜ Sound settings (now table) × (length (now journal) ≡ 12800) × Indexed (jobAt (now journal) (getD (now table) 0 0)) (getD (now table) 0 0) (now index) × (v < 16) × (job < getD (now table) 0 0) ⌝ }
+    requires { ⌜ Ready settings (now table) (now journal) (now index) × (v < 16) × (job < getD (now table) 0 0) ⌝ }
     ensures { λ r. ⌜ (consulted (ledgerIn settings (now (table .entry))) (now (journal .entry)) v job ≡ answer settings r (now (table .exit))) × Same (now (table .entry)) (now (table .exit)) × Modest r ⌝ }
 {
     let at = 4 + 4 * v as usize;
@@ -58,7 +56,7 @@ pub fn preflight(
     v: u8,
     job: u8,
 ) -> Outcome
-    requires { ⌜ Sound settings (now table) × (length (now journal) ≡ 12800) × Indexed (jobAt (now journal) (getD (now table) 0 0)) (getD (now table) 0 0) (now index) ⌝ }
+    requires { ⌜ Ready settings (now table) (now journal) (now index) ⌝ }
     ensures { λ r. ⌜ (preflightOf (ledgerIn settings (now (table .entry))) (now (journal .entry)) v job ≡ answer settings r (now (table .exit))) × Same (now (table .entry)) (now (table .exit)) × Modest r ⌝ }
 {
     match gates::vault_gate(settings, &table[..], journal, v, job, false) {

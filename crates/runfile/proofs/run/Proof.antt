@@ -96,13 +96,13 @@ shared-slice-read-kind : tie.Need-shared-slice-read-kind Inv-loop μ-loop
 shared-slice-read-kind c = omega arith
 
 slice-aggregate-step : tie.Need-slice-aggregate-step Inv-loop μ-loop
-slice-aggregate-step c = sym (c .before .before .before .before .before .loop .inv .kept .sound .size)
+slice-aggregate-step c = sym (c .before .before .before .before .before .loop .inv .kept .ready .sound .size)
 
 slice-aggregate-step-2 : tie.Need-slice-aggregate-step-2 Inv-loop μ-loop
-slice-aggregate-step-2 c = sym (c .before .before .before .before .before .before .loop .inv .kept .full)
+slice-aggregate-step-2 c = sym (c .before .before .before .before .before .before .loop .inv .kept .ready .full)
 
 slice-aggregate-step-3 : tie.Need-slice-aggregate-step-3 Inv-loop μ-loop
-slice-aggregate-step-3 c = sym (c .before .before .before .before .before .before .before .loop .inv .kept .indexed .size)
+slice-aggregate-step-3 c = sym (c .before .before .before .before .before .before .before .loop .inv .kept .ready .indexed .size)
 
 slice-aggregate-step-4 : tie.Need-slice-aggregate-step-4 Inv-loop μ-loop
 slice-aggregate-step-4 c = sym (c .before .before .before .before .before .before .before .before .loop .inv .kept .sieved .size)

@@ -15,7 +15,7 @@ enum-told : tie.Need-enum-told
 enum-told c = search needs
 
 committed-requires : tie.Need-committed-requires
-committed-requires c κs = let g = gate-passed _ _ _ _ _ _ (sym (c .before .before .before .commit-checks .ensures) ∙ c .before .enum-told .given .1) in (c .before .before .before .before .before .before .before .before .pre .0, c .before .before .before .before .before .before .before .before .pre .1, c .before .before .before .before .before .before .before .before .pre .2, c .before .before .before .before .before .before .before .before .pre .3, vault-below _ _ _ _ _ g, known-at _ _ _ _ _ _ g)
+committed-requires c κs = let g = gate-passed _ _ _ _ _ _ (sym (c .before .before .before .commit-checks .ensures) ∙ c .before .enum-told .given .1) in (c .before .before .before .before .before .before .before .before .pre, vault-below _ _ _ _ _ g, known-at _ _ _ _ _ _ g)
 
 enum-known-why : tie.Need-enum-known-why
 enum-known-why c = search needs
@@ -30,7 +30,7 @@ same-length-2 : tie.Need-same-length-2
 same-length-2 c = search needs
 
 returns-2 : tie.Need-returns-2
-returns-2 c = commit-refused _ _ _ (c .before .before .before .before .before .before .before .before .pre .0) (c .before .before .before .before .before .before .before .before .pre .3) _ _ _ _ (sym (c .before .before .before .commit-checks .ensures) ∙ c .before .why .given .1)
+returns-2 c = commit-refused _ _ _ _ (c .before .before .before .before .before .before .before .before .pre) _ _ _ _ (sym (c .before .before .before .commit-checks .ensures) ∙ c .before .why .given .1)
 
 pub commit-spec : {M : Type 1} → statement M
 commit-spec =

@@ -28,7 +28,7 @@ same-length : tie.Need-same-length
 same-length c = search needs
 
 returns : tie.Need-returns
-returns c = committed-again _ _ _ _ (c .before .before .before .before .before .before .before .before .before .pre .0) (c .before .before .before .before .before .before .before .before .before .pre .2) (c .before .before .before .before .before .before .before .before .before .pre .3) _ _ (c .before .before .before .before .before .before .before .before .before .pre .4) (c .before .before .before .before .before .before .before .before .before .pre .5) _ (c .before .before .before .before .set-at .ensures .0) (sym (c .before .before .before .has .ensures) ∙ c .before .before .if1 .taken) _ (c .count .ensures)
+returns c = committed-again _ _ _ _ (c .before .before .before .before .before .before .before .before .before .pre .0) _ _ (c .before .before .before .before .before .before .before .before .before .pre .1) (c .before .before .before .before .before .before .before .before .before .pre .2) _ (c .before .before .before .before .set-at .ensures .0) (sym (c .before .before .before .has .ensures) ∙ c .before .before .if1 .taken) _ (c .count .ensures)
 
 hold-requires : tie.Need-hold-requires
 hold-requires c κs = search needs
@@ -37,7 +37,7 @@ same-length-2 : tie.Need-same-length-2
 same-length-2 c = search needs
 
 returns-2 : tie.Need-returns-2
-returns-2 c = committed-done _ _ _ _ (c .before .before .before .before .before .before .before .before .before .before .before .pre .0) (c .before .before .before .before .before .before .before .before .before .before .before .pre .2) (c .before .before .before .before .before .before .before .before .before .before .before .pre .3) _ _ (c .before .before .before .before .before .before .before .before .before .before .before .pre .4) (c .before .before .before .before .before .before .before .before .before .before .before .pre .5) _ (c .before .before .before .before .before .before .set-at .ensures .0) (sym (c .before .before .before .before .before .has .ensures) ∙ c .before .before .before .before .if1 .left) _ _ (c .before .before .hold .ensures)
+returns-2 c = committed-done _ _ _ _ (c .before .before .before .before .before .before .before .before .before .before .before .pre .0) _ _ (c .before .before .before .before .before .before .before .before .before .before .before .pre .1) (c .before .before .before .before .before .before .before .before .before .before .before .pre .2) _ (c .before .before .before .before .before .before .set-at .ensures .0) (sym (c .before .before .before .before .before .has .ensures) ∙ c .before .before .before .before .if1 .left) _ _ (c .before .before .hold .ensures)
 
 pub committed-spec : {M : Type 1} → statement M
 committed-spec =

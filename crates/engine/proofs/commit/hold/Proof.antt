@@ -1,7 +1,7 @@
 -- The set, the vote and the arrival, one after the other.
 -- Assumes nothing.
 use borrow.Author.Needs.{needs}
-use Rattle.engine.proofs.Holds.{held-done, ready}
+use Rattle.engine.proofs.Holds.{held-done, may-arrive}
 use Rattle.engine.proofs.commit.hold.Statement.{statement}
 use Rattle.engine.proofs.commit.hold.Tie as tie
 
@@ -24,7 +24,7 @@ join-requires : tie.Need-join-requires
 join-requires c κs = search needs
 
 arrive-requires : tie.Need-arrive-requires
-arrive-requires c κs = let r = ready _ _ _ _ (c .before .before .before .before .before .before .before .before .before .before .before .before .before .pre .0) (c .before .before .before .before .before .before .before .before .before .before .before .before .before .pre .2) (c .before .before .before .before .before .before .before .before .before .before .before .before .before .pre .3) _ _ (c .before .before .before .before .before .before .before .before .before .before .before .before .before .pre .4) (c .before .before .before .before .before .before .before .before .before .before .before .before .before .pre .5) _ _ (c .before .before .before .before .before .before .before .before .before .before .before .before .before .pre .6) (c .before .before .before .before .before .before .before .before .with .ensures) _ _ (c .before .before .before .before .before .before .before .store .ensures) (c .before .before .before .join .ensures) in (r .0, c .before .before .before .before .before .before .before .before .before .before .before .before .before .pre .1, r .1 .0, r .1 .1 .0, r .1 .1 .1)
+arrive-requires c κs = may-arrive _ _ _ _ (c .before .before .before .before .before .before .before .before .before .before .before .before .before .pre .0) _ _ (c .before .before .before .before .before .before .before .before .before .before .before .before .before .pre .1) (c .before .before .before .before .before .before .before .before .before .before .before .before .before .pre .2) _ _ (c .before .before .before .before .before .before .before .before .before .before .before .before .before .pre .3) (c .before .before .before .before .before .before .before .before .with .ensures) _ _ (c .before .before .before .before .before .before .before .store .ensures) (c .before .before .before .join .ensures)
 
 count-requires : tie.Need-count-requires
 count-requires c κs = search needs
@@ -33,7 +33,7 @@ same-length : tie.Need-same-length
 same-length c = search needs
 
 returns : tie.Need-returns
-returns c = held-done _ _ _ _ (c .before .before .before .before .before .before .before .before .before .before .before .before .before .before .before .before .before .before .pre .0) (c .before .before .before .before .before .before .before .before .before .before .before .before .before .before .before .before .before .before .pre .2) (c .before .before .before .before .before .before .before .before .before .before .before .before .before .before .before .before .before .before .pre .3) _ _ (c .before .before .before .before .before .before .before .before .before .before .before .before .before .before .before .before .before .before .pre .4) (c .before .before .before .before .before .before .before .before .before .before .before .before .before .before .before .before .before .before .pre .5) _ _ (c .before .before .before .before .before .before .before .before .before .before .before .before .before .before .before .before .before .before .pre .6) (c .before .before .before .before .before .before .before .before .before .before .before .before .before .with .ensures) _ _ (c .before .before .before .before .before .before .before .before .before .before .before .before .store .ensures) (c .before .before .before .before .before .before .before .before .join .ensures) _ _ (c .before .before .before .before .arrive .ensures) (c .count .ensures)
+returns c = held-done _ _ _ _ (c .before .before .before .before .before .before .before .before .before .before .before .before .before .before .before .before .before .before .pre .0) _ _ (c .before .before .before .before .before .before .before .before .before .before .before .before .before .before .before .before .before .before .pre .1) (c .before .before .before .before .before .before .before .before .before .before .before .before .before .before .before .before .before .before .pre .2) _ _ (c .before .before .before .before .before .before .before .before .before .before .before .before .before .before .before .before .before .before .pre .3) (c .before .before .before .before .before .before .before .before .before .before .before .before .before .with .ensures) _ _ (c .before .before .before .before .before .before .before .before .before .before .before .before .store .ensures) (c .before .before .before .before .before .before .before .before .join .ensures) _ _ (c .before .before .before .before .arrive .ensures) (c .count .ensures)
 
 pub hold-spec : {M : Type 1} → statement M
 hold-spec =

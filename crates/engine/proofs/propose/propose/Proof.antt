@@ -18,7 +18,7 @@ same-sum-requires : tie.Need-same-sum-requires
 same-sum-requires c κs = c .before .before .before .before .before .before .before .before .pre .0 .sieved .size
 
 find-requires : tie.Need-find-requires
-find-requires c κs = omega (arith, c .before .before .before .before .before .before .before .before .before .before .pre .0 .full, c .before .before .before .before .before .before .before .before .before .before .pre .0 .sound .booked)
+find-requires c κs = omega (arith, c .before .before .before .before .before .before .before .before .before .before .pre .0 .ready .full, c .before .before .before .before .before .before .before .before .before .before .pre .0 .ready .sound .booked)
 
 cast-t19 : tie.Need-cast-t19
 cast-t19 c = search needs
