@@ -20,7 +20,7 @@ use Rattle.ledger.specs.declared.Reply.{Reply}
 use Rattle.engine.proofs.Beginning.{ledger-new}
 use Rattle.engine.specs.Layout.{ledgerIn}
 use Rattle.outcome.specs.Figures.{numberOf, valueOf}
-use Rattle.runfile.specs.Run.{Run, after, carriedOut, cutShort, ended, going, isHeader, isReadable, opened, opens, runText, turn}
+use Rattle.runfile.specs.Run.{Run, after, carriedOut, cutShort, ended, going, isHeader, isWhole, opened, opens, runText, turn}
 use Rattle.runfile.specs.Steps.{bodySize, commandAt, journalBy, replyOf, wordAt}
 use Rattle.runfile.specs.Text.{lineOf}
 
@@ -70,28 +70,26 @@ module _ (input : List ℕ) (k pos : ℕ) (ledger : Ledger) (journal text : List
   unfolding ended
   done g l = whole input k open· g (simp (is, le-leb _ _ l)) ∙ simp is
 
-  module _ (left : pos < length input) where
+  module _ (left : pos < length input) (n : ℕ) (size : n ≡ bodySize (getD input pos 0)) where
     after-next : (r : Run) → turn input k (going pos ledger journal text) ≡ r → after input (k + 1) ≡ r
     unfolding after
     after-next r h = rw add-one (simp (is, h))
 
-    pub unreadable : k < length input → isReadable input pos ≡ false → runText input ≡ text ++ lineOf (k + 1) 2 0
+    pub unreadable : k < length input → isWhole n pos (length input) ≡ false → runText input ≡ text ++ lineOf (k + 1) 2 0
     unfolding turn ended
     unreadable g z =
-        let e = after-next (cutShort (going pos ledger journal text) k) (simp (lt-leb _ _ left, z)) in
+        let e = after-next (cutShort (going pos ledger journal text) k) (simp (lt-leb _ _ left, ← size, z)) in
         whole input (k + 1) open· (omega arith) (simp e) ∙ simp e
 
-    pub next : isReadable input pos ≡ true
+    pub next : isWhole n pos (length input) ≡ true
         → (r : Reply) → r ≡ replyOf ledger journal (commandAt (getD input pos 0) input (pos + 1))
         → (j : List ℕ) → j ≡ journalBy ledger journal (commandAt (getD input pos 0) input (pos + 1))
-        → (n : ℕ) → n ≡ bodySize (getD input pos 0) → (a b : ℕ) → a ≡ numberOf (r .outcome) → b ≡ valueOf (r .outcome)
+        → (a b : ℕ) → a ≡ numberOf (r .outcome) → b ≡ valueOf (r .outcome)
         → after input (k + 1) ≡ going (pos + n + 1) (r .ledger) j (text ++ lineOf (k + 1) a b)
     unfolding turn ended carriedOut
-    next z r e j f n s a b p q = after-next _ (simp (lt-leb _ _ left, z, ← s, ← e, ← f, p, q))
+    next z r e j f a b p q = after-next _ (simp (lt-leb _ _ left, ← size, z, ← e, ← f, p, q))
 
--- a readable step's body is all there
-pub readable : (input : List ℕ) (pos : ℕ) → isReadable input pos ≡ true → (0 < bodySize (getD input pos 0)) × (pos + bodySize (getD input pos 0) < length input)
-unfolding isReadable
-readable input pos e =
-    let n = bodySize (getD input pos 0) in
-    let h = and-true (ltb 0 n) _ e in (ltb-true 0 n (h .0), ltb-true (pos + n) (length input) (h .1))
+-- a whole step has a body, and lies inside
+pub whole-step : (n pos size : ℕ) → isWhole n pos size ≡ true → (0 < n) × (pos + n < size)
+unfolding isWhole
+whole-step n pos size e = let h = and-true (ltb 0 n) _ e in (ltb-true 0 n (h .0), ltb-true (pos + n) size (h .1))

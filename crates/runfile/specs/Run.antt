@@ -50,9 +50,13 @@ cutShort r k = record { pos = r .pos; ledger = r .ledger; journal = r .journal; 
 unfoldable pub ended : List ℕ → Run → Bool
 ended input r = cond (r .over) true (leb (length input) (r .pos))
 
--- the step at pos can be read: its kind is known and its body is all there
-unfoldable pub isReadable : List ℕ → ℕ → Bool
-isReadable input pos = let n = bodySize (getD input pos 0) in ltb 0 n && ltb (pos + n) (length input)
+-- a step at pos with a body of n bytes, in a file of so many: its kind is known and its body is all there
+unfoldable pub isWhole : ℕ → ℕ → ℕ → Bool
+isWhole n pos size = ltb 0 n && ltb (pos + n) size
+
+-- the step at pos can be read
+abbrev pub isReadable : List ℕ → ℕ → Bool
+isReadable input pos = isWhole (bodySize (getD input pos 0)) pos (length input)
 
 abbrev pub commandOf : List ℕ → Run → Command
 commandOf input r = commandAt (getD input (r .pos) 0) input (r .pos + 1)

@@ -25,10 +25,11 @@ pub fn run(input: &[u8], out: &mut [u8]) -> usize
     let mut at: usize = 0;
     let mut k: u32 = 0;
     while pos < input.len() {
-        if !steps::is_readable(input, pos) {
+        let kind = input[pos];
+        let n = steps::body_size(kind);
+        if !steps::is_whole(n, pos, input.len()) {
             return text::put_line(out, at, k + 1, 2, 0);
         }
-        let kind = input[pos];
         let outcome = steps::step(
             kind,
             settings,
@@ -40,7 +41,7 @@ pub fn run(input: &[u8], out: &mut [u8]) -> usize
             pos + 1,
         );
         k += 1;
-        pos = pos + steps::body_size(kind) + 1;
+        pos = pos + n + 1;
         at = text::put_line(out, at, k, outcome.number() as u32, steps::value(outcome));
     }
     at

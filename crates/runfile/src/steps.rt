@@ -5,7 +5,7 @@ ghost use lib.ListN.{length};
 ghost use Rattle.runfile.specs.Steps.{bodySize, commandAt};
 ghost use Rattle.outcome.specs.Figures.{valueOf};
 ghost use Rattle.engine.specs.Kept.{Kept, Modest};
-ghost use Rattle.runfile.specs.Run.{isReadable};
+ghost use Rattle.runfile.specs.Run.{isWhole};
 ghost use Rattle.runfile.specs.Tables.{Stepped};
 use crate::header;
 use ledger::Settings;
@@ -28,14 +28,13 @@ pub(crate) fn body_size(kind: u8) -> usize
     }
 }
 
-// The step at `pos` has a known kind, and its body is all there.
-pub(crate) fn is_readable(input: &[u8], pos: usize) -> bool
-    requires { ⌜ (pos < length (now input)) × (length (now input) ≤ 65536) ⌝ }
-    ensures { λ r. ⌜ r ≡ isReadable (now (input .entry)) pos ⌝ }
+// A step at `pos` with a body of n bytes has a known kind, and its body is all there.
+pub(crate) fn is_whole(n: usize, pos: usize, length: usize) -> bool
+    requires { ⌜ (n ≤ 100) × (pos < 65536) ⌝ }
+    ensures { λ r. ⌜ r ≡ isWhole n pos length ⌝ }
 {
-    let n = body_size(input[pos]);
     if 0 < n {
-        return pos + n < input.len();
+        return pos + n < length;
     }
     false
 }

@@ -3,7 +3,7 @@
 use Rattle.runfile.specs.Text.{Put}
 use Rattle.runfile.specs.Run.{after, going, opens}
 use Rattle.runfile.proofs.Writing.{then}
-use Rattle.runfile.proofs.Turns.{done, next, open-when, opened-is, readable, refused-run, unreadable}
+use Rattle.runfile.proofs.Turns.{done, next, open-when, opened-is, refused-run, unreadable, whole-step}
 use Rattle.runfile.proofs.Short.{number-few}
 use Rattle.engine.specs.Layout.{ledgerIn}
 use Rattle.engine.specs.Kept.{Kept}
@@ -74,8 +74,14 @@ loop-holds c = let o = sym (c .before .before .opens .ensures) ∙ not-false _ (
       room = omega arith;
     }
 
-is-readable-requires : tie.Need-is-readable-requires Inv-loop μ-loop
-is-readable-requires c κs = (c .loop-test .taken, c .before .loop .inv .few)
+shared-slice-read-kind : tie.Need-shared-slice-read-kind Inv-loop μ-loop
+shared-slice-read-kind c = omega arith
+
+body-size-requires : tie.Need-body-size-requires Inv-loop μ-loop
+body-size-requires c κs = search needs
+
+is-whole-requires : tie.Need-is-whole-requires Inv-loop μ-loop
+is-whole-requires c κs = omega arith
 
 add-put-line : tie.Need-add-put-line Inv-loop μ-loop
 add-put-line c = omega arith
@@ -84,40 +90,36 @@ put-line-requires-2 : tie.Need-put-line-requires-2 Inv-loop μ-loop
 put-line-requires-2 c κs = omega arith
 
 same-length-2 : tie.Need-same-length-2 Inv-loop μ-loop
-same-length-2 c = c .before .before .put-line2 .kept .0 ∙ c .before .before .before .before .before .before .before .loop .inv .same
+same-length-2 c = c .before .before .put-line2 .kept .0 ∙ c .before .before .before .before .before .before .before .before .before .loop .inv .same
 
 returns-2 : tie.Need-returns-2 Inv-loop μ-loop
-returns-2 c = let l = c .before .before .before .before .before .before .before .loop .inv in (
-  rw (unreadable _ _ _ _ _ _ (l .is) (l .open·) (c .before .before .before .before .before .before .loop-test .taken) (omega arith) (sym (c .before .before .before .before .before .is-readable .ensures) ∙ not-true _ (c .before .before .before .before .if2 .taken))) (then (l .put) (c .before .before .put-line2 .ensures .0)),
+returns-2 c = let l = c .before .before .before .before .before .before .before .before .before .loop .inv in (
+  rw (unreadable _ _ _ _ _ _ (l .is) (l .open·) (c .before .before .before .before .before .before .before .before .loop-test .taken) _ (c .before .before .before .before .before .before .body-size .ensures .0) (omega arith) (sym (c .before .before .before .before .before .is-whole .ensures) ∙ not-true _ (c .before .before .before .before .if2 .taken))) (then (l .put) (c .before .before .put-line2 .ensures .0)),
   omega (arith, l .room, l .steps, l .few),
 )
 
-shared-slice-read-kind : tie.Need-shared-slice-read-kind Inv-loop μ-loop
-shared-slice-read-kind c = omega arith
-
 slice-aggregate-step : tie.Need-slice-aggregate-step Inv-loop μ-loop
-slice-aggregate-step c = sym (c .before .before .before .before .before .loop .inv .kept .ready .sound .size)
+slice-aggregate-step c = sym (c .before .before .before .before .before .before .loop .inv .kept .ready .sound .size)
 
 slice-aggregate-step-2 : tie.Need-slice-aggregate-step-2 Inv-loop μ-loop
-slice-aggregate-step-2 c = sym (c .before .before .before .before .before .before .loop .inv .kept .ready .full)
+slice-aggregate-step-2 c = sym (c .before .before .before .before .before .before .before .loop .inv .kept .ready .full)
 
 slice-aggregate-step-3 : tie.Need-slice-aggregate-step-3 Inv-loop μ-loop
-slice-aggregate-step-3 c = sym (c .before .before .before .before .before .before .before .loop .inv .kept .ready .indexed .size)
+slice-aggregate-step-3 c = sym (c .before .before .before .before .before .before .before .before .loop .inv .kept .ready .indexed .size)
 
 slice-aggregate-step-4 : tie.Need-slice-aggregate-step-4 Inv-loop μ-loop
-slice-aggregate-step-4 c = sym (c .before .before .before .before .before .before .before .before .loop .inv .kept .sieved .size)
+slice-aggregate-step-4 c = sym (c .before .before .before .before .before .before .before .before .before .loop .inv .kept .sieved .size)
 
 add-step : tie.Need-add-step Inv-loop μ-loop
 add-step c = omega arith
 
 step-requires : tie.Need-step-requires Inv-loop μ-loop
-step-requires c κs = let h = readable _ _ (sym (c .before .before .before .before .before .before .is-readable .ensures) ∙ not-false _ (c .before .before .before .before .before .if2 .left)) in (c .before .before .before .before .before .before .before .before .loop .inv .kept, omega arith, h .0, omega (arith, h .1))
+step-requires c κs = let h = whole-step _ _ _ (sym (c .before .before .before .before .before .is-whole .ensures) ∙ not-false _ (c .before .before .before .before .if2 .left)) in
+    let b = c .before .before .before .before .before .before .body-size .ensures .0 in
+    (c .before .before .before .before .before .before .before .before .before .loop .inv .kept, omega arith, omega (arith, h .0, b), omega (arith, h .1, b))
 
 add-k : tie.Need-add-k Inv-loop μ-loop
 add-k c = omega arith
-
-body-size-requires : tie.Need-body-size-requires Inv-loop μ-loop
-body-size-requires c κs = search needs
 
 add-pos : tie.Need-add-pos Inv-loop μ-loop
 add-pos c = omega arith
@@ -132,30 +134,29 @@ cast-put-line : tie.Need-cast-put-line Inv-loop μ-loop
 cast-put-line c = search needs
 
 value-requires : tie.Need-value-requires Inv-loop μ-loop
-value-requires c κs = c .before .before .before .before .before .before .before .step .ensures .modest
+value-requires c κs = c .before .before .before .before .before .before .step .ensures .modest
 
 put-line-requires-3 : tie.Need-put-line-requires-3 Inv-loop μ-loop
-put-line-requires-3 c κs = (record { step-digits = omega arith; number-digits = number-few (c .before .before .before .before .before .before .before .before .step .result) _ (c .before .number .ensures); value-digits = c .value .ensures .1 }, omega arith)
+put-line-requires-3 c κs = (record { step-digits = omega arith; number-digits = number-few (c .before .before .before .before .before .before .before .step .result) _ (c .before .number .ensures); value-digits = c .value .ensures .1 }, omega arith)
 
 loop-less : tie.Need-loop-less Inv-loop μ-loop
 loop-less c = omega arith
 
 loop-again : tie.Need-loop-again Inv-loop μ-loop
 loop-again c = let l = c .before .before .before .before .before .before .before .before .before .before .before .before .before .before .before .before .before .before .before .before .loop .inv in
-    let e = sym (c .before .before .before .before .before .before .before .before .before .before .before .before .before .before .before .before .before .before .is-readable .ensures) ∙ not-false _ (c .before .before .before .before .before .before .before .before .before .before .before .before .before .before .before .before .before .if2 .left) in
-    let h = readable _ _ e in
-    let s = c .before .before .before .before .before .before .before .before .before .before .before .step .ensures in
-    let b = c .before .before .before .before .before .before .body-size .ensures .0 in
+    let e = sym (c .before .before .before .before .before .before .before .before .before .before .before .before .before .before .before .before .is-whole .ensures) ∙ not-false _ (c .before .before .before .before .before .before .before .before .before .before .before .before .before .before .before .if2 .left) in
+    let h = whole-step _ _ _ e in
+    let s = c .before .before .before .before .before .before .before .before .before .before .step .ensures in
     record {
       text = _;
-      is = next _ _ _ _ _ _ (l .is) (l .open·) (c .before .before .before .before .before .before .before .before .before .before .before .before .before .before .before .before .before .before .before .loop-test .taken) e _ (sym (s .reply)) _ (s .written) _ b _ _ (c .before .before .before .before .number .ensures) (c .before .before .before .value .ensures .0);
+      is = next _ _ _ _ _ _ (l .is) (l .open·) (c .before .before .before .before .before .before .before .before .before .before .before .before .before .before .before .before .before .before .before .loop-test .taken) _ (c .before .before .before .before .before .before .before .before .before .before .before .before .before .before .before .before .before .body-size .ensures .0) e _ (sym (s .reply)) _ (s .written) _ _ (c .before .before .before .before .number .ensures) (c .before .before .before .value .ensures .0);
       open· = l .open·;
       few = l .few;
       put = then (l .put) (c .before .before .put-line3 .ensures .0);
       same = c .before .before .put-line3 .kept .0 ∙ l .same;
       kept = s .kept;
-      steps = omega (arith, h .0, b);
-      inside = omega (arith, h .1, b);
+      steps = omega (arith, h .0);
+      inside = omega (arith, h .1);
       room = omega arith;
     }
 
@@ -177,12 +178,13 @@ run-spec =
     returns
     settings-in-requires
     loop-holds
-    is-readable-requires
+    shared-slice-read-kind
+    body-size-requires
+    is-whole-requires
     add-put-line
     put-line-requires-2
     same-length-2
     returns-2
-    shared-slice-read-kind
     slice-aggregate-step
     slice-aggregate-step-2
     slice-aggregate-step-3
@@ -190,7 +192,6 @@ run-spec =
     add-step
     step-requires
     add-k
-    body-size-requires
     add-pos
     add-pos-2
     number-requires
