@@ -1,7 +1,7 @@
 //! The proved program, called in process.
 
 /// As long as the longest text that the proved program can write.
-pub const TEXT: usize = 1_081_344;
+pub const TEXT: usize = 458_696;
 
 extern "C" {
     fn custody_run(input: *const u8, input_len: usize, out: *mut u8, out_len: usize) -> usize;

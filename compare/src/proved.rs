@@ -4,7 +4,7 @@ use std::io::Write;
 use std::process::{Command, Stdio};
 
 /// No run prints more than this.
-pub const LONGEST_TEXT: usize = 1_081_344;
+pub const LONGEST_TEXT: usize = 458_696;
 
 extern "C" {
     fn custody_run(input: *const u8, input_len: usize, out: *mut u8, out_len: usize) -> usize;

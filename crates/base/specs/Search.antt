@@ -1,5 +1,4 @@
 -- Searches and sums over the numbers below a bound. Nearly every check is one of them.
-use mathlib.Core.Path.{_≡_}
 use mathlib.Core.Bool.{Bool, true, false, cond, _&&_, _||_}
 use Prim.Native.Nat.{ℕ, zero, suc, _+_, _<_}
 

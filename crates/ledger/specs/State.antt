@@ -2,18 +2,16 @@
 -- acknowledgement are recorded, the arrival order, and the vaults. Each change goes through one definition here.
 use mathlib.Core.Bool.{Bool, cond, _&&_, _||_}
 use mathlib.Core.List.{List}
-use Prim.Native.Nat.{ℕ, suc, _+_}
-use lib.Dec.{eqb, leb, ltb}
-use lib.Count.{ones}
+use Prim.Native.Nat.{ℕ, _+_}
+use lib.Dec.{eqb, leb}
 use lib.ListN.{getD, set, replicate, take}
 use Rattle.base.specs.Search.{anyBelow}
 use Rattle.sets.specs.Bits.{withMember}
-use Rattle.ledger.specs.declared.Settings.{Settings}
 use Rattle.ledger.specs.declared.Vault.{Vault}
 use Rattle.ledger.specs.declared.Ledger.{Ledger}
 use Rattle.ledger.specs.Federation.{isLawful}
 use Rattle.ledger.specs.Journal.{capacity}
-use Rattle.ledger.specs.Vaults.{newVault, holding}
+use Rattle.ledger.specs.Vaults.{newVault}
 
 -- ---- views
 

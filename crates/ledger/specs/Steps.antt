@@ -1,6 +1,6 @@
 -- The steps. Each is a row of checks, in the order that document 01 gives for its kind, and what is done where they pass.
 -- A state that no run can reach is turned back with 1, settings wrong, before every other check.
-use mathlib.Core.Bool.{Bool, true, false, cond, not, _&&_, Bool·beq}
+use mathlib.Core.Bool.{Bool, true, false, cond, Bool·beq}
 use mathlib.Core.List.{List}
 use Prim.Native.Nat.{ℕ}
 use lib.Dec.{leb, ltb}

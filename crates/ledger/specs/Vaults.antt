@@ -7,7 +7,6 @@ use Rattle.outcome.specs.declared.Verdict.the-variants.{Pass, Fail}
 use Rattle.sets.specs.Jobs.{jobHas, jobWith, jobWithout}
 use Rattle.ledger.specs.declared.Vault.{Vault}
 use Rattle.ledger.specs.declared.Signing.{Signing}
-use Rattle.ledger.specs.declared.Consent.{Consent}
 use Rattle.ledger.specs.declared.Consent.the-variants.{Already, Fresh, Denied}
 use Rattle.ledger.specs.Journal.{jobAt}
 use Rattle.ledger.specs.Admission.{admission}

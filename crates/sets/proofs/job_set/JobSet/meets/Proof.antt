@@ -7,8 +7,6 @@ use Rattle.base.proofs.Tests.{or-no}
 use Rattle.sets.specs.Jobs.{jobsMeet}
 use Rattle.sets.proofs.job_set.JobSet.meets.Statement.{statement}
 use Rattle.sets.proofs.job_set.JobSet.meets.Tie as tie
-use Rattle.sets.proofs.job_set.JobSet.meets.Reads as reads
-use Rattle.sets.proofs.job_set.JobSet.meets.Lts as lts
 
 returns : tie.Need-returns
 unfolding jobsMeet
