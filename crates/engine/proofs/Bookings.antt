@@ -11,6 +11,7 @@ use lib.Dec.{ltb}
 use lib.ListN.{getD, length, length-set, set}
 use lib.Seq.{getD-set-other, getD-set-same}
 use borrow.Author.Tests.{eq-eqb, le-leb, le-ltb, lt-ltb, ltb-false, ltb-true}
+use Rattle.base.proofs.Reflect.{and-false}
 use Rattle.base.proofs.Lists.{reflect-same}
 use Rattle.base.proofs.Search.{first-any, first-le, first-least, first-same}
 use Rattle.base.specs.Search.{anyBelow, firstBelow}
@@ -52,10 +53,6 @@ job-slot journal b k full few l = simp (le-leb b _ fits, lt-ltb k b l)
   where
     fits : b ≤ length journal / 100
     fits = omega (arith, full, few)
-
-and-false : (a : Bool) → (a && false) ≡ false
-and-false true = refl
-and-false false = refl
 
 and-self : (a : Bool) → (a && a) ≡ a
 and-self true = refl

@@ -10,7 +10,7 @@ use native.Mathlib.Nat.{not-suc-le-zero, zero-add}
 use native.Mathlib.Omega.{arith}
 use lib.Dec.{leb, ltb}
 use borrow.Author.Tests.{le-leb, le-ltb, leb-false, leb-true, lt-leb, lt-ltb, ltb-false, ltb-true}
-use Rattle.base.proofs.Reflect.{and-true, not-true-false, or-intro, or-true}
+use Rattle.base.proofs.Reflect.{and-false, and-true, not-true-false, or-intro, or-true}
 use Rattle.base.proofs.Search.{any-elim, any-intro, any-none, any-same, first-any, first-least, first-none, least-first, none-any}
 use Rattle.base.specs.Search.{anyBelow, firstBelow}
 use Rattle.outcome.specs.declared.Refusal.the-variants.{InputReserved, NotCreated, OutputReserved, Retired}
@@ -28,10 +28,6 @@ use Rattle.index.proofs.Seeks.{shares-input, shares-made, shares-output
 use Rattle.index.specs.Checks.{admissionBy, firstMet, firstUnmet, metAt, unmetAt}
 use Rattle.index.specs.Slots.{Indexed, place, shares}
 use Rattle.index.specs.Words.{setAt}
-
-and-false : (a : Bool) → (a && false) ≡ false
-and-false true = refl
-and-false false = refl
 
 -- ---- a slot's set against a set of jobs
 module _ (job : ℕ → Job) (n : ℕ) (index : List ℕ) (x : Indexed job n index) (k : ℕ) (lk : k < n) (few : n ≤ 128) (s : JobSet) (w : InWords s) where
