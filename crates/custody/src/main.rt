@@ -1,5 +1,5 @@
-// Reads a run file from standard input and prints its text. A file of less than 2,048 bytes has a text that fits a small buffer, and most have: so
-// the large ones, which cost more to clear than such a run takes, are there only for a file that needs them.
+// Reads a run file from standard input and prints its text. The text of a file below 2,048 bytes fits a small buffer; the large ones, which take longer
+// to clear than such a run, are there only where they are needed.
 ghost use mathlib.Core.Path.{_≡_};
 ghost use Prim.Native.Nat.{_≤_};
 ghost use lib.ListN.{length};
