@@ -1,8 +1,8 @@
 // Generations, asked of each job before and after it is held.
-use crate::jobs;
-use crate::tell;
 use ledger::Ledger;
 use record::Job;
+use telling::jobs;
+use telling::tell;
 
 fn aged(l: Ledger, journal: &mut [u8], name: &[u8], number: u8, job: Job) -> Ledger {
     let l = tell::propose(l, journal, name, job);

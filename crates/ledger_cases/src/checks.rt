@@ -1,8 +1,8 @@
 // Checks 11 to 14 at vaults that hold or have signed other jobs.
-use crate::jobs;
-use crate::tell;
 use ledger::Ledger;
 use record::Entry;
+use telling::jobs;
+use telling::tell;
 
 fn a() -> Entry {
     jobs::tape(b"AAAAAAL6", 10)

@@ -2,22 +2,14 @@
 // the answer. Document 01 decides what they must be; `stdout` holds them.
 mod ages;
 mod checks;
-mod jobs;
-mod lent;
-mod ranges;
 mod run;
 mod settings;
-mod tell;
 mod votes;
 
 fn main() {
     run::run();
     settings::settings();
     settings::unlawful();
-    lent::lent();
-    lent::unbooked_equal();
-    lent::full();
-    ranges::ranges();
     checks::checks();
     votes::votes();
     ages::ages();

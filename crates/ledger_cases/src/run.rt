@@ -1,7 +1,7 @@
 // Document 01's run: the lines are the document's.
-use crate::jobs;
-use crate::tell;
 use ledger::Ledger;
+use telling::jobs;
+use telling::tell;
 
 fn booked(journal: &mut [u8]) -> Ledger {
     let mut bytes = [0u8; 100];

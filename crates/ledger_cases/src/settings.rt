@@ -1,7 +1,7 @@
 // Settings that document 01 allows and settings that it refuses.
-use crate::jobs;
-use crate::tell;
 use ledger::Ledger;
+use telling::jobs;
+use telling::tell;
 
 fn set(name: &[u8], n: u8, b: u8, faulty: u16) {
     let outcome = Ledger::new(n, b, faulty).outcome;

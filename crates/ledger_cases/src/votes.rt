@@ -1,7 +1,7 @@
 // Signatures and acknowledgements counted: repeats, and what show says of them.
-use crate::jobs;
-use crate::tell;
 use ledger::Ledger;
+use telling::jobs;
+use telling::tell;
 
 // Four vaults, the last faulty: signatures up to the threshold.
 fn signed(l: Ledger, journal: &[u8]) -> Ledger {

@@ -1,8 +1,8 @@
 // Journals lent shorter or longer than the booked records, and a full one.
-use crate::jobs;
-use crate::tell;
 use ledger::Ledger;
 use record::Job;
+use telling::jobs;
+use telling::tell;
 
 // The first n bytes, or all where there are fewer.
 fn part(journal: &[u8], n: usize) -> &[u8] {

@@ -2,8 +2,8 @@
 -- Assumes nothing.
 use Prim.Native.Nat.{_-_, _<_, _^_, _≤_}
 use borrow.Author.Needs.{needs}
-use Rattle.ledger_cases.proofs.jobs.label.Statement.{statement}
-use Rattle.ledger_cases.proofs.jobs.label.Tie as tie
+use Rattle.telling.proofs.jobs.label.Statement.{statement}
+use Rattle.telling.proofs.jobs.label.Tie as tie
 
 abbrev Inv-loop : tie.InvT-loop
 Inv-loop s sum₀ i₀ sum i = (i ≤ 8) × (sum < 2 ^ 64)

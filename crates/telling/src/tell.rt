@@ -1,4 +1,6 @@
 // Each kind of step, carried out and printed.
+ghost use mathlib.Core.Path.{_≡_};
+ghost use Rattle.ledger.specs.Steps.{commitOf, faultyAcknowledgeOf, faultySignOf, preflightOf};
 use ledger::Ledger;
 use ledger::Reply;
 use libc::STDOUT_FILENO;
@@ -19,20 +21,22 @@ fn argument(x: u64) {
 }
 
 // A line: the name, and the figures of the answer.
-pub(crate) fn step(name: &[u8], outcome: Outcome) {
+pub fn step(name: &[u8], outcome: Outcome) {
     io::write_all(STDOUT_FILENO, name);
     figures(outcome.number() as u64, outcome.value() as u64);
 }
 
 // The line of a step, and the ledger that it left.
-pub(crate) fn told(name: &[u8], reply: Reply) -> Ledger {
+pub fn told(name: &[u8], reply: Reply) -> Ledger
+    ensures { λ r. ⌜ r ≡ reply .ledger ⌝ }
+{
     let outcome = reply.outcome;
     step(name, outcome);
     reply.ledger
 }
 
 // Starts the lines of a sequence.
-pub(crate) fn heading(name: &[u8]) {
+pub fn heading(name: &[u8]) {
     io::write_all(STDOUT_FILENO, name);
     io::write_all(STDOUT_FILENO, b":\n");
 }
@@ -44,7 +48,7 @@ fn named(name: &[u8], vault: u8, job: u8) {
     argument(job as u64);
 }
 
-pub(crate) fn propose(l: Ledger, journal: &mut [u8], name: &[u8], job: Job) -> Ledger {
+pub fn propose(l: Ledger, journal: &mut [u8], name: &[u8], job: Job) -> Ledger {
     let mut bytes = [0u8; 100];
     record::write(job, &mut bytes);
     let reply = l.propose(journal, &bytes);
@@ -52,41 +56,49 @@ pub(crate) fn propose(l: Ledger, journal: &mut [u8], name: &[u8], job: Job) -> L
     told(name, reply)
 }
 
-pub(crate) fn preflight(l: Ledger, journal: &[u8], vault: u8, job: u8) -> Ledger {
+pub fn preflight(l: Ledger, journal: &[u8], vault: u8, job: u8) -> Ledger
+    ensures { λ r. ⌜ r ≡ preflightOf l (now (journal .entry)) vault job .ledger ⌝ }
+{
     named(b"preflight", vault, job);
     told(b"", l.preflight(journal, vault, job))
 }
 
-pub(crate) fn commit(l: Ledger, journal: &[u8], vault: u8, job: u8, signers: u16) -> Ledger {
+pub fn commit(l: Ledger, journal: &[u8], vault: u8, job: u8, signers: u16) -> Ledger
+    ensures { λ r. ⌜ r ≡ commitOf l (now (journal .entry)) vault job signers .ledger ⌝ }
+{
     named(b"commit", vault, job);
     argument(signers as u64);
     told(b"", l.commit(journal, vault, job, signers))
 }
 
-pub(crate) fn sign(l: Ledger, journal: &[u8], vault: u8, job: u8) -> Ledger {
+pub fn sign(l: Ledger, journal: &[u8], vault: u8, job: u8) -> Ledger
+    ensures { λ r. ⌜ r ≡ faultySignOf l (now (journal .entry)) vault job .ledger ⌝ }
+{
     named(b"faulty-sign", vault, job);
     told(b"", l.faulty_sign(journal, vault, job))
 }
 
-pub(crate) fn acknowledge(l: Ledger, journal: &[u8], vault: u8, job: u8) -> Ledger {
+pub fn acknowledge(l: Ledger, journal: &[u8], vault: u8, job: u8) -> Ledger
+    ensures { λ r. ⌜ r ≡ faultyAcknowledgeOf l (now (journal .entry)) vault job .ledger ⌝ }
+{
     named(b"faulty-acknowledge", vault, job);
     told(b"", l.faulty_acknowledge(journal, vault, job))
 }
 
-pub(crate) fn show(l: Ledger, journal: &[u8], job: u8) {
+pub fn show(l: Ledger, journal: &[u8], job: u8) {
     io::write_all(STDOUT_FILENO, b"show");
     argument(job as u64);
     step(b"", l.show(journal, job));
 }
 
-pub(crate) fn generations(l: Ledger, journal: &[u8], job: u8) {
+pub fn generations(l: Ledger, journal: &[u8], job: u8) {
     io::write_all(STDOUT_FILENO, b"generations");
     argument(job as u64);
     step(b"", l.generations(journal, job));
 }
 
 // The length of the part shown, and the frames of its first output.
-pub(crate) fn lookup(l: Ledger, journal: &[u8], job: u8) {
+pub fn lookup(l: Ledger, journal: &[u8], job: u8) {
     io::write_all(STDOUT_FILENO, b"lookup");
     argument(job as u64);
     let part = l.lookup(journal, job);

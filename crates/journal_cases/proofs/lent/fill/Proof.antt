@@ -2,8 +2,8 @@
 -- Assumes nothing.
 use Prim.Native.Nat.{_-_, _≤_}
 use borrow.Author.Needs.{needs}
-use Rattle.ledger_cases.proofs.lent.fill.Statement.{statement}
-use Rattle.ledger_cases.proofs.lent.fill.Tie as tie
+use Rattle.journal_cases.proofs.lent.fill.Statement.{statement}
+use Rattle.journal_cases.proofs.lent.fill.Tie as tie
 
 abbrev Inv-loop : tie.InvT-loop
 Inv-loop journal₀ l₀ i₀ journal l i = i ≤ 131

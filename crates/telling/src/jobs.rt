@@ -18,7 +18,7 @@ fn wide(x: u8) -> u64
     x as u64
 }
 
-pub(crate) fn tape(s: &[u8; 8], frames: u32) -> Entry {
+pub fn tape(s: &[u8; 8], frames: u32) -> Entry {
     Entry {
         label: label(s),
         frames,
@@ -32,7 +32,7 @@ fn none() -> Entry {
     }
 }
 
-pub(crate) fn accession(to: Entry) -> Job {
+pub fn accession(to: Entry) -> Job {
     let z = none();
     Job {
         kind: 0,
@@ -43,7 +43,7 @@ pub(crate) fn accession(to: Entry) -> Job {
     }
 }
 
-pub(crate) fn accession_two(to: Entry, second: Entry) -> Job {
+pub fn accession_two(to: Entry, second: Entry) -> Job {
     let z = none();
     Job {
         kind: 0,
@@ -54,7 +54,7 @@ pub(crate) fn accession_two(to: Entry, second: Entry) -> Job {
     }
 }
 
-pub(crate) fn migration(from: Entry, to: Entry) -> Job {
+pub fn migration(from: Entry, to: Entry) -> Job {
     let z = none();
     Job {
         kind: 1,
@@ -66,7 +66,7 @@ pub(crate) fn migration(from: Entry, to: Entry) -> Job {
 }
 
 // Two tapes to one.
-pub(crate) fn merger(from: Entry, second: Entry, to: Entry) -> Job {
+pub fn merger(from: Entry, second: Entry, to: Entry) -> Job {
     let z = none();
     Job {
         kind: 1,
@@ -78,7 +78,7 @@ pub(crate) fn merger(from: Entry, second: Entry, to: Entry) -> Job {
 }
 
 // One tape to two.
-pub(crate) fn split(from: Entry, to: Entry, second: Entry) -> Job {
+pub fn split(from: Entry, to: Entry, second: Entry) -> Job {
     let z = none();
     Job {
         kind: 1,
@@ -90,10 +90,10 @@ pub(crate) fn split(from: Entry, to: Entry, second: Entry) -> Job {
 }
 
 // The two jobs of document 01's run.
-pub(crate) fn master() -> Job {
+pub fn master() -> Job {
     accession(tape(b"VAA001L5", 1000))
 }
 
-pub(crate) fn copy() -> Job {
+pub fn copy() -> Job {
     migration(tape(b"VAA001L5", 1000), tape(b"VAB001L7", 1000))
 }

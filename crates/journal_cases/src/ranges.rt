@@ -1,7 +1,7 @@
 // Jobs, vaults, sets of signers and records out of range.
-use crate::jobs;
-use crate::tell;
 use ledger::Ledger;
+use telling::jobs;
+use telling::tell;
 
 // Steps of a job at a correct vault and at the faulty one.
 fn of_job(l: Ledger, journal: &[u8], job: u8) -> Ledger {

@@ -1,0 +1,40 @@
+-- The ledger of the step's reply.
+-- Assumes nothing.
+use Rattle.ledger.specs.declared.Reply.{Reply}
+use mathlib.Core.Path.{_∙_, ap}
+use borrow.Author.Needs.{needs}
+use Rattle.telling.proofs.tell.commit.Statement.{statement}
+use Rattle.telling.proofs.tell.commit.Tie as tie
+
+slice-aggregate-named : tie.Need-slice-aggregate-named
+slice-aggregate-named c = search needs
+
+named-requires : tie.Need-named-requires
+named-requires c κs = search needs
+
+argument-requires : tie.Need-argument-requires
+argument-requires c κs = search needs
+
+slice-aggregate-told : tie.Need-slice-aggregate-told
+slice-aggregate-told c = search needs
+
+commit-requires : tie.Need-commit-requires
+commit-requires c κs = search needs
+
+told-requires : tie.Need-told-requires
+told-requires c κs = search needs
+
+returns : tie.Need-returns
+returns c = c .told .ensures ∙ ap (λ (x : Reply). x .ledger) (c .before .commit .ensures)
+
+pub commit-spec : {M : Type 1} → statement M
+commit-spec =
+    tie.close
+    (tie.spec
+    slice-aggregate-named
+    named-requires
+    argument-requires
+    slice-aggregate-told
+    commit-requires
+    told-requires
+    returns)
