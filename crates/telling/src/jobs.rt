@@ -1,5 +1,8 @@
 // The tapes and jobs of the sequences, all for drive 7.
+ghost use mathlib.Core.List.{_∷_, []};
+ghost use mathlib.Core.Path.{_≡_};
 ghost use Prim.Native.Nat.{_<_};
+ghost use Rattle.telling.specs.Samples.{jobWith, unused};
 use record::Entry;
 use record::Job;
 
@@ -25,67 +28,70 @@ pub fn tape(s: &[u8; 8], frames: u32) -> Entry {
     }
 }
 
-fn none() -> Entry {
-    Entry {
-        label: 0,
-        frames: 0,
-    }
-}
+const NONE: Entry = Entry {
+    label: 0,
+    frames: 0,
+};
 
-pub fn accession(to: Entry) -> Job {
-    let z = none();
+pub fn accession(to: Entry) -> Job
+    ensures { λ r. ⌜ r ≡ jobWith 0 0 1 (unused ∷ unused ∷ unused ∷ unused ∷ to ∷ unused ∷ unused ∷ unused ∷ []) ⌝ }
+{
     Job {
         kind: 0,
         drive: 7,
         inputs: 0,
         outputs: 1,
-        entries: [z, z, z, z, to, z, z, z],
+        entries: [NONE, NONE, NONE, NONE, to, NONE, NONE, NONE],
     }
 }
 
-pub fn accession_two(to: Entry, second: Entry) -> Job {
-    let z = none();
+pub fn accession_two(to: Entry, second: Entry) -> Job
+    ensures { λ r. ⌜ r ≡ jobWith 0 0 2 (unused ∷ unused ∷ unused ∷ unused ∷ to ∷ second ∷ unused ∷ unused ∷ []) ⌝ }
+{
     Job {
         kind: 0,
         drive: 7,
         inputs: 0,
         outputs: 2,
-        entries: [z, z, z, z, to, second, z, z],
+        entries: [NONE, NONE, NONE, NONE, to, second, NONE, NONE],
     }
 }
 
-pub fn migration(from: Entry, to: Entry) -> Job {
-    let z = none();
+pub fn migration(from: Entry, to: Entry) -> Job
+    ensures { λ r. ⌜ r ≡ jobWith 1 1 1 (from ∷ unused ∷ unused ∷ unused ∷ to ∷ unused ∷ unused ∷ unused ∷ []) ⌝ }
+{
     Job {
         kind: 1,
         drive: 7,
         inputs: 1,
         outputs: 1,
-        entries: [from, z, z, z, to, z, z, z],
+        entries: [from, NONE, NONE, NONE, to, NONE, NONE, NONE],
     }
 }
 
 // Two tapes to one.
-pub fn merger(from: Entry, second: Entry, to: Entry) -> Job {
-    let z = none();
+pub fn merger(from: Entry, second: Entry, to: Entry) -> Job
+    ensures { λ r. ⌜ r ≡ jobWith 1 2 1 (from ∷ second ∷ unused ∷ unused ∷ to ∷ unused ∷ unused ∷ unused ∷ []) ⌝ }
+{
     Job {
         kind: 1,
         drive: 7,
         inputs: 2,
         outputs: 1,
-        entries: [from, second, z, z, to, z, z, z],
+        entries: [from, second, NONE, NONE, to, NONE, NONE, NONE],
     }
 }
 
 // One tape to two.
-pub fn split(from: Entry, to: Entry, second: Entry) -> Job {
-    let z = none();
+pub fn split(from: Entry, to: Entry, second: Entry) -> Job
+    ensures { λ r. ⌜ r ≡ jobWith 1 1 2 (from ∷ unused ∷ unused ∷ unused ∷ to ∷ second ∷ unused ∷ unused ∷ []) ⌝ }
+{
     Job {
         kind: 1,
         drive: 7,
         inputs: 1,
         outputs: 2,
-        entries: [from, z, z, z, to, second, z, z],
+        entries: [from, NONE, NONE, NONE, to, second, NONE, NONE],
     }
 }
 

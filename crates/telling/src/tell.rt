@@ -1,6 +1,8 @@
 // Each kind of step, carried out and printed.
 ghost use mathlib.Core.Path.{_≡_};
-ghost use Rattle.ledger.specs.Steps.{commitOf, faultyAcknowledgeOf, faultySignOf, preflightOf};
+ghost use Rattle.ledger.specs.Steps.{commitOf, faultyAcknowledgeOf, faultySignOf, journalAfter, preflightOf, proposeOf};
+ghost use Rattle.record.specs.Codec.{written};
+ghost use lib.ListN.{replicate};
 use ledger::Ledger;
 use ledger::Reply;
 use libc::STDOUT_FILENO;
@@ -48,7 +50,9 @@ fn named(name: &[u8], vault: u8, job: u8) {
     argument(job as u64);
 }
 
-pub fn propose(l: Ledger, journal: &mut [u8], name: &[u8], job: Job) -> Ledger {
+pub fn propose(l: Ledger, journal: &mut [u8], name: &[u8], job: Job) -> Ledger
+    ensures { λ r. ⌜ (r ≡ proposeOf l (now (journal .entry)) (written job (replicate 100 0)) .ledger) × (now (journal .exit) ≡ journalAfter l (now (journal .entry)) (written job (replicate 100 0))) ⌝ }
+{
     let mut bytes = [0u8; 100];
     record::write(job, &mut bytes);
     let reply = l.propose(journal, &bytes);
