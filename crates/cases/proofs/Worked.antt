@@ -9,8 +9,8 @@ use Rattle.record.specs.Codec.{entriesAt, entryAt, jobOf, leAt}
 use Rattle.record.specs.Drives.{isDrive, supports}
 use Rattle.record.specs.Entries.{framesOf, isUsed, labelOf, usedFrames}
 use Rattle.record.specs.Labels.{charAt, isAlphanumeric, isBetween, isLabel, mediumOf}
-use Rattle.ledger.specs.Federation.{isLawful, thresholdOf}
-use Rattle.ledger.specs.Journal.{equalAt, equalIn, hasRoom, insideOf, slotAt}
+use Rattle.federation.specs.Federation.{isLawful, thresholdOf}
+use Rattle.journal.specs.Journal.{equalAt, equalIn, hasRoom, insideOf, slotAt}
 use Rattle.ledger.specs.State.{booking, isSane, newLedger}
 use Rattle.ledger.specs.Steps.{newOf, newPlace, placeOf, proposeOf}
 use Rattle.draw.specs.Binomials.{choose, factorial}

@@ -11,10 +11,9 @@ use borrow.Author.Tests.{leb-false, leb-true}
 use Rattle.outcome.specs.Figures.{valueOf}
 use Rattle.outcome.specs.declared.Outcome.the-variants.{Done, Refused}
 use Rattle.outcome.specs.declared.Refusal.the-variants.{Settings as BadSettings, TooManyAbsent}
-use Rattle.ledger.proofs.Gates.{reflect-lawful}
-use Rattle.ledger.specs.Federation.{isLawful, thresholdOf}
-use Rattle.ledger.specs.Meaning.{Lawful}
-use Rattle.ledger.specs.declared.Settings.{Settings}
+use Rattle.federation.proofs.Lawful.{reflect-lawful}
+use Rattle.federation.specs.Federation.{Lawful, isLawful, thresholdOf}
+use Rattle.federation.specs.declared.Settings.{Settings}
 use Rattle.draw.proofs.Quotients.{choose-bound, choose-grows, choose-positive}
 use Rattle.draw.proofs.Rounding.{nearest}
 use Rattle.draw.specs.Binomials.{choose}

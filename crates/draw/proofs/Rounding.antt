@@ -5,8 +5,8 @@ use Prim.Native.Nat.{_*_, _+_, _<_, ℕ}
 use native.Mathlib.Nat.{div-add-mod', mod-lt}
 use native.Mathlib.Omega.{arith}
 use lib.Count.{ones}
-use Rattle.ledger.specs.Federation.{isLawful, thresholdOf}
-use Rattle.ledger.specs.declared.Settings.{Settings}
+use Rattle.federation.specs.Federation.{isLawful, thresholdOf}
+use Rattle.federation.specs.declared.Settings.{Settings}
 use Rattle.outcome.specs.declared.Outcome.the-variants.{Done, Refused}
 use Rattle.outcome.specs.declared.Refusal.the-variants.{TooManyAbsent}
 use Rattle.draw.specs.Binomials.{choose, factorial}

@@ -6,8 +6,8 @@ use lib.Dec.{leb}
 use Rattle.outcome.specs.declared.Outcome.{Outcome}
 use Rattle.outcome.specs.declared.Outcome.the-variants.{Done, Refused}
 use Rattle.outcome.specs.declared.Refusal.the-variants.{Settings as BadSettings, TooManyAbsent}
-use Rattle.ledger.specs.Federation.{isLawful, thresholdOf}
-use Rattle.ledger.specs.declared.Settings.{Settings}
+use Rattle.federation.specs.Federation.{isLawful, thresholdOf}
+use Rattle.federation.specs.declared.Settings.{Settings}
 use Rattle.draw.specs.Binomials.{choose}
 
 -- a share in thousandths, halves rounded up

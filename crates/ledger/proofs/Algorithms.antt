@@ -26,9 +26,9 @@ use Rattle.ledger.proofs.Changes.{signedBy}
 use Rattle.ledger.proofs.Gates.{enters}
 use Rattle.ledger.proofs.Paper.{admission-signs, signs-admission}
 use Rattle.ledger.specs.Admission.{admission}
-use Rattle.ledger.specs.Federation.{thresholdOf}
+use Rattle.federation.specs.Federation.{thresholdOf}
 use Rattle.ledger.specs.Graph.{Algorithm1}
-use Rattle.ledger.specs.Journal.{jobAt}
+use Rattle.journal.specs.Journal.{jobAt}
 use Rattle.ledger.specs.Meaning.{Certificate, Entered}
 use Rattle.ledger.specs.Register.{isDone, passes}
 use Rattle.ledger.specs.State.{signersOf, vaultAt}

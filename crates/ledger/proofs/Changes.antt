@@ -31,11 +31,11 @@ use Rattle.ledger.proofs.Paper.{admission-unblocked}
 use Rattle.ledger.proofs.Places.{examined-length, placed-known, placed-new}
 use Rattle.ledger.proofs.Views.{arrives}
 use Rattle.ledger.specs.Demand3.{Correct, HeldBy, recordsIn}
-use Rattle.ledger.specs.Federation.{thresholdOf}
+use Rattle.federation.specs.Federation.{Lawful, thresholdOf}
 use Rattle.ledger.specs.Generations.{generationsOf}
 use Rattle.ledger.specs.Graph.{Unblocked}
-use Rattle.ledger.specs.Journal.{equalAt, equalIn, insideOf, jobAt, slotAt}
-use Rattle.ledger.specs.Meaning.{Entered, KnownAt, Lawful, NewAt, Sane}
+use Rattle.journal.specs.Journal.{equalAt, equalIn, insideOf, jobAt, slotAt}
+use Rattle.ledger.specs.Meaning.{Entered, KnownAt, NewAt, Sane}
 use Rattle.ledger.specs.Register.{isDone, tabled}
 use Rattle.ledger.specs.State.{acknowledged, booking, countersigned, holdersOf, signersOf, vaultAt, withVault}
 use Rattle.ledger.specs.Steps.{andThen, answered, certificate, commitChecks, commitOf, committed, consulted, faultyAcknowledgeOf, faultySignOf, held, journalAfter, journalWith, placeOf, preflightOf, preflighted, proposeOf, proposed, refused, settle, showOf, vaultGate}

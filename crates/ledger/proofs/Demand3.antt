@@ -25,8 +25,7 @@ use Rattle.ledger.proofs.Refusals.{never-one}
 use Rattle.ledger.proofs.Safety.{certified-apart, meeting}
 use Rattle.ledger.proofs.Views.{ackedAt, heldAt, recordedAt, signedAt}
 use Rattle.ledger.specs.Demand3.{Apart, Demand3, Disjoint, Held, Holds, accessionedAlong, recordsIn, standingAlong}
-use Rattle.ledger.specs.Federation.{thresholdOf}
-use Rattle.ledger.specs.Meaning.{Lawful}
+use Rattle.federation.specs.Federation.{Lawful, thresholdOf}
 use Rattle.ledger.specs.Register.{Register, feed, feedAll, isDone, log, newRegister, tabled}
 use Rattle.ledger.specs.State.{holdersOf, newLedger, signersOf, vaultAt}
 use Rattle.ledger.specs.Vaults.{newVault}

@@ -14,12 +14,12 @@ use Rattle.sets.specs.Bits.{hasBit, withMember}
 use Rattle.sets.specs.Jobs.{jobHas}
 use Rattle.ledger.proofs.Changes.{Shape, signedBy}
 use Rattle.ledger.proofs.Views.{Arrives, Grown, ackedAt, arrive-again, arrive-first, arrives, column-below, column-grown, column-ones, grown-row, heldAt, kept-row, plus-job, recordedAt, signedAt}
-use Rattle.ledger.specs.Meaning.{Lawful}
+use Rattle.federation.specs.Federation.{Lawful}
 use Rattle.ledger.specs.State.{acknowledged, arrived, booking, countersigned, hasArrived, holdersOf, isArrival, signersOf, vaultAt, withVault}
 use Rattle.ledger.specs.Steps.{held}
 use Rattle.ledger.specs.Vaults.{holding, newVault, signing}
 use Rattle.ledger.specs.declared.Ledger.{Ledger}
-use Rattle.ledger.specs.declared.Settings.{Settings}
+use Rattle.federation.specs.declared.Settings.{Settings}
 use Rattle.ledger.specs.declared.Vault.{Vault}
 
 -- ---- a vault signs

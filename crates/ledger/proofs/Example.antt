@@ -21,9 +21,9 @@ use Rattle.record.specs.Tapes.{sameTape, usedFrom}
 use Rattle.sets.specs.Bits.{hasBit, subsetOf, withBit, withMember, withoutBit}
 use Rattle.sets.specs.Jobs.{jobHas, jobWith, jobWithout}
 use Rattle.ledger.specs.Admission.{admission, consumedAt, listedBy, listsAt, madeBefore, madeBy, makesAt, notCreatedAt, remadeAt}
-use Rattle.ledger.specs.Federation.{isLawful, thresholdOf}
+use Rattle.federation.specs.Federation.{isLawful, thresholdOf}
 use Rattle.ledger.specs.Generations.{ageOf, createdAt, creatorOf, generationAt, generationFrom, generationsBefore, generationsOf, highest, holdsAt, isHeld, positionOf}
-use Rattle.ledger.specs.Journal.{equalAt, equalIn, hasRoom, insideOf, isBooked, jobAt, putAt, recordAt, slotAt}
+use Rattle.journal.specs.Journal.{equalAt, equalIn, hasRoom, insideOf, isBooked, jobAt, putAt, recordAt, slotAt}
 use Rattle.ledger.specs.Register.{entering, feedAll, feedCommit, feedProposal, isAdmissible, log, newRegister, stopped, taking}
 use Rattle.ledger.specs.State.{acknowledged, arriving, booking, countersigned, hasArrived, holdersOf, isArrival, isSane, newLedger, signersOf, withVault}
 use Rattle.ledger.specs.Steps.{bookedGate, certificate, commitChecks, commitOf, committed, consulted, faultyAcknowledgeOf, faultySignOf, held, journalAfter, newPlace, placeOf, preflightOf, proposeOf, showOf, statusOf, vaultGate}

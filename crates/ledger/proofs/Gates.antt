@@ -15,23 +15,13 @@ use Rattle.outcome.specs.declared.Refusal.{Refusal}
 use Rattle.outcome.specs.declared.Verdict.{Verdict}
 use Rattle.outcome.specs.declared.Verdict.the-variants.{Fail, Pass}
 use Rattle.sets.specs.Bits.{hasBit}
-use Rattle.ledger.specs.Federation.{isLawful}
-use Rattle.ledger.specs.Journal.{capacity, isBooked, slots}
-use Rattle.ledger.specs.Meaning.{Booked, Entered, Lawful, Sane}
+use Rattle.federation.proofs.Lawful.{reflect-lawful}
+use Rattle.journal.proofs.Booked.{reflect-booked}
+use Rattle.journal.specs.Journal.{Booked, capacity}
+use Rattle.ledger.specs.Meaning.{Entered, Sane}
 use Rattle.ledger.specs.State.{isSane}
 use Rattle.ledger.specs.Steps.{andThen, bookedGate, vaultGate}
 use Rattle.ledger.specs.declared.Ledger.{Ledger}
-use Rattle.ledger.specs.declared.Settings.{Settings}
-
-pub reflect-lawful : (s : Settings) → Reflects (isLawful s) (Lawful s)
-unfolding isLawful
-reflect-lawful s =
-    reflect-as
-    (reflect-and (reflect-le (s .n) 16)
-    (reflect-and (reflect-lt (3 * s .b) (s .n))
-    (reflect-and (reflect-lt (s .faulty) (2 ^ s .n)) (reflect-le (ones (s .faulty)) (s .b)))))
-    (λ h. record { vaults = h .0; few = h .1 .0; below = h .1 .1 .0; bound = h .1 .1 .1 })
-    (λ h. (h .vaults, (h .few, (h .below, h .bound))))
 
 pub reflect-sane : (l : Ledger) → Reflects (isSane l) (Sane l)
 unfolding isSane
@@ -40,14 +30,6 @@ reflect-sane l =
     (reflect-and (reflect-lawful (l .settings)) (reflect-and (reflect-le (l .booked) capacity) (reflect-le (l .arrivals) capacity)))
     (λ h. record { lawful = h .0; booked = h .1 .0; arrivals = h .1 .1 })
     (λ h. (h .lawful, (h .booked, h .arrivals)))
-
-pub reflect-booked : (journal : List ℕ) (booked job : ℕ) → Reflects (isBooked journal booked job) (Booked journal booked job)
-unfolding isBooked
-reflect-booked journal booked job =
-    reflect-as
-    (reflect-and (reflect-le booked (slots journal)) (reflect-lt job booked))
-    (λ h. record { inside = omega (arith, h .0); below = h .1 })
-    (λ h. (omega (arith, h .inside), h .below))
 
 reflect-beq : (a b : Bool) → Reflects (Bool·beq a b) (a ≡ b)
 reflect-beq true true = record { sound = λ e. refl; complete = λ e. refl }

@@ -35,14 +35,14 @@ use Rattle.ledger.proofs.Places.{examined-length}
 use Rattle.ledger.proofs.Safety.{Clear, Safe, certified-apart, certified-rooted, safe-acknowledge, safe-book, safe-countersign, safe-hold, safe-sign}
 use Rattle.ledger.proofs.Views.{Grown, ackedAt, heldAt, recordedAt, reflect-arrived, signedAt}
 use Rattle.ledger.specs.Demand3.{Apart, Correct, Held, recordsIn}
-use Rattle.ledger.specs.Federation.{thresholdOf}
+use Rattle.federation.specs.Federation.{thresholdOf}
 use Rattle.ledger.specs.Graph.{Unblocked}
 use Rattle.ledger.specs.Register.{Register, entering, feed, feedCommit, feedDone, feedProposal, isAdmissible, stopped, tabled, taking}
 use Rattle.ledger.specs.State.{acknowledged, arrived, booking, countersigned, holdersOf, signersOf, vaultAt, withVault}
 use Rattle.ledger.specs.Steps.{held}
 use Rattle.ledger.specs.Worlds.{Request, World, commit, faultyAcknowledge, faultySign, generations, preflight, propose, show}
 use Rattle.ledger.specs.declared.Ledger.{Ledger}
-use Rattle.ledger.specs.declared.Settings.{Settings}
+use Rattle.federation.specs.declared.Settings.{Settings}
 
 pub record Inv (w : World) (r : Register) : Type 0 where
   pub shape : Shape (w .ledger) (w .booked)

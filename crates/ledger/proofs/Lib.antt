@@ -12,9 +12,7 @@ pub mod Lending
 pub mod Meaning
 pub mod Paper
 pub mod Places
-pub mod Putting
 pub mod Refusals
 pub mod Safety
-pub mod Slots
 pub mod Unchanged
 pub mod Views

@@ -18,7 +18,7 @@ use Rattle.record.specs.Checks.{examined}
 use Rattle.record.specs.Codec.{recordSize}
 use Rattle.record.specs.Meaning.{passes}
 use Rattle.ledger.proofs.Gates.{passed-test, reflect-sane}
-use Rattle.ledger.specs.Journal.{capacity, equalIn, hasRoom, insideOf, slots}
+use Rattle.journal.specs.Journal.{capacity, equalIn, hasRoom, insideOf, slots}
 use Rattle.ledger.specs.Meaning.{KnownAt, NewAt}
 use Rattle.ledger.specs.State.{isSane}
 use Rattle.ledger.specs.Steps.{newPlace, placeOf, placed}

@@ -24,9 +24,9 @@ use Rattle.sets.specs.Bits.{hasBit, subsetOf}
 use Rattle.sets.specs.Jobs.{jobHas}
 use Rattle.sets.specs.declared.job_set.JobSet.{JobSet}
 use Rattle.ledger.specs.Admission.{admission, consumedAt, notCreatedAt, remadeAt}
-use Rattle.ledger.specs.Federation.{thresholdOf}
+use Rattle.federation.specs.Federation.{thresholdOf}
 use Rattle.ledger.specs.Generations.{ageOf, generationsOf, isHeld}
-use Rattle.ledger.specs.Journal.{equalIn, hasRoom, insideOf, isBooked}
+use Rattle.journal.specs.Journal.{equalIn, hasRoom, insideOf, isBooked}
 use Rattle.ledger.specs.Meaning.{missing, remade, reserved}
 use Rattle.ledger.specs.State.{acknowledged, countersigned, holdersOf, isSane, signersOf, vaultAt, withVault}
 use Rattle.ledger.specs.Steps.{andThen, answered, bookedGate, certificate, commitChecks, commitOf, committed, consulted, faultyAcknowledgeOf, faultySignOf, held, newPlace, placeOf, placed, preflightOf, preflighted, proposeOf, proposed, settle, showOf, shown, statusOf, vaultGate}

@@ -17,10 +17,9 @@ use Rattle.sets.proofs.Quorum.{quorums-meet}
 use Rattle.sets.specs.Bits.{hasBit}
 use Rattle.ledger.proofs.Views.{Grown}
 use Rattle.ledger.specs.Demand3.{Apart, Correct}
-use Rattle.ledger.specs.Federation.{thresholdOf}
-use Rattle.ledger.specs.Meaning.{Lawful}
+use Rattle.federation.specs.Federation.{Lawful, thresholdOf}
 use Rattle.ledger.specs.Steps.{held}
-use Rattle.ledger.specs.declared.Settings.{Settings}
+use Rattle.federation.specs.declared.Settings.{Settings}
 
 pub apart-sym : {a c : Job} → Apart a c → Apart c a
 apart-sym h = record { inputs = λ x m n. h .inputs x n m; outputs = λ x m n. h .outputs x n m }

@@ -18,13 +18,12 @@ use Rattle.record.specs.declared.Entry.{Entry}
 use Rattle.record.specs.declared.Job.{Job}
 use Rattle.sets.specs.Bits.{hasBit}
 use Rattle.sets.specs.Jobs.{jobHas}
-use Rattle.ledger.specs.Federation.{thresholdOf}
-use Rattle.ledger.specs.Meaning.{Lawful}
+use Rattle.federation.specs.Federation.{Lawful, thresholdOf}
 use Rattle.ledger.specs.Register.{Register, accessionOf, feedAll, log, newRegister, tabled}
 use Rattle.ledger.specs.State.{arrived, holdersOf, signersOf, vaultAt}
 use Rattle.ledger.specs.Worlds.{Event, World, afterAll, outcomes, start}
 use Rattle.ledger.specs.declared.Ledger.{Ledger}
-use Rattle.ledger.specs.declared.Settings.{Settings}
+use Rattle.federation.specs.declared.Settings.{Settings}
 
 -- "The others are sound": a vault below n that the faulty set does not name
 pub record Correct (s : Settings) (v : ℕ) : Type 0 where

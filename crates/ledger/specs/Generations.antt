@@ -14,7 +14,7 @@ use Rattle.record.specs.Entries.{framesOf, isUsed, labelOf}
 use Rattle.record.specs.declared.Job.{Job}
 use Rattle.sets.specs.Bits.{hasBit}
 use Rattle.sets.specs.Jobs.{jobHas}
-use Rattle.ledger.specs.Journal.{jobAt}
+use Rattle.journal.specs.Journal.{jobAt}
 use Rattle.ledger.specs.State.{isArrival, vaultAt}
 use Rattle.ledger.specs.Steps.{bookedGate, shown}
 use Rattle.ledger.specs.declared.Ledger.{Ledger}

@@ -1,10 +1,8 @@
 pub mod Admission
 pub mod Demand3
-pub mod Federation
 pub mod Generations
 pub mod Graph
 pub mod Growth
-pub mod Journal
 pub mod Meaning
 pub mod Memo
 pub mod Register

@@ -17,31 +17,18 @@ use Rattle.record.specs.Meaning.{Nowhere, Used}
 use Rattle.record.specs.declared.Job.{Job}
 use Rattle.sets.specs.Bits.{hasBit}
 use Rattle.sets.specs.declared.job_set.JobSet.{JobSet}
-use Rattle.ledger.specs.Federation.{thresholdOf}
+use Rattle.federation.specs.Federation.{Lawful, thresholdOf}
 use Rattle.ledger.specs.Graph.{Consumer, Creator, Maker}
-use Rattle.ledger.specs.Journal.{capacity, equalIn, insideOf}
+use Rattle.journal.specs.Journal.{Booked, capacity, equalIn, insideOf}
 use Rattle.ledger.specs.State.{signersOf}
 use Rattle.ledger.specs.Steps.{held}
 use Rattle.ledger.specs.declared.Ledger.{Ledger}
-use Rattle.ledger.specs.declared.Settings.{Settings}
-
--- settings that document 01 allows
-pub record Lawful (s : Settings) : Type 0 where
-  pub vaults : s .n ≤ 16
-  pub few : 3 * s .b < s .n
-  pub below : s .faulty < 2 ^ s .n
-  pub bound : ones (s .faulty) ≤ s .b
 
 -- a state that check 1 lets through
 pub record Sane (l : Ledger) : Type 0 where
   pub lawful : Lawful (l .settings)
   pub booked : l .booked ≤ capacity
   pub arrivals : l .arrivals ≤ capacity
-
--- check 4 passes
-pub record Booked (journal : List ℕ) (booked job : ℕ) : Type 0 where
-  pub inside : recordSize * booked ≤ length journal
-  pub below : job < booked
 
 -- checks 1, 3, 5 and 4 pass, for a step that is for faulty vaults or for correct ones
 pub record Entered (l : Ledger) (journal : List ℕ) (v job : ℕ) (faulty : Bool) : Type 0 where

@@ -9,8 +9,8 @@ use Rattle.base.specs.Search.{anyBelow}
 use Rattle.sets.specs.Bits.{withMember}
 use Rattle.ledger.specs.declared.Vault.{Vault}
 use Rattle.ledger.specs.declared.Ledger.{Ledger}
-use Rattle.ledger.specs.Federation.{isLawful}
-use Rattle.ledger.specs.Journal.{capacity}
+use Rattle.federation.specs.Federation.{isLawful}
+use Rattle.journal.specs.Journal.{capacity}
 use Rattle.ledger.specs.Vaults.{newVault}
 
 -- ---- views

@@ -21,8 +21,8 @@ use Rattle.ledger.specs.declared.Place.the-variants.{Known, New, Turned}
 use Rattle.ledger.specs.declared.Vault.{Vault}
 use Rattle.ledger.specs.declared.Consent.{Consent}
 use Rattle.ledger.specs.declared.Consent.the-variants.{Already, Fresh, Denied}
-use Rattle.ledger.specs.Federation.{isLawful, thresholdOf}
-use Rattle.ledger.specs.Journal.{isBooked, insideOf, equalIn, hasRoom, putAt}
+use Rattle.federation.specs.Federation.{isLawful, thresholdOf}
+use Rattle.journal.specs.Journal.{isBooked, insideOf, equalIn, hasRoom, putAt}
 use Rattle.ledger.specs.Vaults.{vaultPreflight, holding}
 use Rattle.ledger.specs.State.{
   vaultAt,

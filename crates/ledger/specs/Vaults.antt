@@ -8,7 +8,7 @@ use Rattle.sets.specs.Jobs.{jobHas, jobWith, jobWithout}
 use Rattle.ledger.specs.declared.Vault.{Vault}
 use Rattle.ledger.specs.declared.Signing.{Signing}
 use Rattle.ledger.specs.declared.Consent.the-variants.{Already, Fresh, Denied}
-use Rattle.ledger.specs.Journal.{jobAt}
+use Rattle.journal.specs.Journal.{jobAt}
 use Rattle.ledger.specs.Admission.{admission}
 
 -- "both empty at first"

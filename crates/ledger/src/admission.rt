@@ -2,7 +2,7 @@
 ghost use mathlib.Core.Path.{_≡_};
 ghost use Rattle.base.specs.Search.{firstBelow};
 ghost use Rattle.record.specs.Conflicts.{halfOf};
-ghost use Rattle.ledger.specs.Journal.{jobAt};
+ghost use Rattle.journal.specs.Journal.{jobAt};
 ghost use Rattle.ledger.specs.Admission.{
   makesAt,
   madeBy,
@@ -14,7 +14,6 @@ ghost use Rattle.ledger.specs.Admission.{
   remadeAt,
   admission,
 };
-use crate::journal;
 use outcome::Refusal;
 use outcome::Verdict;
 use record::Job;

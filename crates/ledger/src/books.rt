@@ -1,7 +1,7 @@
 // What the ledger keeps, read and changed one thing at a time, and the checks that several kinds of step share.
 ghost use mathlib.Core.Path.{_≡_};
 ghost use Prim.Native.Nat.{_<_, _≤_};
-ghost use Rattle.ledger.specs.Journal.{recordAt};
+ghost use Rattle.journal.specs.Journal.{recordAt};
 ghost use Rattle.ledger.specs.State.{
   signersOf,
   holdersOf,
@@ -18,10 +18,9 @@ ghost use Rattle.ledger.specs.State.{
 ghost use Rattle.ledger.specs.Steps.{newOf, bookedGate, vaultGate};
 use crate::Ledger;
 use crate::Reply;
-use crate::Settings;
+use federation::Settings;
 use crate::Vault;
-use crate::journal;
-use crate::journal::CAPACITY;
+use journal::CAPACITY;
 use outcome::Outcome;
 use outcome::Refusal;
 use outcome::Verdict;

@@ -5,7 +5,7 @@ ghost use Prim.Native.Nat.{_+_, _*_, _<_, _≤_, max};
 ghost use lib.ListN.{getD, length};
 ghost use Rattle.outcome.specs.declared.Outcome.the-variants.{Done, Refused};
 ghost use Rattle.outcome.specs.declared.Refusal.the-variants.{NotHeld};
-ghost use Rattle.ledger.specs.Journal.{jobAt};
+ghost use Rattle.journal.specs.Journal.{jobAt};
 ghost use Rattle.ledger.specs.Generations.{
   ageOf,
   generationAt,
@@ -27,7 +27,6 @@ ghost use Rattle.ledger.specs.Memo.{
   Ready,
 };
 use crate::Ledger;
-use crate::journal;
 use outcome::Outcome;
 use outcome::Refusal;
 use outcome::Verdict;

@@ -4,7 +4,6 @@ ghost use Rattle.ledger.specs.Steps.{newPlace, placeOf, proposeOf, journ
 use crate::Ledger;
 use crate::Place;
 use crate::Reply;
-use crate::journal;
 use outcome::Outcome;
 use outcome::Refusal;
 use outcome::Verdict;

@@ -5,7 +5,6 @@ use crate::Consent;
 use crate::Signing;
 use crate::Vault;
 use crate::admission;
-use crate::journal;
 use outcome::Verdict;
 use sets::JobSet;
 

@@ -15,11 +15,11 @@ use Rattle.base.proofs.Reflect.{and-true}
 use Rattle.draw.specs.Draw.{drawOf}
 use Rattle.record.specs.Codec.{recordSize}
 use Rattle.ledger.proofs.Demand3.{demand3}
-use Rattle.ledger.proofs.Gates.{reflect-lawful}
+use Rattle.federation.proofs.Lawful.{reflect-lawful}
 use Rattle.ledger.proofs.Places.{examined-length, placed-new}
-use Rattle.ledger.proofs.Putting.{put-length}
+use Rattle.journal.proofs.Putting.{put-length}
 use Rattle.ledger.specs.Demand3.{Holds}
-use Rattle.ledger.specs.Meaning.{Lawful}
+use Rattle.federation.specs.Federation.{Lawful}
 use Rattle.ledger.specs.Register.{feedAll, log, newRegister}
 use Rattle.ledger.specs.State.{newLedger}
 use Rattle.ledger.specs.Steps.{journalAfter, journalWith, placeOf}

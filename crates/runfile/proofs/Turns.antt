@@ -12,10 +12,10 @@ use lib.Dec.{leb, ltb}
 use lib.ListN.{getD, length, replicate}
 use borrow.Author.Tests.{le-leb, leb-true, lt-leb, ltb-true}
 use Rattle.base.proofs.Reflect.{and-true}
-use Rattle.ledger.specs.Federation.{isLawful}
+use Rattle.federation.specs.Federation.{isLawful}
 use Rattle.ledger.specs.State.{newLedger}
 use Rattle.ledger.specs.declared.Ledger.{Ledger}
-use Rattle.ledger.specs.declared.Settings.{Settings}
+use Rattle.federation.specs.declared.Settings.{Settings}
 use Rattle.ledger.specs.declared.Reply.{Reply}
 use Rattle.engine.proofs.Beginning.{ledger-new}
 use Rattle.engine.specs.Layout.{ledgerIn}

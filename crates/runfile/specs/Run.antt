@@ -4,7 +4,7 @@ use mathlib.Core.List.{List, [], _++_}
 use Prim.Native.Nat.{_+_, suc, zero, ℕ}
 use lib.Dec.{eqb, leb, ltb}
 use lib.ListN.{getD, length, replicate}
-use Rattle.ledger.specs.Federation.{isLawful}
+use Rattle.federation.specs.Federation.{isLawful}
 use Rattle.ledger.specs.State.{newLedger}
 use Rattle.ledger.specs.declared.Ledger.{Ledger}
 use Rattle.runfile.specs.Steps.{Command, bodySize, commandAt, journalBy, replyOf, wordAt}

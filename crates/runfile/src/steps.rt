@@ -8,7 +8,7 @@ ghost use Rattle.engine.specs.Kept.{Kept, Modest};
 ghost use Rattle.runfile.specs.Run.{isWhole};
 ghost use Rattle.runfile.specs.Tables.{Stepped};
 use crate::header;
-use ledger::Settings;
+use federation::Settings;
 use outcome::Outcome;
 
 // How long the body is, 0 for an unknown kind.

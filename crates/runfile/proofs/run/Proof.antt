@@ -8,9 +8,9 @@ use Rattle.runfile.proofs.Short.{number-few}
 use Rattle.engine.specs.Layout.{ledgerIn}
 use Rattle.engine.specs.Kept.{Kept}
 use Rattle.engine.proofs.Beginning.{kept-new}
-use Rattle.ledger.specs.declared.Settings.{Settings}
+use Rattle.federation.specs.declared.Settings.{Settings}
 use Rattle.ledger.specs.declared.Ledger.{Ledger}
-use Rattle.ledger.specs.Federation.{isLawful}
+use Rattle.federation.specs.Federation.{isLawful}
 use borrow.Author.Tests.{not-false, not-true}
 use borrow.Author.Needs.{needs}
 use lib.ListN.{length, replicate}

@@ -1,9 +1,8 @@
--- The loop's invariant: no slot before the present one passes, so it returns at the first that does.
+-- The loop's invariant: no entry before the present one passes, so it returns at the first that does.
 -- Assumes nothing.
 use mathlib.Core.Bool.{false}
 use mathlib.Core.Path.{_≡_}
-use Prim.Native.Nat.{_+_, _-_, _≤_}
-use lib.ListN.{length}
+use Prim.Native.Nat.{_-_, _≤_}
 use borrow.Author.Needs.{needs}
 use Rattle.base.proofs.Search.{searches}
 use Rattle.base.specs.Search.{anyBelow}
@@ -12,10 +11,10 @@ use Rattle.index.specs.Checks.{firstUnmet, unmetAt}
 use Rattle.index.proofs.checks.first_unmet.Tie as tie
 
 abbrev Inv-loop : tie.InvT-loop
-Inv-loop index inputs at s e₀ e = (at + 8 ≤ length index) × ((e ≤ 4) × (anyBelow e (unmetAt index inputs at s) ≡ false))
+Inv-loop numbers sets count at kind s e₀ e = (e ≤ 4) × (anyBelow e (unmetAt numbers sets count at kind s) ≡ false)
 
 abbrev μ-loop : tie.MeasureT-loop
-μ-loop index inputs at s e₀ e = 4 - e
+μ-loop numbers sets count at kind s e₀ e = 4 - e
 
 loop-holds : tie.Need-loop-holds Inv-loop μ-loop
 loop-holds c = search (searches, needs) depth 8

@@ -1,4 +1,4 @@
--- An input, and its slot does not meet the set.
+-- The set at the number of an entry that is one of so many.
 -- Assumes nothing.
 use borrow.Author.Needs.{needs}
 use borrow.Author.Tests.{lt-ltb}
@@ -7,16 +7,22 @@ use Rattle.index.proofs.checks.unmet_at.Statement.{statement}
 use Rattle.index.specs.Checks.{unmetAt}
 use Rattle.index.proofs.checks.unmet_at.Tie as tie
 
-met-at-requires : tie.Need-met-at-requires
-met-at-requires c κs = search needs
+add-set-of : tie.Need-add-set-of
+add-set-of c = search needs
+
+set-of-requires : tie.Need-set-of-requires
+set-of-requires c κs = search needs
+
+meets-requires : tie.Need-meets-requires
+meets-requires c κs = search needs
 
 returns : tie.Need-returns
 unfolding unmetAt
-returns c = simp (lt-ltb _ _ (c .before .if1 .taken), c .met-at .ensures)
+returns c = simp (lt-ltb _ _ (c .before .before .if1 .taken), c .meets .ensures, c .before .set-of .ensures .0)
 
 returns-2 : tie.Need-returns-2
 unfolding unmetAt
 returns-2 c = search chain depth 8
 
 pub unmet-at-spec : {M : Type 1} → statement M
-unmet-at-spec = tie.close (tie.spec met-at-requires returns returns-2)
+unmet-at-spec = tie.close (tie.spec add-set-of set-of-requires meets-requires returns returns-2)

@@ -1,45 +1,54 @@
--- The job against the likely ones, with itself, and then in the sieve.
+-- The loop's head holds the index of the entries so far.
 -- Assumes nothing.
-use denote.Ref.{now}
+use mathlib.Core.Path.{_∙_, _≡_, sym}
+use Prim.Native.Nat.{_*_, _+_, _-_, _≤_}
+use native.Mathlib.Omega.{arith}
 use borrow.Author.Needs.{needs}
-use Rattle.ledger.specs.Journal.{jobAt}
-use Rattle.index.proofs.Steps.{entered, sifted}
 use Rattle.index.proofs.entering.enter.Statement.{statement}
+use Rattle.index.specs.Places.{Entered, slotJob}
 use Rattle.index.proofs.entering.enter.Tie as tie
 
-job-at-requires : tie.Need-job-at-requires
-job-at-requires c κs = search needs
+abbrev Inv-loop : tie.InvT-loop
+Inv-loop numbers₀ sets₀ journal a n e₀ numbers sets e = (e ≤ 8) × Entered (slotJob journal) (8 * n + e) numbers sets
 
-likely-requires : tie.Need-likely-requires
-likely-requires c κs = search needs
+abbrev μ-loop : tie.MeasureT-loop
+μ-loop numbers₀ sets₀ journal a n e₀ numbers sets e = 8 - e
 
-against-requires : tie.Need-against-requires
-against-requires c κs = search needs
+loop-holds : tie.Need-loop-holds Inv-loop μ-loop
+loop-holds c = let z : 8 * (c .before .before .before .args .n) + 0 ≡ 8 * (c .before .before .before .args .n) = omega arith in (omega arith, rw z (c .before .before .before .pre .3))
 
-pair-requires : tie.Need-pair-requires
-pair-requires c κs = search needs
+enter-entry-requires : tie.Need-enter-entry-requires Inv-loop μ-loop
+enter-entry-requires c κs = let p = c .before .before .before .before .before .before .before .pre in (p .0, c .before .before .loop-test .taken, p .1, p .2, c .before .before .before .loop .inv .1)
 
-sift-requires : tie.Need-sift-requires
-sift-requires c κs = search needs
+add-e : tie.Need-add-e Inv-loop μ-loop
+add-e c = search needs
 
-same-length : tie.Need-same-length
-same-length c = search needs
+loop-less : tie.Need-loop-less Inv-loop μ-loop
+loop-less c = search needs
 
-same-length-2 : tie.Need-same-length-2
-same-length-2 c = search needs
+loop-again : tie.Need-loop-again Inv-loop μ-loop
+loop-again c = let z : 8 * (c .before .before .before .before .before .before .before .before .before .before .before .before .args .n) + (c .before .before .before .before .before .before .before .before .loop .e + 1) ≡ 8 * (c .before .before .before .before .before .before .before .before .before .before .before .before .args .n) + c .before .before .before .before .before .before .before .before .loop .e + 1 = omega arith in (omega arith, rw z (c .before .before .before .before .enter-entry .ensures))
 
-returns : tie.Need-returns
-returns c = let g = c .before .before .before .before .before .before .before .before .before .before .before .before .before .before .before .before .before .before .args in let a = c .before .before .before .before .before .before .before .before .before .before .before .before .before .before .job-at .ensures in (entered _ _ _ _ _ _ _ _ a (c .before .before .before .before .before .before .before .before .before .before .before .before .likely .ensures) (c .before .before .before .before .before .before .before .before .before .before .against .ensures) (c .before .before .before .before .before .before .pair .ensures), sifted (jobAt (now (g .journal)) (g .booked)) _ _ _ _ a (c .before .before .sift .ensures))
+same-length : tie.Need-same-length Inv-loop μ-loop
+same-length c = c .before .loop .inv .1 .numbered .size ∙ sym (c .before .before .before .before .before .pre .3 .numbered .size)
+
+same-length-2 : tie.Need-same-length-2 Inv-loop μ-loop
+same-length-2 c = c .before .loop .inv .1 .marked .size ∙ sym (c .before .before .before .before .before .pre .3 .marked .size)
+
+returns : tie.Need-returns Inv-loop μ-loop
+returns c = let z : 8 * (c .before .before .before .before .before .args .n + 1) ≡ 8 * (c .before .before .before .before .before .args .n) + c .before .loop .e = omega arith in rw z (c .before .loop .inv .1)
 
 pub enter-spec : {M : Type 1} → statement M
 enter-spec =
     tie.close
     (tie.spec
-    job-at-requires
-    likely-requires
-    against-requires
-    pair-requires
-    sift-requires
+    Inv-loop
+    μ-loop
+    loop-holds
+    enter-entry-requires
+    add-e
+    loop-less
+    loop-again
     same-length
     same-length-2
     returns)

@@ -2,9 +2,9 @@
 -- Assumes nothing.
 use Prim.Native.Nat.{_%_, _/_}
 use native.Mathlib.Omega.{arith}
+use lib.ListN.{getD}
 use borrow.Author.Needs.{needs}
 use Rattle.sets.proofs.Bits.{or-shl}
-use lib.ListN.{getD}
 use Rattle.index.proofs.words.mark.Statement.{statement}
 use Rattle.index.specs.Words.{marked}
 use Rattle.index.proofs.words.mark.Tie as tie

@@ -9,7 +9,7 @@ use Rattle.base.proofs.Search.{searches}
 use Rattle.base.specs.Search.{anyBelow}
 use Rattle.ledger.proofs.admission.first_consumed.Statement.{statement}
 use Rattle.ledger.specs.Admission.{consumedAt}
-use Rattle.ledger.specs.Journal.{jobAt}
+use Rattle.journal.specs.Journal.{jobAt}
 use Rattle.ledger.proofs.admission.first_consumed.Tie as tie
 
 abbrev Inv-loop : tie.InvT-loop

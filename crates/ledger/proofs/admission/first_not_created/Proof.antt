@@ -8,7 +8,7 @@ use Rattle.base.proofs.Search.{searches}
 use Rattle.base.specs.Search.{anyBelow}
 use Rattle.ledger.proofs.admission.first_not_created.Statement.{statement}
 use Rattle.ledger.specs.Admission.{notCreatedAt}
-use Rattle.ledger.specs.Journal.{jobAt}
+use Rattle.journal.specs.Journal.{jobAt}
 use Rattle.ledger.specs.Steps.{held}
 use Rattle.ledger.proofs.admission.first_not_created.Tie as tie
 

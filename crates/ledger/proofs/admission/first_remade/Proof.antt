@@ -8,7 +8,7 @@ use Rattle.base.proofs.Search.{searches}
 use Rattle.base.specs.Search.{anyBelow}
 use Rattle.ledger.proofs.admission.first_remade.Statement.{statement}
 use Rattle.ledger.specs.Admission.{remadeAt}
-use Rattle.ledger.specs.Journal.{jobAt}
+use Rattle.journal.specs.Journal.{jobAt}
 use Rattle.ledger.specs.Steps.{held}
 use Rattle.ledger.proofs.admission.first_remade.Tie as tie
 

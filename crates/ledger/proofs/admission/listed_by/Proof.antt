@@ -10,7 +10,7 @@ use Rattle.base.specs.Search.{anyBelow}
 use Rattle.record.specs.Conflicts.{halfOf}
 use Rattle.ledger.proofs.admission.listed_by.Statement.{statement}
 use Rattle.ledger.specs.Admission.{listedBy, listsAt}
-use Rattle.ledger.specs.Journal.{jobAt}
+use Rattle.journal.specs.Journal.{jobAt}
 use Rattle.ledger.proofs.admission.listed_by.Tie as tie
 
 abbrev Inv-loop : tie.InvT-loop

@@ -12,7 +12,7 @@ use borrow.Author.Needs.{needs}
 use Rattle.record.specs.declared.Job.{Job}
 use Rattle.ledger.proofs.Ages.{brought-from, brought-new, brought-none, generation-le, memo-set, most-end, most-le, most-more, most-start, tapes-fewer}
 use Rattle.ledger.specs.Generations.{highest}
-use Rattle.ledger.specs.Journal.{jobAt}
+use Rattle.journal.specs.Journal.{jobAt}
 use Rattle.ledger.specs.Memo.{Memo, along, broughtBy}
 use borrow.Fn.Kinds.{In}
 use borrow.Fn.PlainCycle.{Measures, is, falls, and}

@@ -9,7 +9,7 @@ use borrow.Author.Needs.{needs}
 use Rattle.record.specs.Entries.{labelOf}
 use Rattle.record.specs.declared.Job.{Job}
 use Rattle.ledger.proofs.Ages.{tapes-fewer, tapes-set}
-use Rattle.ledger.specs.Journal.{jobAt}
+use Rattle.journal.specs.Journal.{jobAt}
 use Rattle.ledger.specs.Memo.{Tapes, along, outputCount}
 use Rattle.ledger.proofs.generations.enter.Statement.{statement}
 use Rattle.ledger.proofs.generations.enter.Tie as tie

@@ -7,7 +7,7 @@ use native.Mathlib.Omega.{arith}
 use lib.ListN.{length}
 use Rattle.record.specs.declared.Job.{Job}
 use Rattle.ledger.proofs.Ages.{tapes-fewer, tapes-none}
-use Rattle.ledger.specs.Journal.{jobAt}
+use Rattle.journal.specs.Journal.{jobAt}
 use Rattle.ledger.specs.Memo.{Tapes, along}
 use Rattle.ledger.proofs.generations.enter_all.Statement.{statement}
 use Rattle.ledger.proofs.generations.enter_all.Tie as tie
