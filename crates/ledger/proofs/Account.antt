@@ -1,6 +1,5 @@
 -- The register's own invariant, and that taking an admissible job keeps it: what it says of tapes, labels and frames is what is defined
 -- along its list. Frames balance because an admissible job's inputs stand, each once, and its frames balance.
--- Assumes nothing.
 use mathlib.Core.Bool.{not, true≢false}
 use mathlib.Core.List.{List, [], _++_, _∷_, append-assoc}
 use mathlib.Core.Logic.{_⊎_, inl, inr, ⊎-elim}

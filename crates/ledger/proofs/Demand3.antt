@@ -1,5 +1,4 @@
 -- Demand 3: the invariant holds at the start, each step of any list keeps it, and it says all that the statement asks.
--- Assumes nothing.
 use mathlib.Core.Bool.{true, true≢false}
 use mathlib.Core.List.{List, [], _∷_}
 use mathlib.Core.Logic.{⊎-elim}
@@ -27,7 +26,7 @@ use Rattle.ledger.proofs.Views.{ackedAt, heldAt, recordedAt, signedAt}
 use Rattle.ledger.specs.Demand3.{Apart, Demand3, Disjoint, Held, Holds, accessionedAlong, recordsIn, standingAlong}
 use Rattle.federation.specs.Federation.{Lawful, thresholdOf}
 use Rattle.ledger.specs.Register.{Register, feed, feedAll, isDone, log, newRegister, tabled}
-use Rattle.ledger.specs.State.{holdersOf, newLedger, signersOf, vaultAt}
+use Rattle.ledger.specs.State.{acknowledgersOf, newLedger, signersOf, vaultAt}
 use Rattle.ledger.specs.Vaults.{newVault}
 use Rattle.ledger.specs.Worlds.{Event, World, after, afterAll, lent, outcomes, replyTo, start}
 use Rattle.ledger.specs.declared.Ledger.{Ledger}
@@ -61,7 +60,7 @@ module _ (n b faulty : ℕ) where
   none-below k = rw (filled {A = ℕ} 128 k 0) (pow-pos n)
 
   first : Lawful (record { n = n; b = b; faulty = faulty }) → Inv (start n b faulty) newRegister
-  unfolding start newLedger heldAt signedAt recordedAt ackedAt signersOf holdersOf noJobs recordsIn
+  unfolding start newLedger heldAt signedAt recordedAt ackedAt signersOf acknowledgersOf noJobs recordsIn
   first lawful = record {
     shape = record {
       lawful = lawful;
@@ -111,10 +110,10 @@ module _ (n b faulty : ℕ) where
 -- ---- what the invariant says
 module _ {w : World} {r : Register} (i : Inv w r) where
   -- a quorum of acknowledgements has a correct vault in it, which holds the job; so the job is certified
-  finished-certified : (k : ℕ) → thresholdOf (w .ledger .settings) ≤ ones (holdersOf (w .ledger) k) → thresholdOf (w .ledger .settings) ≤ ones (signersOf (w .ledger) k)
+  finished-certified : (k : ℕ) → thresholdOf (w .ledger .settings) ≤ ones (acknowledgersOf (w .ledger) k) → thresholdOf (w .ledger .settings) ≤ ones (signersOf (w .ledger) k)
   unfolding ackedAt
   finished-certified k a =
-      let m = meeting (i .shape .lawful) (holdersOf (w .ledger) k) (holdersOf (w .ledger) k) (i .shape .holders-below k) (i .shape .holders-below k) a a in
+      let m = meeting (i .shape .lawful) (acknowledgersOf (w .ledger) k) (acknowledgersOf (w .ledger) k) (i .shape .holders-below k) (i .shape .holders-below k) a a in
       i .safe .certified (m .vault) k (i .safe .honest (m .vault) k (m .correct) (m .first))
 
   quorum : (k : ℕ) → Held (w .ledger) k → thresholdOf (w .ledger .settings) ≤ ones (signersOf (w .ledger) k)

@@ -1,6 +1,5 @@
 -- Checks 1, 3, 4 and 5 decide what specs/Meaning.antt says of them: a gate passes exactly where its claim holds. What a step may do
 -- behind its gate, index the sets of a job and a vault's state, follows.
--- Assumes nothing.
 use mathlib.Core.Bool.{Bool, Bool·beq, cond, false, true, true≢false}
 use mathlib.Core.List.{List}
 use mathlib.Core.Path.{_≡_, refl, sym}
@@ -20,7 +19,7 @@ use Rattle.journal.proofs.Booked.{reflect-booked}
 use Rattle.journal.specs.Journal.{Booked, capacity}
 use Rattle.ledger.specs.Meaning.{Entered, Sane}
 use Rattle.ledger.specs.State.{isSane}
-use Rattle.ledger.specs.Steps.{andThen, bookedGate, vaultGate}
+use Rattle.ledger.specs.Steps.{bookedGate, gateOf, vaultGate}
 use Rattle.ledger.specs.declared.Ledger.{Ledger}
 
 pub reflect-sane : (l : Ledger) → Reflects (isSane l) (Sane l)
@@ -55,7 +54,7 @@ booked-entered l journal job e =
 
 pub entered : (l : Ledger) (journal : List ℕ) (v job : ℕ) (faulty : Bool) → vaultGate l journal v job faulty ≡ Pass
     → Entered l journal v job faulty
-unfolding vaultGate
+unfolding vaultGate gateOf
 entered l journal v job faulty e =
     let vault = passed-rest (isSane l) _ _ e in
     let role = passed-rest (ltb v (l .settings .n)) _ _ vault in
@@ -69,7 +68,7 @@ entered l journal v job faulty e =
 
 pub enters : (l : Ledger) (journal : List ℕ) (v job : ℕ) (faulty : Bool) → Entered l journal v job faulty
     → vaultGate l journal v job faulty ≡ Pass
-unfolding vaultGate
+unfolding vaultGate gateOf
 enters l journal v job faulty h =
     simp (reflect-sane l .complete (h .sane), lt-ltb _ _ (h .vault), reflect-beq _ _ .complete (h .role), reflect-booked journal (l .booked) job .complete (h .known))
 
@@ -83,12 +82,3 @@ module _ (l : Ledger) (journal : List ℕ) (v job : ℕ) (faulty : Bool) (gate :
 
   pub arrivals-within : l .arrivals ≤ 128
   arrivals-within = entered l journal v job faulty gate .sane .arrivals
-
--- ---- one row of checks after another
-pub first-passed : (a b : Verdict) → andThen a b ≡ Pass → a ≡ Pass
-first-passed Pass b e = refl
-first-passed (Fail why) b e = e
-
-pub rest-passed : (a b : Verdict) → andThen a b ≡ Pass → b ≡ Pass
-rest-passed Pass b e = e
-rest-passed (Fail why) b e = cc

@@ -1,5 +1,4 @@
 pub mod Account
-pub mod Ages
 pub mod Algorithms
 pub mod Changes
 pub mod Demand3

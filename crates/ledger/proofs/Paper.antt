@@ -1,6 +1,5 @@
 -- Checks 11 to 14 are what the paper's Algorithm 1 asks, with document 01's mends: of a job that passes 6 to 9 they pass exactly where
 -- it signs. The entries are read as the lists of tapes that the paper's In and Out are.
--- Assumes nothing.
 use mathlib.Core.List.{List, _++_}
 use mathlib.Core.Logic.{_⊎_, inl, inr, ⊎-elim}
 use mathlib.Core.Path.{_∙_, _≡_, ap, subst, sym}
@@ -22,10 +21,9 @@ use Rattle.record.specs.declared.Entry.{Entry}
 use Rattle.record.specs.declared.Job.{Job}
 use Rattle.sets.specs.declared.job_set.JobSet.{JobSet}
 use Rattle.ledger.proofs.Meaning.{admission-answers, answers-admission, reflect-made}
-use Rattle.ledger.specs.Admission.{admission}
+use Rattle.index.specs.Admission.{admission}
 use Rattle.ledger.specs.Graph.{Algorithm1, Consumer, Creator, Maker, Unblocked}
 use Rattle.ledger.specs.Meaning.{Admission, ConsumedAt, NotCreatedAt, RemadeAt, admitted, consumed, missing, remade, reserved}
-use Rattle.ledger.specs.Steps.{held}
 
 module _ (job : ℕ → Job) (booked : ℕ) (held others : JobSet) (j : Job) where
   -- the place of an input tape, and of an output's label

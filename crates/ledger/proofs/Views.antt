@@ -1,6 +1,5 @@
 -- What each change does to the ledger, in words of which vault holds, signed and acknowledged which job. A change of one set adds one
 -- pair to one of these relations and leaves the others; one law over the list and the view says so for all of them.
--- Assumes nothing.
 use mathlib.Core.Bool.{Bool, _||_, cond, false, true}
 use mathlib.Core.List.{List, [], _++_, _∷_}
 use mathlib.Core.Logic.{_≢_, _⊎_, inl, inr, ⊎-elim}
@@ -24,7 +23,7 @@ use Rattle.sets.proofs.Jobs.{job-with-other, job-with-same}
 use Rattle.sets.specs.Bits.{hasBit, withMember}
 use Rattle.sets.specs.Jobs.{jobHas, jobWith}
 use Rattle.sets.specs.declared.job_set.JobSet.{JobSet}
-use Rattle.ledger.specs.State.{arrived, arriving, hasArrived, holdersOf, isArrival, signersOf, vaultAt}
+use Rattle.ledger.specs.State.{arrived, arriving, hasArrived, acknowledgersOf, isArrival, signersOf, vaultAt}
 use Rattle.ledger.specs.declared.Ledger.{Ledger}
 
 -- ---- the relations
@@ -38,7 +37,7 @@ unfoldable pub recordedAt : Ledger → ℕ → ℕ → Bool
 recordedAt l v k = hasBit (signersOf l k) v
 
 unfoldable pub ackedAt : Ledger → ℕ → ℕ → Bool
-ackedAt l v k = hasBit (holdersOf l k) v
+ackedAt l v k = hasBit (acknowledgersOf l k) v
 
 -- s′ is s and m
 pub record Plus (s s′ : ℕ → Bool) (m : ℕ) : Type 0 where

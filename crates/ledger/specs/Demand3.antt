@@ -20,7 +20,7 @@ use Rattle.sets.specs.Bits.{hasBit}
 use Rattle.sets.specs.Jobs.{jobHas}
 use Rattle.federation.specs.Federation.{Lawful, thresholdOf}
 use Rattle.ledger.specs.Register.{Register, accessionOf, feedAll, log, newRegister, tabled}
-use Rattle.ledger.specs.State.{arrived, holdersOf, signersOf, vaultAt}
+use Rattle.ledger.specs.State.{arrived, acknowledgersOf, signersOf, vaultAt}
 use Rattle.ledger.specs.Worlds.{Event, World, afterAll, outcomes, start}
 use Rattle.ledger.specs.declared.Ledger.{Ledger}
 use Rattle.federation.specs.declared.Settings.{Settings}
@@ -95,7 +95,7 @@ pub record Holds (w : World) (r : Register) : Type 0 where
   -- generations rest on it
   pub creators : (k : ℕ) → In k (r .taken) → (t : Entry) → In t (inputTapes (tabled (r .table) k)) → OneCreator (tabled (r .table)) (r .taken) k t
   -- a finished job is certified
-  pub certified : (k : ℕ) → thresholdOf (w .ledger .settings) ≤ ones (holdersOf (w .ledger) k) → thresholdOf (w .ledger .settings) ≤ ones (signersOf (w .ledger) k)
+  pub certified : (k : ℕ) → thresholdOf (w .ledger .settings) ≤ ones (acknowledgersOf (w .ledger) k) → thresholdOf (w .ledger .settings) ≤ ones (signersOf (w .ledger) k)
 
 abbrev pub Demand3 : Type 0
 Demand3 =

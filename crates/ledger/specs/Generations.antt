@@ -3,21 +3,17 @@
 use mathlib.Core.Bool.{Bool, _&&_, cond, not}
 use mathlib.Core.List.{List, [], _++_, _∷_}
 use Prim.Native.Nat.{max, suc, zero, ℕ}
-use lib.Dec.{ltb}
+use lib.Dec.{eqb, ltb}
 use lib.ListN.{getD}
 use Rattle.base.specs.Search.{anyBelow, firstBelow}
-use Rattle.outcome.specs.declared.Outcome.{Outcome}
-use Rattle.outcome.specs.declared.Outcome.the-variants.{Done, Refused}
-use Rattle.outcome.specs.declared.Refusal.the-variants.{NotHeld}
 use Rattle.record.specs.Conflicts.{makesTape}
 use Rattle.record.specs.Entries.{framesOf, isUsed, labelOf}
 use Rattle.record.specs.declared.Job.{Job}
 use Rattle.sets.specs.Bits.{hasBit}
 use Rattle.sets.specs.Jobs.{jobHas}
-use Rattle.journal.specs.Journal.{jobAt}
-use Rattle.ledger.specs.State.{isArrival, vaultAt}
-use Rattle.ledger.specs.Steps.{bookedGate, shown}
-use Rattle.ledger.specs.declared.Ledger.{Ledger}
+use Rattle.federation.specs.declared.Settings.{Settings}
+use Rattle.ledger.specs.Vaults.{newVault}
+use Rattle.ledger.specs.declared.Vault.{Vault}
 
 -- the largest of f 0 to f (k - 1), or 0
 unfoldable pub highest : ℕ → (ℕ → ℕ) → ℕ
@@ -48,23 +44,18 @@ module _ (job : ℕ → Job) (order : ℕ → ℕ) where
 -- ---- kind 8: "4, 18"
 
 -- vault v is correct and holds the job
-unfoldable pub holdsAt : Ledger → ℕ → ℕ → Bool
-holdsAt l job v = not (hasBit (l .settings .faulty) v) && jobHas (vaultAt l v .held) job
+unfoldable pub holdsAt : Settings → List Vault → ℕ → ℕ → Bool
+holdsAt s vaults job v = not (hasBit (s .faulty) v) && jobHas (getD vaults v newVault .held) job
 
 -- check 18 passes: some correct vault holds the job
-unfoldable pub isHeld : Ledger → ℕ → Bool
-isHeld l job = anyBelow (l .settings .n) (holdsAt l job)
+unfoldable pub isHeld : Settings → List Vault → ℕ → Bool
+isHeld s vaults job = anyBelow (s .n) (holdsAt s vaults job)
 
--- the job's position in the arrival order, or how many have arrived
-unfoldable pub positionOf : Ledger → ℕ → ℕ
-positionOf l job = firstBelow (l .arrivals) (isArrival l job)
+-- TEMPORARY
+unfoldable pub isAt : List ℕ → ℕ → ℕ → Bool
+isAt order k i = eqb (getD order i 0) k
 
--- the generations of a job that has arrived; 0 of one that has not, which no list of steps leads to where it is held
-unfoldable pub ageOf : Ledger → List ℕ → ℕ → ℕ
-ageOf l journal job =
-    let p = positionOf l job in
-    cond (ltb p (l .arrivals)) (generationAt (jobAt journal (l .booked)) (λ q. getD (l .order) q 0) p) 0
-
-unfoldable pub generationsOf : Ledger → List ℕ → ℕ → Outcome
-generationsOf l journal job =
-    shown (bookedGate l journal job) (cond (isHeld l job) (Done (ageOf l journal job)) (Refused NotHeld))
+unfoldable pub ageIn : (ℕ → Job) → List ℕ → ℕ → ℕ → ℕ
+ageIn job order arrivals k =
+    let p = firstBelow arrivals (isAt order k) in
+    cond (ltb p arrivals) (generationAt job (λ q. getD order q 0) p) 0

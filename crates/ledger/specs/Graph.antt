@@ -13,7 +13,6 @@ use Rattle.record.specs.declared.Entry.{Entry}
 use Rattle.record.specs.declared.Job.{Job}
 use Rattle.sets.specs.Jobs.{jobHas}
 use Rattle.sets.specs.declared.job_set.JobSet.{JobSet}
-use Rattle.ledger.specs.Steps.{held}
 
 module _ (job : ℕ → Job) (booked : ℕ) where
   -- "creator(e) = t": a booked job of the set has the tape, label and frames, as an output

@@ -1,10 +1,9 @@
-pub mod Admission
+pub mod Decisions
 pub mod Demand3
 pub mod Generations
 pub mod Graph
 pub mod Growth
 pub mod Meaning
-pub mod Memo
 pub mod Register
 pub mod State
 pub mod Steps

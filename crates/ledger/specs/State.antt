@@ -1,5 +1,5 @@
 -- What the ledger keeps: the settings, how many records are booked, for each job the vaults whose signature and whose
--- acknowledgement are recorded, the arrival order, and the vaults. Each change goes through one definition here.
+-- acknowledgement are recorded, the arrival order, and the vaults. What a step changes is applied by one definition, at the end.
 use mathlib.Core.Bool.{Bool, cond, _&&_, _||_}
 use mathlib.Core.List.{List}
 use Prim.Native.Nat.{ℕ, _+_}
@@ -8,6 +8,8 @@ use lib.ListN.{getD, set, replicate, take}
 use Rattle.base.specs.Search.{anyBelow}
 use Rattle.sets.specs.Bits.{withMember}
 use Rattle.ledger.specs.declared.Vault.{Vault}
+use Rattle.ledger.specs.declared.Change.{Change}
+use Rattle.ledger.specs.declared.Change.the-variants.{Book, Hold, Nothing, RecordAcknowledgement, RecordSignature, Sign}
 use Rattle.ledger.specs.declared.Ledger.{Ledger}
 use Rattle.federation.specs.Federation.{isLawful}
 use Rattle.journal.specs.Journal.{capacity}
@@ -22,8 +24,8 @@ vaultAt l v = getD (l .vaults) v newVault
 unfoldable pub signersOf : Ledger → ℕ → ℕ
 signersOf l job = getD (l .signatures) job 0
 
-unfoldable pub holdersOf : Ledger → ℕ → ℕ
-holdersOf l job = getD (l .acknowledgements) job 0
+unfoldable pub acknowledgersOf : Ledger → ℕ → ℕ
+acknowledgersOf l job = getD (l .acknowledgements) job 0
 
 -- the jobs in arrival order
 abbrev pub arrived : Ledger → List ℕ
@@ -89,7 +91,7 @@ acknowledged l v job =
       booked = l .booked;
       arrivals = l .arrivals;
       signatures = l .signatures;
-      acknowledgements = set (l .acknowledgements) job (withMember 16 (holdersOf l job) v);
+      acknowledgements = set (l .acknowledgements) job (withMember 16 (acknowledgersOf l job) v);
       order = l .order;
       vaults = l .vaults;
     }
@@ -120,3 +122,12 @@ arriving l job =
       order = set (l .order) (l .arrivals) job;
       vaults = l .vaults;
     })
+
+-- the one place where a ledger changes, by the vault and the job that the step names
+unfoldable pub applied : Ledger → Change → ℕ → ℕ → Ledger
+applied l Nothing v job = l
+applied l Book v job = booking l
+applied l (Sign state) v job = countersigned (withVault l v state) v job
+applied l (Hold state) v job = arriving (acknowledged (withVault l v state) v job) job
+applied l RecordSignature v job = countersigned l v job
+applied l RecordAcknowledgement v job = acknowledged l v job

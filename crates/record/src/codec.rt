@@ -54,7 +54,7 @@ fn four_in(s: &[u8], at: usize) -> u64
 }
 
 // An entry that lies inside. Its label is two halves of four bytes, the upper one times 2 ^ 32.
-fn entry_in(s: &[u8], at: usize) -> Entry
+pub fn entry_in(s: &[u8], at: usize) -> Entry
     requires { ⌜ at + 12 ≤ length (now s) ⌝ }
     ensures { λ r. ⌜ r ≡ entryAt (now (s .entry)) at ⌝ }
 {

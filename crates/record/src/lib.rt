@@ -10,6 +10,7 @@ mod labels;
 pub use checks::check;
 pub use checks::examine;
 pub use codec::RECORD;
+pub use codec::entry_in;
 pub use codec::read;
 pub use codec::write;
 pub use conflicts::conflict;
