@@ -136,11 +136,11 @@ module _ (l : Ledger) (v k : ℕ) where
   hold-below n hv hn h m = subst (λ (xs : List ℕ). getD xs m 0 < 2 ^ n) (sym kept-holders) (column-below (l .acknowledgements) k v n hv hn h m)
 
   -- the order grows where the job had not arrived
-  pub hold-again : hasArrived l k ≡ true → arrived (held l v k) ≡ arrived l
+  pub hold-again : hasArrived (l .order) (l .arrivals) k ≡ true → arrived (held l v k) ≡ arrived l
   unfolding held acknowledged withVault hasArrived isArrival
   hold-again e = ap arrived (arrive-again kept k e)
 
-  pub hold-first : hasArrived l k ≡ false → l .arrivals < 128 → l .arrivals < length (l .order) → arrived (held l v k) ≡ arrived l ++ (k ∷ [])
+  pub hold-first : hasArrived (l .order) (l .arrivals) k ≡ false → l .arrivals < 128 → l .arrivals < length (l .order) → arrived (held l v k) ≡ arrived l ++ (k ∷ [])
   unfolding held acknowledged withVault hasArrived isArrival
   hold-first e h h′ = arrive-first kept k e h h′
 

@@ -140,11 +140,11 @@ module _ (xs : List ℕ) (j v : ℕ) where
 
 -- ---- the arrival order
 module _ (l : Ledger) (job : ℕ) where
-  pub arrive-again : hasArrived l job ≡ true → arriving l job ≡ l
+  pub arrive-again : hasArrived (l .order) (l .arrivals) job ≡ true → arriving l job ≡ l
   unfolding arriving
   arrive-again e = simp e
 
-  pub arrive-first : hasArrived l job ≡ false → l .arrivals < 128 → l .arrivals < length (l .order) → arrived (arriving l job) ≡ arrived l ++ (job ∷ [])
+  pub arrive-first : hasArrived (l .order) (l .arrivals) job ≡ false → l .arrivals < 128 → l .arrivals < length (l .order) → arrived (arriving l job) ≡ arrived l ++ (job ∷ [])
   unfolding arriving
   arrive-first e h h′ = simp (e, lt-leb 128 (l .arrivals) h) (rw add-one (take-suc-set (l .order) (l .arrivals) job h′))
 
@@ -160,7 +160,7 @@ module _ (l : Ledger) (job : ℕ) where
 
   pub arrives : Arrives (arriving l job)
   unfolding arriving
-  arrives = by (hasArrived l job) (leb 128 (l .arrivals)) refl
+  arrives = by (hasArrived (l .order) (l .arrivals) job) (leb 128 (l .arrivals)) refl
     where
       by : (a b : Bool) → leb 128 (l .arrivals) ≡ b → Arrives (cond (a || b) l (record {
         settings = l .settings;
@@ -184,7 +184,7 @@ module _ (l : Ledger) (job : ℕ) where
       }
 
 -- a job has arrived exactly where it is in the list of arrivals
-pub reflect-arrived : (l : Ledger) (job : ℕ) → l .arrivals ≤ length (l .order) → Reflects (hasArrived l job) (In job (arrived l))
+pub reflect-arrived : (l : Ledger) (job : ℕ) → l .arrivals ≤ length (l .order) → Reflects (hasArrived (l .order) (l .arrivals) job) (In job (arrived l))
 unfolding hasArrived isArrival
 reflect-arrived l job h =
     reflect-as (reflect-any (l .arrivals) (λ i b. reflect-eq (getD (l .order) i 0) job))

@@ -4,6 +4,7 @@ pub mod Generations
 pub mod Graph
 pub mod Growth
 pub mod Meaning
+pub mod Placed
 pub mod Register
 pub mod State
 pub mod Steps

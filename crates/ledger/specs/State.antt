@@ -31,12 +31,13 @@ acknowledgersOf l job = getD (l .acknowledgements) job 0
 abbrev pub arrived : Ledger → List ℕ
 arrived l = take (l .arrivals) (l .order)
 
-unfoldable pub isArrival : Ledger → ℕ → ℕ → Bool
-isArrival l job i = eqb (getD (l .order) i 0) job
+-- the job stands at position i of the arrival order
+unfoldable pub isArrival : List ℕ → ℕ → ℕ → Bool
+isArrival order job i = eqb (getD order i 0) job
 
--- the job is in the arrival order
-unfoldable pub hasArrived : Ledger → ℕ → Bool
-hasArrived l job = anyBelow (l .arrivals) (isArrival l job)
+-- the job is among the first n
+unfoldable pub hasArrived : List ℕ → ℕ → ℕ → Bool
+hasArrived order n job = anyBelow n (isArrival order job)
 
 -- a state that a run can reach has lawful settings and counts within the capacity
 unfoldable pub isSane : Ledger → Bool
@@ -112,7 +113,7 @@ withVault l v state =
 -- "Arrival order is the order in which jobs are first held by a sound vault": a job that has not arrived goes to its end
 unfoldable pub arriving : Ledger → ℕ → Ledger
 arriving l job =
-    cond (hasArrived l job || leb capacity (l .arrivals)) l
+    cond (hasArrived (l .order) (l .arrivals) job || leb capacity (l .arrivals)) l
     (record {
       settings = l .settings;
       booked = l .booked;

@@ -1,0 +1,20 @@
+use Rattle.base.proofs.Tests.{chain}
+use Rattle.ledger.proofs.Ledger.is_sane.Statement.{statement}
+use Rattle.ledger.proofs.Ledger.is_sane.Tie as tie
+use Rattle.ledger.specs.State.{isSane}
+use borrow.Author.Needs.{needs}
+
+returns : tie.Need-returns
+unfolding isSane
+returns c = search chain depth 8
+
+returns-2 : tie.Need-returns-2
+unfolding isSane
+returns-2 c = search chain depth 8
+
+returns-3 : tie.Need-returns-3
+unfolding isSane
+returns-3 c = search chain depth 8
+
+pub is-sane-spec : {M : Type 1} → statement M
+is-sane-spec = tie.close (tie.spec (λ c κs. search needs) returns returns-2 returns-3)

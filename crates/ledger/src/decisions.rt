@@ -1,0 +1,199 @@
+// What a step decides, from the pieces that it names: the verdict of the checks before, a vault, the votes on a job. The ledger's
+// operations and the run share these functions.
+ghost use mathlib.Core.Path.{_≡_};
+ghost use Prim.Native.Nat.{_≤_};
+ghost use Rattle.ledger.specs.Decisions.{
+  refusing,
+  answering,
+  voting,
+  gated,
+  placing,
+  consenting,
+  consent,
+  certificate,
+  receiving,
+  committing,
+  statusOf,
+  ageing,
+};
+ghost use Rattle.ledger.specs.Steps.{gateOf};
+use crate::Change;
+use crate::Consent;
+use crate::Decision;
+use crate::Signing;
+use crate::Vault;
+use federation::Settings;
+use outcome::Outcome;
+use outcome::Refusal;
+use outcome::Verdict;
+
+pub fn refuse(why: Refusal) -> Decision
+    ensures { λ r. ⌜ r ≡ refusing why ⌝ }
+{
+    Decision {
+        outcome: Outcome::Refused(why),
+        change: Change::Nothing,
+    }
+}
+
+pub fn answer(value: u32) -> Decision
+    ensures { λ r. ⌜ r ≡ answering value ⌝ }
+{
+    Decision {
+        outcome: Outcome::Done(value),
+        change: Change::Nothing,
+    }
+}
+
+// The value is how many have voted once the vault has.
+pub fn vote(votes: u16, vault: u8, change: Change) -> Decision
+    ensures { λ r. ⌜ r ≡ voting votes vault change ⌝ }
+{
+    Decision {
+        outcome: Outcome::Done(sets::vaults::size(sets::vaults::with(votes, vault))),
+        change,
+    }
+}
+
+// Checks 3, 5 and 4, of a step that is for faulty vaults or for correct ones.
+pub fn gate(settings: Settings, vault: u8, faulty: bool, booked: bool) -> Verdict
+    ensures { λ r. ⌜ r ≡ gateOf settings vault faulty booked ⌝ }
+{
+    if vault >= settings.n {
+        return Verdict::Fail(Refusal::NoVault);
+    }
+    if sets::vaults::has(settings.faulty, vault) != faulty {
+        return Verdict::Fail(Refusal::WrongVault);
+    }
+    if booked {
+        return Verdict::Pass;
+    }
+    Verdict::Fail(Refusal::NotBooked)
+}
+
+// A faulty vault's vote.
+pub fn cast(gate: Verdict, votes: u16, vault: u8, change: Change) -> Decision
+    ensures { λ r. ⌜ r ≡ gated gate (voting votes vault change) ⌝ }
+{
+    match gate {
+        Verdict::Pass => vote(votes, vault, change),
+        Verdict::Fail(why) => refuse(why),
+    }
+}
+
+// Where a record goes that passes checks 6 to 9: to its booked equal, or after the booked records where there is room. A helper: the
+// counts are a ledger's.
+pub(crate) fn place(equal: usize, inside: usize, booked: usize, room: bool) -> Decision
+    requires { ⌜ (booked ≤ 128) × (inside ≤ booked) ⌝ }
+    ensures { λ r. ⌜ r ≡ placing equal inside booked room ⌝ }
+{
+    if equal < inside {
+        return answer(equal as u32);
+    }
+    if room {
+        return Decision {
+            outcome: Outcome::Done(booked as u32),
+            change: Change::Book,
+        };
+    }
+    refuse(Refusal::Full)
+}
+
+impl Signing {
+    fn decide(self, signers: u16, vault: u8) -> Decision
+        ensures { λ r. ⌜ r ≡ consenting (self .consent) (self .vault) signers vault ⌝ }
+    {
+        let consent = self.consent;
+        match consent {
+            Consent::Already => answer(sets::vaults::size(signers)),
+            Consent::Fresh => {
+                let state = self.vault;
+                vote(signers, vault, Change::Sign(state))
+            }
+            Consent::Denied(why) => refuse(why),
+        }
+    }
+}
+
+impl Vault {
+    // On the verdict of checks 11 to 14.
+    pub fn consent(self, admission: Verdict, signers: u16, vault: u8, job: usize) -> Decision
+        ensures { λ r. ⌜ r ≡ consent self admission signers vault job ⌝ }
+    {
+        self.preflight(admission, job).decide(signers, vault)
+    }
+
+    // A job with a valid certificate.
+    fn receive(self, acknowledgers: u16, vault: u8, job: usize) -> Decision
+        ensures { λ r. ⌜ r ≡ receiving self acknowledgers vault job ⌝ }
+    {
+        if self.held.has(job) {
+            return answer(sets::vaults::size(acknowledgers));
+        }
+        vote(acknowledgers, vault, Change::Hold(self.commit(job)))
+    }
+}
+
+// Checks 15 and 16.
+fn certificate(settings: Settings, recorded: u16, signers: u16) -> Verdict
+    ensures { λ r. ⌜ r ≡ certificate settings recorded signers ⌝ }
+{
+    if !sets::vaults::subset(signers, recorded) {
+        return Verdict::Fail(Refusal::NotSigned);
+    }
+    if sets::vaults::size(signers) < settings.threshold() {
+        return Verdict::Fail(Refusal::TooFewSigners);
+    }
+    Verdict::Pass
+}
+
+fn certify(settings: Settings, state: Vault, recorded: u16, acknowledgers: u16, vault: u8, job: usize, signers: u16) -> Decision
+    ensures { λ r. ⌜ r ≡ committing settings state recorded acknowledgers vault job signers ⌝ }
+{
+    let verdict = certificate(settings, recorded, signers);
+    match verdict {
+        Verdict::Pass => state.receive(acknowledgers, vault, job),
+        Verdict::Fail(why) => refuse(why),
+    }
+}
+
+pub fn commit(
+    gate: Verdict,
+    settings: Settings,
+    state: Vault,
+    recorded: u16,
+    acknowledgers: u16,
+    vault: u8,
+    job: usize,
+    signers: u16,
+) -> Decision
+    ensures { λ r. ⌜ r ≡ gated gate (committing settings state recorded acknowledgers vault job signers) ⌝ }
+{
+    match gate {
+        Verdict::Pass => certify(settings, state, recorded, acknowledgers, vault, job, signers),
+        Verdict::Fail(why) => refuse(why),
+    }
+}
+
+// 2 finished, 1 certified, 0 open.
+fn status(settings: Settings, signers: u16, acknowledgers: u16) -> u32
+    ensures { λ r. ⌜ r ≡ statusOf settings signers acknowledgers ⌝ }
+{
+    let threshold = settings.threshold();
+    if threshold <= sets::vaults::size(acknowledgers) {
+        return 2;
+    }
+    if threshold <= sets::vaults::size(signers) {
+        return 1;
+    }
+    0
+}
+
+pub fn show(gate: Verdict, settings: Settings, signers: u16, acknowledgers: u16) -> Decision
+    ensures { λ r. ⌜ r ≡ gated gate (answering (statusOf settings signers acknowledgers)) ⌝ }
+{
+    match gate {
+        Verdict::Pass => answer(status(settings, signers, acknowledgers)),
+        Verdict::Fail(why) => refuse(why),
+    }
+}
