@@ -1,8 +1,8 @@
 -- Checks 1, 3, 4 and 5 decide what specs/Meaning.antt says of them: a gate passes exactly where its claim holds. What a step may do
--- behind its gate, index the sets of a job and a vault's state, follows.
+-- behind its gate follows, and the rules by which the operations are proved: through an open gate, and through a shut one.
 use mathlib.Core.Bool.{Bool, Bool·beq, cond, false, true, true≢false}
 use mathlib.Core.List.{List}
-use mathlib.Core.Path.{_≡_, refl, sym}
+use mathlib.Core.Path.{_∙_, _≡_, refl, sym}
 use Prim.Native.Nat.{_*_, _<_, _^_, _≤_, ℕ}
 use native.Mathlib.Omega.{arith}
 use lib.Count.{ones}
@@ -10,6 +10,7 @@ use lib.Dec.{ltb}
 use borrow.Author.Tests.{lt-ltb, ltb-true}
 use Rattle.base.proofs.Reflect.{reflect-and, reflect-as, reflect-le, reflect-lt}
 use Rattle.base.specs.Reflect.{Reflects}
+use Rattle.outcome.specs.declared.Outcome.the-variants.{Refused}
 use Rattle.outcome.specs.declared.Refusal.{Refusal}
 use Rattle.outcome.specs.declared.Verdict.{Verdict}
 use Rattle.outcome.specs.declared.Verdict.the-variants.{Fail, Pass}
@@ -18,8 +19,12 @@ use Rattle.federation.proofs.Lawful.{reflect-lawful}
 use Rattle.journal.proofs.Booked.{reflect-booked}
 use Rattle.journal.specs.Journal.{Booked, capacity}
 use Rattle.ledger.specs.Meaning.{Entered, Sane}
-use Rattle.ledger.specs.State.{isSane}
-use Rattle.ledger.specs.Steps.{bookedGate, gateOf, vaultGate}
+use Rattle.ledger.specs.State.{applied, isSane}
+use Rattle.ledger.specs.Steps.{bookedGate, carried, gateOf, turned, vaultGate}
+use Rattle.ledger.specs.Decisions.{gated}
+use Rattle.ledger.specs.Placed.{Placed}
+use Rattle.ledger.specs.declared.Decision.{Decision}
+use Rattle.ledger.specs.declared.Reply.{Reply}
 use Rattle.ledger.specs.declared.Ledger.{Ledger}
 
 pub reflect-sane : (l : Ledger) → Reflects (isSane l) (Sane l)
@@ -72,13 +77,45 @@ unfolding vaultGate gateOf
 enters l journal v job faulty h =
     simp (reflect-sane l .complete (h .sane), lt-ltb _ _ (h .vault), reflect-beq _ _ .complete (h .role), reflect-booked journal (l .booked) job .complete (h .known))
 
--- ---- what is indexed behind a gate
-module _ (l : Ledger) (journal : List ℕ) (v job : ℕ) (faulty : Bool) (gate : vaultGate l journal v job faulty ≡ Pass) where
-  pub vault-below : v < 16
-  vault-below = let h = entered l journal v job faulty gate in omega (arith, h .vault, h .sane .lawful .vaults)
+-- ---- what a step may rely on behind its gate
+module _ (l : Ledger) (journal : List ℕ) (v job : ℕ) (faulty : Bool) where
+  pub in-place : Entered l journal v job faulty → Placed l v job
+  in-place h = record {
+    vault = omega (arith, h .vault, h .sane .lawful .vaults);
+    job = omega (arith, h .known .below, h .sane .booked);
+    booked = h .sane .booked;
+    arrivals = h .sane .arrivals;
+  }
 
-  pub job-below : job < 128
-  job-below = let h = entered l journal v job faulty gate in omega (arith, h .known .below, h .sane .booked)
+  pub placed : (r : Verdict) → r ≡ vaultGate l journal v job faulty → r ≡ Pass → Placed l v job
+  placed r p q = in-place (entered l journal v job faulty (sym p ∙ q))
 
-  pub arrivals-within : l .arrivals ≤ 128
-  arrivals-within = entered l journal v job faulty gate .sane .arrivals
+  pub placed-vault : (r : Verdict) → r ≡ vaultGate l journal v job faulty → r ≡ Pass → v < 16
+  placed-vault r p q = placed r p q .vault
+
+  pub placed-job : (r : Verdict) → r ≡ vaultGate l journal v job faulty → r ≡ Pass → job < 128
+  placed-job r p q = placed r p q .job
+
+module _ (l : Ledger) (journal : List ℕ) (job : ℕ) where
+  pub known-job : (r : Verdict) → r ≡ bookedGate l journal job → r ≡ Pass → job < 128
+  known-job r p q = let h = booked-entered l journal job (sym p ∙ q) in omega (arith, h .1 .below, h .0 .booked)
+
+pub ruleset entering = (placed, placed-vault, placed-job, known-job)
+
+-- ---- the two ways of a step: its gate passes and what was decided is carried, or its gate fails
+module _ (l : Ledger) (v job : ℕ) where
+  pub opened : (g r : Verdict) (d e : Decision) (z : Reply) → r ≡ g → r ≡ Pass → e ≡ gated r d → z ≡ carried l e v job → z ≡ carried l (gated g d) v job
+  opened g r d e z p q u w = simp (← p, ← u) w
+
+  pub shut : (g r : Verdict) (d : Decision) (why : Refusal) (z : Reply) → r ≡ g → r ≡ Fail why → z ≡ turned l why → z ≡ carried l (gated g d) v job
+  unfolding applied
+  shut g r d why z p q w = simp (sym p ∙ q) w
+
+-- the same of a step that only reads
+pub read-opened : (g r : Verdict) (d e : Decision) → r ≡ g → r ≡ Pass → e ≡ gated r d → e .outcome ≡ gated g d .outcome
+read-opened g r d e p q u = simp (← p, ← u)
+
+pub read-shut : (g r : Verdict) (d : Decision) (why : Refusal) → r ≡ g → r ≡ Fail why → Refused why ≡ gated g d .outcome
+read-shut g r d why p q = simp (sym p ∙ q)
+
+pub ruleset ways = (opened, shut, read-opened, read-shut, entering)

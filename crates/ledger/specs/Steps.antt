@@ -8,6 +8,7 @@ use Rattle.outcome.specs.declared.Outcome.{Outcome}
 use Rattle.outcome.specs.declared.Outcome.the-variants.{Done, Refused}
 use Rattle.outcome.specs.declared.Verdict.{Verdict}
 use Rattle.outcome.specs.declared.Verdict.the-variants.{Pass, Fail}
+use Rattle.outcome.specs.declared.Refusal.{Refusal}
 use Rattle.outcome.specs.declared.Refusal.the-variants.{Settings as BadSettings, NoVault, NotBooked, WrongVault}
 use Rattle.sets.specs.Bits.{hasBit}
 use Rattle.federation.specs.Federation.{isLawful, thresholdOf}
@@ -92,6 +93,10 @@ generationsDecision l journal job =
 
 abbrev pub carried : Ledger → Decision → ℕ → ℕ → Reply
 carried l d v job = record { outcome = d .outcome; ledger = applied l (d .change) v job }
+
+-- a step that is turned back
+abbrev pub turned : Ledger → Refusal → Reply
+turned l why = record { outcome = Refused why; ledger = l }
 
 -- the lent journal afterwards: a new record stands after the booked ones
 abbrev pub journalWith : Change → Ledger → List ℕ → List ℕ → List ℕ

@@ -3,6 +3,7 @@
 // specs/Steps.antt, refused steps included. A step is decided from small pieces, and what it changes is applied in one place.
 mod books;
 pub mod decisions;
+mod steps;
 mod vaults;
 
 use federation::Settings;
