@@ -1,5 +1,4 @@
--- What is printed: "For each step a line: step number from 1, 0 or the refusal, a value; single spaces between". Text is written at a cursor:
--- what does not fit is dropped, and the cursor counts it all the same.
+-- What is printed: "For each step a line: step number from 1, 0 or the refusal, a value; single spaces between". Text is written at a cursor.
 use mathlib.Core.Bool.{cond}
 use mathlib.Core.List.{List, [], _++_, _∷_}
 use mathlib.Core.Path.{_≡_}
@@ -31,11 +30,9 @@ lineOf step number value = decimal step ++ (32 ∷ (decimal number ++ (32 ∷ (d
 abbrev pub lineFor : ℕ → Outcome → List ℕ
 lineFor step outcome = lineOf step (numberOf outcome) (valueOf outcome)
 
--- the numbers of a line that has 14 bytes at most
-pub record Brief (step number value : ℕ) : Type 0 where
-  pub step-digits : step < 100000
-  pub number-digits : number < 100
-  pub value-digits : value < 10000
+-- ten digits at most for the step and for the value, four for the number, two spaces and the line's end
+abbrev pub longestLine : ℕ
+longestLine = 27
 
 -- the text was written at the cursor, which moved on by its length
 pub record Put (before : List ℕ) (at : ℕ) (text after : List ℕ) (r : ℕ) : Type 0 where

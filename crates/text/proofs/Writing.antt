@@ -1,5 +1,4 @@
 -- Texts written one after another are written whole, and a number's last digit follows the rest of it.
--- Assumes nothing.
 use mathlib.Core.Bool.{Bool, false, true}
 use mathlib.Core.List.{List, [], _++_, _∷_, append-assoc}
 use mathlib.Core.Path.{_∙_, _≡_, ap, refl, sym}
@@ -11,7 +10,9 @@ use lib.Dec.{ltb}
 use lib.ListN.{drop, getD, length, length-append, length-take, set, take}
 use lib.Seq.{sets, sets-eq, take-all, take-at, take-suc}
 use borrow.Author.Tests.{le-ltb, lt-ltb, ltb-false, ltb-true}
-use Rattle.runfile.specs.Text.{Put, decimal, digits, twoDigits}
+use Rattle.outcome.specs.Figures.{numberOf, valueOf}
+use Rattle.outcome.specs.declared.Outcome.{Outcome}
+use Rattle.text.specs.Text.{Put, decimal, digits, lineFor, lineOf, twoDigits}
 
 sets-append : (s t l : List ℕ) (i : ℕ) → sets (sets l i s) (i + length s) t ≡ sets l i (s ++ t)
 sets-append [] t l i = simp add-zero
@@ -65,13 +66,6 @@ decimal-hundreds n h =
     let c : n % 10 ≡ n % 100 % 10 = omega arith in
     decimal-more n (omega arith) ∙ rw (decimal-more (n / 10) (omega arith), a, b, c) (append-assoc (decimal (n / 100)) _ _)
 
--- how many digits
-decimal-length : (k n : ℕ) → n < 10 ^ k * 10 → length (decimal n) ≤ k + 1
-decimal-length zero n h = rw (decimal-one n (omega arith)) (omega arith)
-decimal-length (suc k) n h =
-    by-ten n (λ l. rw (decimal-one n l) (omega arith))
-    (λ m. rw (decimal-more n m) (simp length-append (omega (arith, decimal-length k (n / 10) (omega (arith, rw (pow-suc 10 k) at h))))))
-
 -- ---- numbers written
 module _ {o p : List ℕ} {i r n : ℕ} where
   pub one-digit : n < 10 → Put o i ((48 + n) ∷ []) p r → Put o i (decimal n) p r
@@ -84,20 +78,9 @@ module _ {o p : List ℕ} {i r n : ℕ} where
   pub hundreds : 100 ≤ n → {q : List ℕ} {j : ℕ} → Put o i (decimal (n / 100)) q j → Put q j (twoDigits (n % 100)) p r → Put o i (decimal n) p r
   hundreds h v w = rw (decimal-hundreds n h) (then v w)
 
-  -- where a number with at most k + 1 digits ends
-  pub number-ends : (k : ℕ) → n < 10 ^ k * 10 → Put o i (decimal n) p r → r ≤ i + (k + 1)
-  number-ends k h w = omega (arith, w .moved, decimal-length k n h)
-
--- ---- a text put byte by byte
-module _ {o p : List ℕ} {at r : ℕ} (text : List ℕ) (i : ℕ) where
-  pub one-more : i < length text → Put o at (take i text ++ (getD text i 0 ∷ [])) p r → Put o at (take (i + 1) text) p r
-  one-more h w = rw (add-one, take-suc text i 0 h) w
-
-  pub all-put : length text ≤ i → Put o at (take i text) p r → Put o at text p r
-  all-put h w = rw (take-all i text h) at w
-
-pub part-short : (k n : ℕ) (l : List ℕ) → n ≤ k → length (take n l) ≤ k
-part-short k n l h = omega (arith, length-take n l)
+-- a line of an outcome's figures
+pub line-told : {o p : List ℕ} {at r a b : ℕ} (step : ℕ) (x : Outcome) → a ≡ numberOf x → b ≡ valueOf x → Put o at (lineOf step a b) p r → Put o at (lineFor step x) p r
+line-told step x f g w = rw (f, g) at w
 
 -- a text made at the start of a buffer with room for it is what the buffer's first bytes are
 pub made : {o p t : List ℕ} {r : ℕ} → r ≤ length o → Put o 0 t p r → take r p ≡ t
