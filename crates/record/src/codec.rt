@@ -86,7 +86,10 @@ pub fn entry_of(bytes: &[u8], e: usize) -> Entry
     if e < 8 {
         return entry_at(bytes, HEAD + ENTRY * e);
     }
-    Entry { label: 0, frames: 0 }
+    Entry {
+        label: 0,
+        frames: 0,
+    }
 }
 
 // How many inputs the job has that the bytes say, and how many outputs.
