@@ -50,11 +50,11 @@ module _ (job job′ : ℕ → Job) (n : ℕ) (alike : (k : ℕ) → k < n → j
   there : (p : ℕ) → p < 8 * n → job (p / 8) ≡ job′ (p / 8)
   there p l = alike (p / 8) (omega arith)
 
-  used-alike : (p : ℕ) → p < 8 * n → usedAt job p ≡ usedAt job′ p
+  pub used-alike : (p : ℕ) → p < 8 * n → usedAt job p ≡ usedAt job′ p
   unfolding usedAt
   used-alike p l = ap (λ (a : Job). isUsed a (p % 8)) (there p l)
 
-  label-alike : (p : ℕ) → p < 8 * n → labelAt job p ≡ labelAt job′ p
+  pub label-alike : (p : ℕ) → p < 8 * n → labelAt job p ≡ labelAt job′ p
   unfolding labelAt
   label-alike p l = ap (λ (a : Job). labelOf a (p % 8)) (there p l)
 
@@ -62,7 +62,7 @@ module _ (job job′ : ℕ → Job) (n : ℕ) (alike : (k : ℕ) → k < n → j
   unfolding framesAt
   frames-alike p l = ap (λ (a : Job). framesOf a (p % 8)) (there p l)
 
-  number-alike : (exact : Bool) (p : ℕ) → p < 8 * n → numberAt job exact p ≡ numberAt job′ exact p
+  pub number-alike : (exact : Bool) (p : ℕ) → p < 8 * n → numberAt job exact p ≡ numberAt job′ exact p
   unfolding numberAt isMatch
   number-alike exact p l =
       first-same _ _ p (λ i li.

@@ -15,6 +15,7 @@ use borrow.Author.Tests.{eq-eqb, eqb-false, eqb-true, le-ltb, lt-ltb, ne-eqb}
 use Rattle.base.specs.Search.{anyBelow, firstBelow}
 use Rattle.record.specs.Entries.{framesOf, isUsed, labelOf}
 use Rattle.record.specs.declared.Job.{Job}
+use Rattle.journal.specs.Journal.{capacity}
 use Rattle.index.proofs.Chains.{last-no, last-yes}
 use Rattle.index.proofs.Marks.{mark-other, mark-sets, mark-size}
 use Rattle.index.specs.Chains.{lastBelow}
@@ -199,7 +200,7 @@ module _ (job : ℕ → Job) (m : ℕ) (unused : usedAt job m ≡ false) where
   before : (p : ℕ) → p < suc m → usedAt job p ≡ true → p < m
   before p l u = ⊎-elim (λ (e : p ≡ m). absurd (true≢false (sym u ∙ ap (usedAt job) e ∙ unused))) (λ (o : p < m). o) (last-or-below p m l)
 
-  numbered-same : (numbers : List ℕ) → Numbered job m numbers → Numbered job (suc m) numbers
+  pub numbered-same : (numbers : List ℕ) → Numbered job m numbers → Numbered job (suc m) numbers
   numbered-same numbers t = record {
     size = t .size;
     small = t .small;
@@ -208,11 +209,9 @@ module _ (job : ℕ → Job) (m : ℕ) (unused : usedAt job m ≡ false) where
     headed = λ b l. t .headed b l ∙ sym (last-no (inBucket job b) m (no-bucket b));
   }
 
-  marked-same : (sets : List ℕ) → Marked job m sets → Marked job (suc m) sets
+  pub marked-same : (sets : List ℕ) → Marked job m sets → Marked job (suc m) sets
   unfolding anyBelow marks
   marked-same sets t = record { size = t .size; bits = λ x l. simp unused (t .bits x l) }
-
--- ---- the whole index
 
 -- the place of an entry
 module _ (job : ℕ → Job) (n e : ℕ) (le : e < 8) (a : Job) (ea : a ≡ job n) where
@@ -234,48 +233,19 @@ module _ (job : ℕ → Job) (n e : ℕ) (le : e < 8) (a : Job) (ea : a ≡ job 
   unfolding framesAt
   place-frames = rw (job-there, entry-there, ea)
 
-module _ (job : ℕ → Job) (n e : ℕ) (numbers sets : List ℕ) (ln : n < 128) (le : e < 8) (t : Entered job (8 * n + e) numbers sets) where
-  -- what the searches found are the numbers of the place
-  number-now : (exact : Bool) (label frames r : ℕ) → label ≡ labelAt job (8 * n + e) → frames ≡ framesAt job (8 * n + e)
-      → r ≡ firstBelow (8 * n + e) (isMatch job exact label frames) → r ≡ numberAt job exact (8 * n + e)
-  unfolding numberAt
-  number-now exact label frames r el ef er = er ∙ rw (el, ef)
-
-  pub entered-next : (label frames name tape b : ℕ) (after joined : List ℕ) → usedAt job (8 * n + e) ≡ true
-      → label ≡ labelAt job (8 * n + e) → frames ≡ framesAt job (8 * n + e)
-      → Sought job label frames (8 * n + e) name tape
-      → (b ≡ bucketOf label) × (b < buckets)
-      → after ≡ numbersWith numbers (8 * n + e) name tape b → joined ≡ setsWith sets name tape n e
-      → Entered job (8 * n + e + 1) after joined
-  entered-next label frames name tape b after joined u el ef own eb ea ej =
-      let x = number-now false label frames name el ef (own .name-first) in
-      let y = number-now true label frames tape el ef (own .tape-first) in
-      rw (add-one (8 * n + e), ea, ej) (record {
-        numbered = numbered-next job (8 * n + e) numbers (t .numbered) (omega arith) u name tape b (own .name-low) (own .tape-low) (eb .1) x y (eb .0 ∙ ap bucketOf el);
-        marked = marked-next job (8 * n + e) sets (t .marked) (omega arith) u name tape n e x y (omega arith) (omega arith) (own .name-low) (own .tape-low);
-      })
-
-  pub entered-same : (a : Job) (r : Bool) → a ≡ job n → r ≡ isUsed a e → r ≡ false → Entered job (8 * n + e + 1) numbers sets
-  entered-same a r ea er u =
-      let h : usedAt job (8 * n + e) ≡ false = place-used job n e le a ea ∙ sym er ∙ u in
-      rw (add-one (8 * n + e)) (record {
-        numbered = numbered-same job (8 * n + e) h numbers (t .numbered);
-        marked = marked-same job (8 * n + e) h sets (t .marked);
-      })
-
 -- ---- the marks of an entry
 mark-none : (words : List ℕ) (b : ℕ) → marked words b false ≡ words
 unfolding marked
 mark-none words b = refl
 
 module _ (sets : List ℕ) (label tape n e : ℕ) where
-  pub mark-input : (after : List ℕ) → e < 4 → after ≡ marked sets (128 * (3 * label) + n) true → after ≡ setsWith sets label tape n e
+  pub mark-input : (after : List ℕ) → e < 4 → after ≡ marked sets (capacity * (3 * label) + n) true → after ≡ setsWith sets label tape n e
   unfolding setsWith sideOf
   mark-input after l h =
       let z : 3 * label + 0 ≡ 3 * label = omega arith in
       h ∙ sym (simp (lt-ltb e 4 l, z, mark-none))
 
-  pub mark-output : (one after : List ℕ) → 4 ≤ e → one ≡ marked sets (128 * (3 * label + 1) + n) true
-      → after ≡ marked one (128 * (3 * tape + 2) + n) true → after ≡ setsWith sets label tape n e
+  pub mark-output : (one after : List ℕ) → 4 ≤ e → one ≡ marked sets (capacity * (3 * label + 1) + n) true
+      → after ≡ marked one (capacity * (3 * tape + 2) + n) true → after ≡ setsWith sets label tape n e
   unfolding setsWith sideOf
   mark-output one after l g h = h ∙ sym (simp (le-ltb e 4 l, sym g))

@@ -1,55 +1,36 @@
--- An entry of a record, read where it stands in the journal; and the jobs of a journal are those that it books.
--- Assumes nothing.
+-- The jobs of a journal's places are those that it books, and an entry is read from its record's part.
 use mathlib.Core.List.{List}
-use mathlib.Core.Path.{_∙_, _≡_, ap, refl, sym}
-use Prim.Native.Nat.{_%_, _*_, _+_, _/_, _<_, _≤_, suc, zero, ℕ}
-use native.Mathlib.Nat.{not-suc-le-zero}
+use mathlib.Core.Path.{_∙_, _≡_, ap, sym}
+use Prim.Native.Nat.{_%_, _*_, _+_, _/_, _<_, _≤_, ℕ}
 use native.Mathlib.Omega.{arith}
-use lib.ListN.{drop, getD, length, take}
-use lib.Seq.{getD-drop, getD-take}
+use lib.ListN.{getD, length}
 use borrow.Author.Tests.{le-leb, lt-ltb}
-use Rattle.record.specs.Codec.{entriesAt, entryAt, jobOf, leAt, recordSize}
+use Rattle.record.specs.Codec.{jobOf, recordSize}
 use Rattle.record.specs.Entries.{framesOf, labelOf, noEntry}
 use Rattle.record.specs.declared.Entry.{Entry}
-use Rattle.journal.specs.Journal.{isBooked, jobAt, recordAt, slotAt}
+use Rattle.record.specs.declared.Job.{Job}
+use Rattle.journal.specs.Journal.{isBooked, jobAt, recordAt, slotAt, slots}
 use Rattle.index.specs.Places.{framesAt, labelAt, slotJob}
 
-leAt-part : (s : List ℕ) (d c at k : ℕ) → at + k ≤ c → leAt (take c (drop d s)) at k ≡ leAt s (d + at) k
-unfolding leAt
-leAt-part s d c at zero h = refl
-leAt-part s d c at (suc k) h =
-    let q : d + (at + 1) ≡ d + at + 1 = omega arith in
-    let r = leAt-part s d c (at + 1) k (omega arith) in
-    rw (getD-take c (drop d s) at 0 (omega arith), getD-drop d s at 0, r, q)
+-- a booked record is the one in its place
+part-slot : (journal : List ℕ) (booked k : ℕ) → recordSize * booked ≤ length journal → k < booked → recordAt journal booked k ≡ slotAt journal k
+unfolding recordAt isBooked
+part-slot journal booked k h l = simp (le-leb booked (slots journal) (omega arith), lt-ltb k booked l)
 
-entryAt-part : (s : List ℕ) (d c at : ℕ) → at + 12 ≤ c → entryAt (take c (drop d s)) at ≡ entryAt s (d + at)
-unfolding entryAt
-entryAt-part s d c at h =
-    let q : d + (at + 8) ≡ d + at + 8 = omega arith in
-    rw (leAt-part s d c at 8 (omega arith), leAt-part s d c (at + 8) 4 (omega arith), q)
+pub slot-booked : (journal : List ℕ) (booked k : ℕ) → recordSize * booked ≤ length journal → k < booked → slotJob journal k ≡ jobAt journal booked k
+unfolding slotJob jobAt
+slot-booked journal booked k h l = ap jobOf (sym (part-slot journal booked k h l))
 
-entriesAt-get : (s : List ℕ) (at n e : ℕ) → e < n → getD (entriesAt s at n) e noEntry ≡ entryAt s (at + 12 * e)
-unfolding entriesAt
-entriesAt-get s at zero e l = absurd (not-suc-le-zero l)
-entriesAt-get s at (suc n) zero l = let z : at + 12 * 0 ≡ at = omega arith in rw z
-entriesAt-get s at (suc n) (suc e) l =
-    let z : at + 12 * suc e ≡ at + 12 + 12 * e = omega arith in
-    rw z (entriesAt-get s (at + 12) n e (omega arith))
+-- the part of the journal that is record k
+module _ (journal part : List ℕ) (k : ℕ) (inside : recordSize * k + recordSize ≤ length journal) (e : part ≡ recordAt journal (slots journal) k) where
+  pub part-job : jobOf part ≡ slotJob journal k
+  unfolding slotJob
+  part-job = ap jobOf (e ∙ part-slot journal (slots journal) k (omega arith) (omega arith))
 
-slot-entry : (journal : List ℕ) (k e : ℕ) → e < 8 → entryAt journal (100 * k + 4 + 12 * e) ≡ getD (slotJob journal k .entries) e noEntry
-unfolding slotJob jobOf slotAt
-slot-entry journal k e l =
-    let z : 100 * k + (4 + 12 * e) ≡ 100 * k + 4 + 12 * e = omega arith in
-    sym (entriesAt-get (slotAt journal k) 4 8 e l ∙ entryAt-part journal (100 * k) 100 (4 + 12 * e) (omega arith) ∙ ap (entryAt journal) z)
-
-pub place-read : (journal : List ℕ) (at : ℕ) (r : Entry) → r ≡ entryAt journal (100 * (at / 8) + 4 + 12 * (at % 8))
+pub place-read : (journal part : List ℕ) (at : ℕ) (r : Entry) → recordSize * (at / 8) + recordSize ≤ length journal
+    → part ≡ recordAt journal (slots journal) (at / 8) → r ≡ getD (jobOf part .entries) (at % 8) noEntry
     → (r .label ≡ labelAt (slotJob journal) at) × (r .frames ≡ framesAt (slotJob journal) at)
 unfolding labelAt framesAt labelOf framesOf
-place-read journal at r e =
-    let q = e ∙ slot-entry journal (at / 8) (at % 8) (omega arith) in
+place-read journal part at r h p e =
+    let q = e ∙ ap (λ (a : Job). getD (a .entries) (at % 8) noEntry) (part-job journal part (at / 8) h p) in
     (ap (λ (x : Entry). x .label) q, ap (λ (x : Entry). x .frames) q)
-
--- a booked job is the slot's
-pub slot-booked : (journal : List ℕ) (booked k : ℕ) → recordSize * booked ≤ length journal → k < booked → slotJob journal k ≡ jobAt journal booked k
-unfolding slotJob jobAt recordAt isBooked
-slot-booked journal booked k h l = simp (le-leb booked (length journal / recordSize) (omega arith), lt-ltb k booked l)

@@ -11,32 +11,32 @@ use Rattle.base.specs.Search.{anyBelow, firstBelow}
 use Rattle.record.specs.Codec.{jobOf, recordSize}
 use Rattle.record.specs.Entries.{framesOf, isUsed, labelOf}
 use Rattle.record.specs.declared.Job.{Job}
-use Rattle.journal.specs.Journal.{slotAt}
+use Rattle.journal.specs.Journal.{capacity, slotAt}
 use Rattle.index.specs.Chains.{lastBelow}
 use Rattle.index.specs.Words.{bitAt}
 
 -- ---- sizes
 
--- 128 jobs of eight entries
+-- as many jobs as a journal books, of eight entries
 abbrev pub places : ℕ
-places = 1024
+places = 8 * capacity
 
 abbrev pub buckets : ℕ
 buckets = 1021
 
 -- where the links and the heads stand among the numbers, after the numbers of labels and those of tapes
 abbrev pub linksAt : ℕ
-linksAt = 2048
+linksAt = 2 * places
 
 abbrev pub headsAt : ℕ
-headsAt = 3072
+headsAt = 3 * places
 
 abbrev pub numbersSize : ℕ
-numbersSize = 4093
+numbersSize = headsAt + buckets
 
 -- three sets of two words at each number
 abbrev pub setsSize : ℕ
-setsSize = 6144
+setsSize = 6 * places
 
 -- ---- the jobs of a journal, booked or not
 
@@ -78,6 +78,12 @@ module _ (job : ℕ → Job) where
   unfoldable pub inBucket : ℕ → ℕ → Bool
   inBucket b p = usedAt p && eqb (bucketOf (labelAt p)) b
 
+-- the place is used, and has the label and the frames
+pub record UsedEntry (job : ℕ → Job) (p label frames : ℕ) : Type 0 where
+  pub used : usedAt job p ≡ true
+  pub label-is : label ≡ labelAt job p
+  pub frames-are : frames ≡ framesAt job p
+
 -- the two numbers of a tape that is sought among the first m places
 pub record Sought (job : ℕ → Job) (label frames m name tape : ℕ) : Type 0 where
   pub name-first : name ≡ firstBelow m (isMatch job false label frames)
@@ -93,7 +99,7 @@ numbersAt exact = cond exact places 0
 
 -- where the bit of job k stands: 0, as an input; 1, as an output; 2, as a maker
 abbrev pub bitOf : ℕ → ℕ → ℕ → ℕ
-bitOf kind number k = 128 * (3 * number + kind) + k
+bitOf kind number k = capacity * (3 * number + kind) + k
 
 -- inputs and outputs
 unfoldable pub sideOf : ℕ → ℕ

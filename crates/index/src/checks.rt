@@ -2,8 +2,12 @@
 ghost use mathlib.Core.Path.{_≡_};
 ghost use Prim.Native.Nat.{_+_, _*_, _<_, _≤_};
 ghost use Rattle.sets.specs.Jobs.{InWords};
+ghost use Rattle.journal.specs.Journal.{capacity, jobAt};
+ghost use Rattle.index.specs.Admission.{admission};
 ghost use Rattle.index.specs.Checks.{Tables, setOf, metAt, firstMet, unmetAt, firstUnmet, consumedBy, admissionBy};
+ghost use Rattle.index.specs.Index.{IndexedEntries};
 ghost use Rattle.index.specs.Places.{linksAt, places};
+use crate::PLACES;
 use crate::seeking;
 use crate::words;
 use outcome::Refusal;
@@ -24,28 +28,12 @@ fn set_of(numbers: &[u16], sets: &[u64], at: usize, kind: usize) -> JobSet
     words::set_at(sets, 6 * seeking::number(numbers, at) + 2 * kind)
 }
 
-// The jobs that have the label of entry e of job k as an input.
-pub fn readers(numbers: &[u16], sets: &[u64], k: usize, e: usize) -> JobSet
-    requires { ⌜ (k < 128) × (e < 8) × Tables (now numbers) (now sets) ⌝ }
-    ensures { λ r. ⌜ (r ≡ setOf (now (numbers .entry)) (now (sets .entry)) (8 * k + e) 0) × InWords r ⌝ }
-{
-    set_of(numbers, sets, 8 * k + e, READERS)
-}
-
-// As an output.
-pub fn writers(numbers: &[u16], sets: &[u64], k: usize, e: usize) -> JobSet
-    requires { ⌜ (k < 128) × (e < 8) × Tables (now numbers) (now sets) ⌝ }
-    ensures { λ r. ⌜ (r ≡ setOf (now (numbers .entry)) (now (sets .entry)) (8 * k + e) 1) × InWords r ⌝ }
-{
-    set_of(numbers, sets, 8 * k + e, WRITERS)
-}
-
-// The jobs that make its tape.
+// The jobs that make the tape of entry e of job k.
 pub fn makers(numbers: &[u16], sets: &[u64], k: usize, e: usize) -> JobSet
     requires { ⌜ (k < 128) × (e < 8) × Tables (now numbers) (now sets) ⌝ }
     ensures { λ r. ⌜ (r ≡ setOf (now (numbers .entry)) (now (sets .entry)) (places + 8 * k + e) 2) × InWords r ⌝ }
 {
-    set_of(numbers, sets, seeking::PLACES + 8 * k + e, MAKERS)
+    set_of(numbers, sets, PLACES + 8 * k + e, MAKERS)
 }
 
 fn met_at(
@@ -133,7 +121,7 @@ fn consumed(
     others: JobSet,
     job: usize,
 ) -> Verdict
-    requires { ⌜ (job < 128) × Tables (now numbers) (now sets) ⌝ }
+    requires { ⌜ (job < capacity) × Tables (now numbers) (now sets) ⌝ }
     ensures { λ r. ⌜ r ≡ consumedBy (now (numbers .entry)) (now (sets .entry)) inputs held others job ⌝ }
 {
     let retired = first_met(numbers, sets, inputs, 8 * job, READERS, held);
@@ -147,9 +135,8 @@ fn consumed(
     Verdict::Pass
 }
 
-// Of a job with so many inputs and outputs, against the jobs that a vault holds and the others that it signed. Which of checks 12 and 13
-// fails is looked for only where one does.
-pub fn admission(
+// Of a job with so many inputs and outputs. Which of checks 12 and 13 fails is looked for only where one does.
+fn admission_by(
     numbers: &[u16],
     sets: &[u64],
     inputs: usize,
@@ -158,11 +145,11 @@ pub fn admission(
     others: JobSet,
     job: usize,
 ) -> Verdict
-    requires { ⌜ (job < 128) × Tables (now numbers) (now sets) ⌝ }
+    requires { ⌜ (job < capacity) × Tables (now numbers) (now sets) ⌝ }
     ensures { λ r. ⌜ r ≡ admissionBy (now (numbers .entry)) (now (sets .entry)) inputs outputs held others job ⌝ }
 {
     let at = 8 * job;
-    let missing = first_unmet(numbers, sets, inputs, seeking::PLACES + at, MAKERS, held);
+    let missing = first_unmet(numbers, sets, inputs, PLACES + at, MAKERS, held);
     if missing < 4 {
         return Verdict::Fail(Refusal::NotCreated(missing as u8));
     }
@@ -175,4 +162,23 @@ pub fn admission(
         return Verdict::Fail(Refusal::OutputReserved(4 + remade as u8));
     }
     Verdict::Pass
+}
+
+// Checks 11 to 14 of a booked job, against the jobs that a vault holds and the others that it signed.
+pub fn admission(
+    numbers: &[u16],
+    sets: &[u64],
+    journal: &[u8],
+    n: usize,
+    held: JobSet,
+    others: JobSet,
+    job: usize,
+) -> Verdict
+    requires { ⌜ (job < n) × IndexedEntries (now journal) n (now numbers) (now sets) ⌝ }
+    ensures { λ r. ⌜ r ≡ admission (jobAt (now (journal .entry)) n) n held others (jobAt (now (journal .entry)) n job) ⌝ }
+{
+    let part = journal::lookup(journal, n, job);
+    let inputs = record::inputs_of(part) as usize;
+    let outputs = record::outputs_of(part) as usize;
+    admission_by(numbers, sets, inputs, outputs, held, others, job)
 }

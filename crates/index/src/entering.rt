@@ -1,13 +1,19 @@
 // A booked job is entered in the index, entry by entry.
-ghost use mathlib.Core.Bool.{true};
 ghost use mathlib.Core.Path.{_≡_};
 ghost use Prim.Native.Nat.{_*_, _+_, _<_, _≤_};
 ghost use lib.ListN.{length};
 ghost use Rattle.record.specs.Codec.{recordSize};
-ghost use Rattle.index.specs.Entering.{numbersWith, setsWith};
-ghost use Rattle.index.specs.Places.{Entered, buckets, framesAt, labelAt, numbersSize, places, setsSize, slotJob, usedAt};
+ghost use Rattle.journal.specs.Journal.{capacity};
+ghost use Rattle.index.specs.Entering.{Entries, numbersWith, setsWith};
+ghost use Rattle.index.specs.Index.{Blank, HasRecord, Indexed};
+ghost use Rattle.index.specs.Places.{Holds, UsedEntry, buckets, numbersSize, places, setsSize, slotJob};
+use crate::HEADS;
+use crate::LINKS;
+use crate::PLACES;
+use crate::records;
 use crate::seeking;
 use crate::words;
+use journal::CAPACITY;
 use record::Job;
 
 // Stores the numbers of place m, which is in bucket b, and links it.
@@ -15,57 +21,54 @@ fn put(numbers: &mut [u16], m: usize, label: usize, tape: usize, b: usize)
     requires { ⌜ (m < places) × (label ≤ m) × (tape ≤ m) × (b < buckets) × (length (now numbers) ≡ numbersSize) ⌝ }
     ensures { λ _. ⌜ now (numbers .exit) ≡ numbersWith (now (numbers .entry)) m label tape b ⌝ }
 {
-    let head = numbers[seeking::HEADS + b];
+    let head = numbers[HEADS + b];
     numbers[m] = label as u16;
-    numbers[seeking::PLACES + m] = tape as u16;
-    numbers[seeking::LINKS + m] = head;
-    numbers[seeking::HEADS + b] = (m + 1) as u16;
+    numbers[PLACES + m] = tape as u16;
+    numbers[LINKS + m] = head;
+    numbers[HEADS + b] = (m + 1) as u16;
 }
 
 // Enters job n at the numbers of its entry e.
 fn mark(sets: &mut [u64], label: usize, tape: usize, n: usize, e: usize)
-    requires { ⌜ (label < places) × (tape < places) × (n < 128) × (length (now sets) ≡ setsSize) ⌝ }
+    requires { ⌜ (label < places) × (tape < places) × (n < capacity) × (length (now sets) ≡ setsSize) ⌝ }
     ensures { λ _. ⌜ now (sets .exit) ≡ setsWith (now (sets .entry)) label tape n e ⌝ }
 {
     if e < 4 {
-        words::mark(sets, 128 * (3 * label) + n, true);
+        words::mark(sets, CAPACITY * (3 * label) + n);
         return;
     }
-    words::mark(sets, 128 * (3 * label + 1) + n, true);
-    words::mark(sets, 128 * (3 * tape + 2) + n, true);
+    words::mark(sets, CAPACITY * (3 * label + 1) + n);
+    words::mark(sets, CAPACITY * (3 * tape + 2) + n);
 }
 
-// Enters entry e of job n, which is used and has the label and the frames.
+// Enters place m, which is used and has the label and the frames.
 fn enter_used(
     numbers: &mut [u16],
     sets: &mut [u64],
     journal: &[u8],
-    n: usize,
-    e: usize,
+    m: usize,
     label: u64,
     frames: u32,
 )
-    requires { ⌜ (n < 128) × (e < 8) × (recordSize * n + recordSize ≤ length (now journal)) × (usedAt (slotJob (now journal)) (8 * n + e) ≡ true) × (label ≡ labelAt (slotJob (now journal)) (8 * n + e)) × (frames ≡ framesAt (slotJob (now journal)) (8 * n + e)) × Entered (slotJob (now journal)) (8 * n + e) (now numbers) (now sets) ⌝ }
-    ensures { λ _. ⌜ Entered (slotJob (now (journal .entry))) (8 * n + e + 1) (now (numbers .exit)) (now (sets .exit)) ⌝ }
+    requires { ⌜ (m < places) × Holds (now journal) m × UsedEntry (slotJob (now journal)) m label frames × Entries (slotJob (now journal)) m (now numbers) (now sets) ⌝ }
+    ensures { λ _. ⌜ Entries (slotJob (now (journal .entry))) (m + 1) (now (numbers .exit)) (now (sets .exit)) ⌝ }
 {
-    let m = 8 * n + e;
     let own = seeking::numbers_of(journal, &numbers[..], label, frames, m);
-    mark(sets, own.label, own.tape, n, e);
+    mark(sets, own.label, own.tape, m / 8, m % 8);
     put(numbers, m, own.label, own.tape, seeking::bucket(label));
 }
 
-// Enters entry e of job n where it is used.
-fn enter_entry(numbers: &mut [u16], sets: &mut [u64], journal: &[u8], n: usize, e: usize, a: Job)
-    requires { ⌜ (n < 128) × (e < 8) × (recordSize * n + recordSize ≤ length (now journal)) × (a ≡ slotJob (now journal) n) × Entered (slotJob (now journal)) (8 * n + e) (now numbers) (now sets) ⌝ }
-    ensures { λ _. ⌜ Entered (slotJob (now (journal .entry))) (8 * n + e + 1) (now (numbers .exit)) (now (sets .exit)) ⌝ }
+// Enters entry e of job n, which is a, where it is used.
+fn enter_entry(numbers: &mut [u16], sets: &mut [u64], journal: &[u8], a: Job, n: usize, e: usize)
+    requires { ⌜ (e < 8) × HasRecord (now journal) n × (a ≡ slotJob (now journal) n) × Entries (slotJob (now journal)) (8 * n + e) (now numbers) (now sets) ⌝ }
+    ensures { λ _. ⌜ Entries (slotJob (now (journal .entry))) (8 * n + e + 1) (now (numbers .exit)) (now (sets .exit)) ⌝ }
 {
     if record::used(a, e) {
         enter_used(
             numbers,
             sets,
             journal,
-            n,
-            e,
+            8 * n + e,
             record::label(a, e),
             record::frames(a, e),
         );
@@ -73,12 +76,45 @@ fn enter_entry(numbers: &mut [u16], sets: &mut [u64], journal: &[u8], n: usize, 
     }
 }
 
-// Enters job n, which is a.
-pub fn enter(numbers: &mut [u16], sets: &mut [u64], journal: &[u8], a: Job, n: usize)
-    requires { ⌜ (n < 128) × (recordSize * n + recordSize ≤ length (now journal)) × (a ≡ slotJob (now journal) n) × Entered (slotJob (now journal)) (8 * n) (now numbers) (now sets) ⌝ }
-    ensures { λ _. ⌜ Entered (slotJob (now (journal .entry))) (8 * (n + 1)) (now (numbers .exit)) (now (sets .exit)) ⌝ }
+// Enters the entries of job n, which is a.
+fn enter_entries(numbers: &mut [u16], sets: &mut [u64], journal: &[u8], a: Job, n: usize)
+    requires { ⌜ HasRecord (now journal) n × (a ≡ slotJob (now journal) n) × Entries (slotJob (now journal)) (8 * n) (now numbers) (now sets) ⌝ }
+    ensures { λ _. ⌜ Entries (slotJob (now (journal .entry))) (8 * (n + 1)) (now (numbers .exit)) (now (sets .exit)) ⌝ }
 {
     for e in 0..8 {
-        enter_entry(numbers, sets, journal, n, e, a);
+        enter_entry(numbers, sets, journal, a, n, e);
+    }
+}
+
+// Enters record n, which says job a.
+pub fn enter(
+    numbers: &mut [u16],
+    sets: &mut [u64],
+    records: &mut [u16],
+    journal: &[u8],
+    a: Job,
+    n: usize,
+)
+    requires { ⌜ HasRecord (now journal) n × (a ≡ slotJob (now journal) n) × Indexed (now journal) n (now numbers) (now sets) (now records) ⌝ }
+    ensures { λ _. ⌜ Indexed (now (journal .entry)) (n + 1) (now (numbers .exit)) (now (sets .exit)) (now (records .exit)) ⌝ }
+{
+    enter_entries(numbers, sets, journal, a, n);
+    records::file(records, a, n);
+}
+
+// Enters the first n records in tables of zeros.
+pub fn build(numbers: &mut [u16], sets: &mut [u64], records: &mut [u16], journal: &[u8], n: usize)
+    requires { ⌜ (n ≤ capacity) × (recordSize * n ≤ length (now journal)) × Blank (now numbers) (now sets) (now records) ⌝ }
+    ensures { λ _. ⌜ Indexed (now (journal .entry)) n (now (numbers .exit)) (now (sets .exit)) (now (records .exit)) ⌝ }
+{
+    for k in 0..n {
+        enter(
+            numbers,
+            sets,
+            records,
+            journal,
+            record::read(journal::slot(journal, k)),
+            k,
+        );
     }
 }

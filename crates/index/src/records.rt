@@ -5,14 +5,13 @@ ghost use Prim.Native.Nat.{_*_, _+_, _<_, _≤_};
 ghost use lib.ListN.{length};
 ghost use Rattle.base.specs.Search.{firstBelow};
 ghost use Rattle.record.specs.Codec.{jobOf, recordSize};
-ghost use Rattle.journal.specs.Journal.{equalAt};
-ghost use Rattle.index.specs.Places.{buckets, slotJob};
-ghost use Rattle.index.specs.Records.{Filed, recordsSize, recordsWith, sumOf};
+ghost use Rattle.journal.specs.Journal.{capacity, equalAt};
+ghost use Rattle.index.specs.Index.{IndexedRecords};
+ghost use Rattle.index.specs.Places.{buckets};
+ghost use Rattle.index.specs.Records.{recordsSize, recordsWith, sumOf};
+use crate::BUCKETS;
 use crate::seeking;
 use record::Job;
-
-// Where the links begin, after the heads.
-const LINKS: usize = 1021;
 
 // The remainder of the entries as a whole.
 fn sum(a: Job) -> usize
@@ -22,19 +21,19 @@ fn sum(a: Job) -> usize
     for e in 0..8 {
         let label = seeking::bucket(record::label(a, e));
         let frames = record::frames(a, e) as usize;
-        sum = (31 * sum + label + frames) % 1021;
+        sum = (31 * sum + label + frames) % BUCKETS;
     }
     sum
 }
 
-// Files job n.
-pub fn file(records: &mut [u16], a: Job, n: usize)
-    requires { ⌜ (n < 128) × (length (now records) ≡ recordsSize) ⌝ }
+// Files job n. The links follow the heads.
+pub(crate) fn file(records: &mut [u16], a: Job, n: usize)
+    requires { ⌜ (n < capacity) × (length (now records) ≡ recordsSize) ⌝ }
     ensures { λ _. ⌜ now (records .exit) ≡ recordsWith (now (records .entry)) (sumOf a) n ⌝ }
 {
     let b = sum(a);
     let head = records[b];
-    records[LINKS + n] = head;
+    records[BUCKETS + n] = head;
     records[b] = (n + 1) as u16;
 }
 
@@ -51,7 +50,7 @@ fn nearer(journal: &[u8], bytes: &[u8], k: usize, found: usize) -> usize
 
 // The first of n records that has the bytes, which say job a, or n. The chain leads to the first at last.
 pub fn find(records: &[u16], journal: &[u8], bytes: &[u8], a: Job, n: usize) -> usize
-    requires { ⌜ (n ≤ 128) × (recordSize * n ≤ length (now journal)) × (a ≡ jobOf (now bytes)) × Filed (slotJob (now journal)) n (now records) ⌝ }
+    requires { ⌜ (a ≡ jobOf (now bytes)) × IndexedRecords (now journal) n (now records) ⌝ }
     ensures { λ r. ⌜ r ≡ firstBelow n (equalAt (now (journal .entry)) (now (bytes .entry))) ⌝ }
 {
     let mut found = n;
@@ -59,7 +58,7 @@ pub fn find(records: &[u16], journal: &[u8], bytes: &[u8], a: Job, n: usize) -> 
     while 0 < x {
         let k = x - 1;
         found = nearer(journal, bytes, k, found);
-        x = seeking::number(records, LINKS + k);
+        x = seeking::number(records, BUCKETS + k);
     }
     found
 }

@@ -6,22 +6,16 @@ ghost use lib.Dec.{eqb};
 ghost use lib.ListN.{getD, length};
 ghost use Rattle.record.specs.Codec.{recordSize};
 ghost use Rattle.index.specs.Places.{Holds, Numbered, Sought, bucketOf, buckets, fits, framesAt, labelAt, places, slotJob};
+use crate::BUCKETS;
+use crate::HEADS;
+use crate::LINKS;
+use crate::PLACES;
 use record::Entry;
-use record::RECORD;
-
-// How many places there are, and where the links and the heads stand among the numbers.
-pub(crate) const PLACES: usize = 1024;
-
-pub(crate) const LINKS: usize = 2048;
-
-pub(crate) const HEADS: usize = 3072;
-
-const BUCKETS: u64 = 1021;
 
 pub(crate) fn bucket(label: u64) -> usize
     ensures { λ r. ⌜ (r ≡ bucketOf label) × (r < buckets) ⌝ }
 {
-    (label % BUCKETS) as usize
+    (label % BUCKETS as u64) as usize
 }
 
 fn wide(x: u16) -> usize
@@ -53,7 +47,7 @@ fn entry_at(journal: &[u8], at: usize) -> Entry
     requires { ⌜ recordSize * (at / 8) + recordSize ≤ length (now journal) ⌝ }
     ensures { λ r. ⌜ (r .label ≡ labelAt (slotJob (now (journal .entry))) at) × (r .frames ≡ framesAt (slotJob (now (journal .entry))) at) ⌝ }
 {
-    record::entry_in(journal, RECORD * (at / 8) + 4 + 12 * (at % 8))
+    record::entry_of(journal::slot(journal, at / 8), at % 8)
 }
 
 // The numbers of a place: of its label, and of its tape.

@@ -4,7 +4,7 @@ ghost use Prim.Native.Nat.{_+_, _*_, _≤_};
 ghost use lib.ListN.{length};
 ghost use Rattle.base.specs.Search.{firstBelow};
 ghost use Rattle.record.specs.Codec.{recordSize};
-ghost use Rattle.journal.specs.Journal.{isBooked, recordAt, jobAt, insideOf, equalAt, equalIn, hasRoom, putAt};
+ghost use Rattle.journal.specs.Journal.{isBooked, recordAt, jobAt, insideOf, slots, equalAt, equalIn, hasRoom, putAt};
 use record::Job;
 use record::RECORD;
 
@@ -40,6 +40,13 @@ pub fn job_at(journal: &[u8], booked: usize, job: usize) -> Job
     ensures { λ r. ⌜ r ≡ jobAt (now (journal .entry)) booked job ⌝ }
 {
     record::read(lookup(journal, booked, job))
+}
+
+// The bytes in place k, booked or not; the empty part where they do not lie inside.
+pub fn slot(journal: &[u8], k: usize) -> &[u8]
+    ensures { λ r. ⌜ now r ≡ recordAt (now (journal .entry)) (slots (now (journal .entry))) k ⌝ }
+{
+    lookup(journal, journal.len() / RECORD, k)
 }
 
 // How many booked records lie wholly inside.

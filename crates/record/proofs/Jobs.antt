@@ -2,14 +2,15 @@
 -- Assumes nothing.
 use mathlib.Core.List.{List, [], _++_, _∷_, map}
 use mathlib.Core.Path.{_∙_, _≡_, ap, refl, sym}
-use Prim.Native.Nat.{_*_, _+_, _-_, _<_, _≤_, suc, ℕ}
+use Prim.Native.Nat.{_*_, _+_, _-_, _<_, _≤_, suc, zero, ℕ}
+use native.Mathlib.Nat.{not-suc-le-zero}
 use native.Mathlib.Numerals.{add-one}
 use native.Mathlib.Omega.{arith}
 use lib.ListN.{List·getD-eq-default, drop, drop-of-length-le, getD, length, length-append, length-map, set}
 use lib.Seq.{drop-cons, sets, sets-eq}
 use borrow.Author.Tests.{le-leb}
 use Rattle.record.proofs.Numbers.{length-leBytes, sets-append}
-use Rattle.record.specs.Codec.{bytesOf, entriesAt, entriesBytes, entryAt, entryBytes, fitsRecord, leBytes, written}
+use Rattle.record.specs.Codec.{bytesOf, entriesAt, entriesBytes, entryAt, entryBytes, entrySize, fitsRecord, headSize, jobOf, leBytes, written}
 use Rattle.record.specs.Entries.{noEntry}
 use Rattle.record.specs.declared.Entry.{Entry}
 use Rattle.record.specs.declared.Job.{Job}
@@ -70,3 +71,20 @@ length-mapped f l n h = sym (length-map l f) ∙ h
 -- past the eighth entry there is none
 pub entry-past : (j : Job) (i : ℕ) → length (j .entries) ≡ 8 → 8 ≤ i → noEntry ≡ getD (j .entries) i noEntry
 entry-past j i n h = sym (List·getD-eq-default (j .entries) noEntry {n = i} (omega arith))
+
+-- ---- an entry of the job that some bytes say
+entries-get : (s : List ℕ) (at n e : ℕ) → e < n → getD (entriesAt s at n) e noEntry ≡ entryAt s (at + entrySize * e)
+unfolding entriesAt
+entries-get s at zero e l = absurd (not-suc-le-zero l)
+entries-get s at (suc n) zero l = let z : at + entrySize * 0 ≡ at = omega arith in rw z
+entries-get s at (suc n) (suc e) l =
+    let z : at + entrySize * suc e ≡ at + entrySize + entrySize * e = omega arith in
+    rw z (entries-get s (at + entrySize) n e (omega arith))
+
+pub job-entry : (s : List ℕ) (e : ℕ) → e < 8 → getD (jobOf s .entries) e noEntry ≡ entryAt s (headSize + entrySize * e)
+unfolding jobOf
+job-entry s e l = entries-get s headSize 8 e l
+
+pub no-entry : (s : List ℕ) (e : ℕ) → 8 ≤ e → noEntry ≡ getD (jobOf s .entries) e noEntry
+unfolding jobOf entriesAt
+no-entry s e h = entry-past (jobOf s) e refl h

@@ -4,6 +4,7 @@ ghost use Prim.Native.Nat.{_+_, _*_, _≤_, _<_, _^_};
 ghost use lib.ListN.{length, getD};
 ghost use lib.Seq.{sets};
 ghost use Rattle.record.specs.Codec.{leAt, leBytes, entryAt, entryBytes, jobOf, fitsRecord, written};
+ghost use Rattle.record.specs.Entries.{noEntry};
 use crate::Entry;
 use crate::Job;
 
@@ -54,7 +55,7 @@ fn four_in(s: &[u8], at: usize) -> u64
 }
 
 // An entry that lies inside. Its label is two halves of four bytes, the upper one times 2 ^ 32.
-pub fn entry_in(s: &[u8], at: usize) -> Entry
+fn entry_in(s: &[u8], at: usize) -> Entry
     requires { ⌜ at + 12 ≤ length (now s) ⌝ }
     ensures { λ r. ⌜ r ≡ entryAt (now (s .entry)) at ⌝ }
 {
@@ -76,6 +77,32 @@ fn entry_at(s: &[u8], at: usize) -> Entry
         label: number_at(s, at, 8),
         frames: number_at(s, at + 8, 4) as u32,
     }
+}
+
+// Entry e of the job that the bytes say; past the eighth there is none.
+pub fn entry_of(bytes: &[u8], e: usize) -> Entry
+    ensures { λ r. ⌜ r ≡ getD (jobOf (now (bytes .entry)) .entries) e noEntry ⌝ }
+{
+    if e < 8 {
+        return entry_at(bytes, HEAD + ENTRY * e);
+    }
+    Entry {
+        label: 0,
+        frames: 0,
+    }
+}
+
+// How many inputs the job has that the bytes say, and how many outputs.
+pub fn inputs_of(bytes: &[u8]) -> u8
+    ensures { λ r. ⌜ r ≡ jobOf (now (bytes .entry)) .inputs ⌝ }
+{
+    byte_at(bytes, 2)
+}
+
+pub fn outputs_of(bytes: &[u8]) -> u8
+    ensures { λ r. ⌜ r ≡ jobOf (now (bytes .entry)) .outputs ⌝ }
+{
+    byte_at(bytes, 3)
 }
 
 // The job that the bytes say; bytes past the end count as 0.

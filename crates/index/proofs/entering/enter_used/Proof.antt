@@ -1,47 +1,37 @@
 -- The two numbers of the place are stored and its job is marked at them.
--- Assumes nothing.
+use native.Mathlib.Omega.{arith}
 use borrow.Author.Needs.{needs}
-use Rattle.index.proofs.Enters.{entered-next}
+use Rattle.index.proofs.Tables.{entries-next, entries-numbered, numbers-size, sets-size}
 use Rattle.index.proofs.entering.enter_used.Statement.{statement}
 use Rattle.index.proofs.entering.enter_used.Tie as tie
 
-mul-m : tie.Need-mul-m
-mul-m c = search needs
-
-add-m : tie.Need-add-m
-add-m c = search needs
-
 numbers-of-requires : tie.Need-numbers-of-requires
-numbers-of-requires c κs = search needs
+numbers-of-requires c κs = let p = c .before .before .before .before .pre in (omega arith, p .1, entries-numbered _ _ _ _ (p .3) (omega arith))
 
 mark-requires : tie.Need-mark-requires
-mark-requires c κs = search needs
-
-bucket-requires : tie.Need-bucket-requires
-bucket-requires c κs = search needs
+mark-requires c κs = (omega arith, omega arith, omega arith, sets-size _ _ _ _ (c .before .before .before .before .before .before .pre .3) (omega arith))
 
 put-requires : tie.Need-put-requires
-put-requires c κs = search needs
-
-same-length : tie.Need-same-length
-same-length c = search needs
-
-same-length-2 : tie.Need-same-length-2
-same-length-2 c = search needs
+put-requires c κs =
+    let p = c .before .before .before .before .before .before .before .before .before .before .before .pre in
+    (p .0, omega arith, omega arith, omega arith, numbers-size _ _ _ _ (p .3) (omega arith))
 
 returns : tie.Need-returns
-returns c = let p = c .before .before .before .before .before .before .before .before .before .before .before .before .before .before .pre in entered-next _ _ _ _ _ (p .0) (p .1) (p .6) _ _ _ _ _ _ _ (p .3) (p .4) (p .5) (c .before .before .before .before .before .before .before .before .before .numbers-of .ensures) (c .before .before .before .bucket .ensures) (c .before .before .put .ensures) (c .before .before .before .before .before .before .before .mark .ensures)
+returns c =
+    let put = c .before .before in
+    let mark = put .before .before .before .before .before in
+    let found = mark .before .before in
+    let p = found .before .before .before .before .before .pre in
+    entries-next _ _ _ _ (p .3) _ _ _ _ _ _ _ (p .2) (found .numbers-of .ensures) (put .before .bucket .ensures) (put .put .ensures) (mark .mark .ensures)
 
 pub enter-used-spec : {M : Type 1} → statement M
 enter-used-spec =
     tie.close
     (tie.spec
-    mul-m
-    add-m
     numbers-of-requires
     mark-requires
-    bucket-requires
+    (λ c κs. search needs)
     put-requires
-    same-length
-    same-length-2
+    (λ c. search needs)
+    (λ c. search needs)
     returns)
