@@ -1,0 +1,3 @@
+pub mod Ages
+pub mod Creators
+pub mod Memos
