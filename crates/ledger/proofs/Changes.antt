@@ -31,7 +31,7 @@ use Rattle.ledger.proofs.Places.{examined-length, proposed}
 use Rattle.ledger.proofs.Views.{arrives}
 use Rattle.ledger.specs.Demand3.{Correct, HeldBy, recordsIn}
 use Rattle.federation.specs.Federation.{Lawful, thresholdOf}
-use Rattle.ledger.specs.Generations.{isHeld}
+use Rattle.ledger.specs.Holders.{isHeld}
 use Rattle.ledger.specs.Graph.{Unblocked}
 use Rattle.journal.specs.Journal.{insideOf, jobAt, slotAt}
 use Rattle.ledger.specs.Meaning.{Entered, KnownAt, NewAt, Proposed, Sane, failed, full, insane, known, new}

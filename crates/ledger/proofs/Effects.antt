@@ -14,7 +14,8 @@ use Rattle.sets.specs.Jobs.{jobHas}
 use Rattle.ledger.proofs.Changes.{Shape, held, signedBy}
 use Rattle.ledger.proofs.Views.{Arrives, Grown, ackedAt, arrive-again, arrive-first, arrives, column-below, column-grown, column-ones, grown-row, heldAt, kept-row, plus-job, recordedAt, signedAt}
 use Rattle.federation.specs.Federation.{Lawful}
-use Rattle.ledger.specs.State.{acknowledged, arrived, booking, countersigned, hasArrived, acknowledgersOf, isArrival, signersOf, vaultAt, withVault}
+use Rattle.generations.specs.Generations.{isAt}
+use Rattle.ledger.specs.State.{acknowledged, arrived, booking, countersigned, hasArrived, acknowledgersOf, signersOf, vaultAt, withVault}
 use Rattle.ledger.specs.Vaults.{holding, newVault, signing}
 use Rattle.ledger.specs.declared.Ledger.{Ledger}
 use Rattle.federation.specs.declared.Settings.{Settings}
@@ -137,11 +138,11 @@ module _ (l : Ledger) (v k : ℕ) where
 
   -- the order grows where the job had not arrived
   pub hold-again : hasArrived (l .order) (l .arrivals) k ≡ true → arrived (held l v k) ≡ arrived l
-  unfolding held acknowledged withVault hasArrived isArrival
+  unfolding held acknowledged withVault hasArrived isAt
   hold-again e = ap arrived (arrive-again kept k e)
 
   pub hold-first : hasArrived (l .order) (l .arrivals) k ≡ false → l .arrivals < 128 → l .arrivals < length (l .order) → arrived (held l v k) ≡ arrived l ++ (k ∷ [])
-  unfolding held acknowledged withVault hasArrived isArrival
+  unfolding held acknowledged withVault hasArrived isAt
   hold-first e h h′ = arrive-first kept k e h h′
 
 -- ---- the shape stays

@@ -21,11 +21,13 @@ use Rattle.sets.specs.Bits.{hasBit, subsetOf, withBit, withMember, withoutBit}
 use Rattle.sets.specs.Jobs.{jobHas, jobWith, jobWithout}
 use Rattle.index.specs.Admission.{admission, consumedAt, listedBy, listsAt, madeBefore, madeBy, makesAt, notCreatedAt, remadeAt}
 use Rattle.federation.specs.Federation.{isLawful, thresholdOf}
-use Rattle.ledger.specs.Generations.{ageIn, createdAt, creatorOf, generationAt, generationFrom, generationsBefore, highest, holdsAt, isAt, isHeld}
+use Rattle.generations.specs.Generations.{ageIn, createdAt, creatorOf, generationAt, generationFrom, generationsBefore, highest}
+use Rattle.ledger.specs.Holders.{holdsAt, isHeld}
 use Rattle.journal.specs.Journal.{equalAt, equalIn, hasRoom, insideOf, isBooked, jobAt, putAt, recordAt, slotAt}
 use Rattle.ledger.specs.Register.{entering, feedAll, feedCommit, feedProposal, isAdmissible, log, newRegister, stopped, taking}
-use Rattle.ledger.specs.State.{acknowledged, applied, arriving, booking, countersigned, hasArrived, acknowledgersOf, isArrival, isSane, newLedger, signersOf, withVault}
-use Rattle.ledger.specs.Decisions.{ageing, certificate, committing, consent, placing, preflighting, proposal, receiving, statusOf}
+use Rattle.generations.specs.Generations.{isAt}
+use Rattle.ledger.specs.State.{acknowledged, applied, arriving, booking, countersigned, hasArrived, acknowledgersOf, isSane, newLedger, signersOf, withVault}
+use Rattle.ledger.specs.Decisions.{ageing, certificate, committing, consent, placing, preflighting, proposal, receiving, settling, statusOf}
 use Rattle.ledger.specs.Steps.{bookedGate, commitDecision, faultyAcknowledgeDecision, faultySignDecision, gateOf, generationsDecision, journalAfter, preflightDecision, proposeDecision, saneGate, showDecision, vaultGate}
 use Rattle.ledger.specs.Vaults.{admissionAt, holding, signing, vaultPreflight}
 use Rattle.ledger.specs.Worlds.{Event, Request, after, commit, faultySign, generations, lend, outcomes, overlay, preflight, propose, show, start}
@@ -79,5 +81,5 @@ pub whole-run :
       made = 3840498665277964630 ∷ [];
       accessioned = 1000;
     })
-unfolding sameList anyBelow allBelow firstBelow sumFrom hasBit withBit withMember withoutBit subsetOf jobHas jobWith jobWithout inputsFormed countsFormed isFilled isBlank entryFormed wellFormed hasLabelOf repeatedAt isWritten unsupportedAt balanced checkOf examined leAt entryAt entriesAt jobOf isLabelAt labelIn isTapeAt makesTape isDrive supports labelOf framesOf isUsed usedFrames isBetween charAt isAlphanumeric mediumOf isLabel usedFrom sameTape makesAt madeBy listsAt listedBy notCreatedAt consumedAt madeBefore remadeAt admission isLawful thresholdOf highest createdAt creatorOf generationFrom generationsBefore generationAt holdsAt isHeld isAt ageIn slotAt isBooked recordAt jobAt insideOf equalAt equalIn hasRoom putAt isAdmissible taking stopped entering feedProposal feedCommit signersOf acknowledgersOf isArrival hasArrived isSane newLedger booking countersigned acknowledged withVault arriving applied bookedGate gateOf saneGate vaultGate placing proposal proposeDecision journalAfter consent preflighting preflightDecision certificate receiving committing commitDecision faultySignDecision faultyAcknowledgeDecision statusOf showDecision ageing generationsDecision signing holding admissionAt vaultPreflight lend overlay after start ones onesIn
+unfolding sameList anyBelow allBelow firstBelow sumFrom hasBit withBit withMember withoutBit subsetOf jobHas jobWith jobWithout inputsFormed countsFormed isFilled isBlank entryFormed wellFormed hasLabelOf repeatedAt isWritten unsupportedAt balanced checkOf examined leAt entryAt entriesAt jobOf isLabelAt labelIn isTapeAt makesTape isDrive supports labelOf framesOf isUsed usedFrames isBetween charAt isAlphanumeric mediumOf isLabel usedFrom sameTape makesAt madeBy listsAt listedBy notCreatedAt consumedAt madeBefore remadeAt admission isLawful thresholdOf highest createdAt creatorOf generationFrom generationsBefore generationAt holdsAt isHeld isAt ageIn slotAt isBooked recordAt jobAt insideOf equalAt equalIn hasRoom putAt isAdmissible taking stopped entering feedProposal feedCommit signersOf acknowledgersOf hasArrived isSane newLedger booking countersigned acknowledged withVault arriving applied bookedGate gateOf saneGate vaultGate placing settling proposal proposeDecision journalAfter consent preflighting preflightDecision certificate receiving committing commitDecision faultySignDecision faultyAcknowledgeDecision statusOf showDecision ageing generationsDecision signing holding admissionAt vaultPreflight lend overlay after start ones onesIn
 whole-run = (refl, refl)

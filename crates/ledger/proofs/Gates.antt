@@ -22,7 +22,7 @@ use Rattle.ledger.specs.Meaning.{Entered, Sane}
 use Rattle.ledger.specs.State.{applied, isSane}
 use Rattle.ledger.specs.Steps.{bookedGate, carried, gateOf, turned, vaultGate}
 use Rattle.ledger.specs.Decisions.{gated}
-use Rattle.ledger.specs.Placed.{Placed}
+use Rattle.ledger.specs.Given.{Placed}
 use Rattle.ledger.specs.declared.Decision.{Decision}
 use Rattle.ledger.specs.declared.Reply.{Reply}
 use Rattle.ledger.specs.declared.Ledger.{Ledger}

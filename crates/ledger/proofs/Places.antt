@@ -20,7 +20,7 @@ use Rattle.record.specs.Checks.{examined}
 use Rattle.record.specs.Codec.{recordSize}
 use Rattle.journal.specs.Journal.{capacity, equalAt, equalIn, hasRoom, insideOf, slotAt, slots}
 use Rattle.ledger.proofs.Gates.{passed-test, reflect-sane}
-use Rattle.ledger.specs.Decisions.{gated, placing, proposal}
+use Rattle.ledger.specs.Decisions.{gated, placing, proposal, settling}
 use Rattle.ledger.specs.Meaning.{FullAt, KnownAt, NewAt, Proposed, Sane, Unknown, failed, full, insane, known, new}
 use Rattle.ledger.specs.State.{isSane}
 use Rattle.ledger.specs.Steps.{proposeDecision, saneGate}
@@ -75,7 +75,7 @@ module _ (l : Ledger) (journal bytes : List ℕ) where
       by false e false f = simp (e, f) (full (record { sane = s; passes = p; unknown = none e; full = no-room f }))
 
   pub proposed : Proposed l journal bytes (proposeDecision l journal bytes)
-  unfolding proposeDecision saneGate proposal
+  unfolding proposeDecision saneGate proposal settling
   proposed = by (isSane l) refl (examined bytes) refl
     where
       by : (a : Bool) → isSane l ≡ a → (v : Verdict) → examined bytes ≡ v
@@ -106,7 +106,7 @@ module _ (l : Ledger) (journal bytes : List ℕ) where
   at k h = first-complete inside same-at k (h .first)
 
   pub means : (d : Decision) → Proposed l journal bytes d → proposeDecision l journal bytes ≡ d
-  unfolding proposeDecision saneGate proposal placing
+  unfolding proposeDecision saneGate proposal settling placing
   means d (insane n) = simp (refutes (reflect-sane l) n)
   means d (failed why s e) = simp (reflect-sane l .complete s, e)
   means d (known k h) = simp (reflect-sane l .complete (h .sane), h .passes, at k h, lt-ltb k inside (h .first .below))

@@ -28,7 +28,7 @@ use Rattle.federation.specs.declared.Settings.{Settings}
 use Rattle.journal.specs.Journal.{isBooked}
 use Rattle.ledger.specs.Meaning.{missing, remade, reserved}
 use Rattle.ledger.specs.State.{isSane}
-use Rattle.ledger.specs.Decisions.{ageing, certificate, committing, consent, consenting, gated, placing, preflighting, proposal, receiving}
+use Rattle.ledger.specs.Decisions.{ageing, certificate, committing, consent, consenting, gated, placing, preflighting, proposal, receiving, settling}
 use Rattle.ledger.specs.Steps.{bookedGate, commitDecision, faultyAcknowledgeDecision, faultySignDecision, gateOf, generationsDecision, preflightDecision, proposeDecision, saneGate, showDecision, vaultGate}
 use Rattle.ledger.specs.Vaults.{admissionAt, consented, vaultPreflight}
 use Rattle.ledger.specs.Worlds.{Request, commit, faultyAcknowledge, faultySign, generations, preflight, propose, show, stepOf}
@@ -154,7 +154,7 @@ module _ (l : Ledger) (journal : List ℕ) (sane : isSane l ≡ true) where
   ages b age = either b _ _ (done age) (refuses NotHeld (fails NotHeld refl))
 
   fine : (q : Request) → Fine (stepOf l journal q .outcome)
-  unfolding proposeDecision proposal preflightDecision preflighting admissionAt commitDecision committing faultySignDecision faultyAcknowledgeDecision showDecision generationsDecision
+  unfolding proposeDecision proposal settling preflightDecision preflighting admissionAt commitDecision committing faultySignDecision faultyAcknowledgeDecision showDecision generationsDecision
   fine (propose bytes) = behind (saneGate l) _ sane-gate (behind (examined bytes) _ (examines bytes) (places _ _ _ _))
   fine (preflight v k) = behind (vaultGate l journal v k false) _ (vault-gate v k false) (consents _ _ _ _ _ (admits _ _ _ _ _))
   fine (commit v k signers) =

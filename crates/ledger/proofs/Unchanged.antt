@@ -13,8 +13,8 @@ use Rattle.outcome.specs.declared.Verdict.the-variants.{Fail, Pass}
 use Rattle.record.specs.Checks.{examined}
 use Rattle.sets.specs.Jobs.{jobHas}
 use Rattle.journal.specs.Journal.{equalIn, hasRoom, insideOf}
-use Rattle.ledger.specs.Decisions.{ageing, answering, certificate, committing, consent, consenting, gated, placing, preflighting, proposal, receiving, refusing, voting}
-use Rattle.ledger.specs.Generations.{isHeld}
+use Rattle.ledger.specs.Decisions.{ageing, answering, certificate, committing, consent, consenting, gated, placing, preflighting, proposal, receiving, refusing, settling, voting}
+use Rattle.ledger.specs.Holders.{isHeld}
 use Rattle.ledger.specs.Register.{isDone}
 use Rattle.ledger.specs.State.{acknowledgersOf, applied, signersOf, vaultAt}
 use Rattle.ledger.specs.Steps.{bookedGate, commitDecision, faultyAcknowledgeDecision, faultySignDecision, generationsDecision, journalAfter, journalWith, preflightDecision, proposeDecision, saneGate, showDecision, vaultGate}
@@ -71,7 +71,7 @@ aged b age = either b _ _ (quiet (answering age) refl) (quiet (refusing NotHeld)
 
 module _ (l : Ledger) (journal : List ℕ) where
   pub quiets : (q : Request) → Quiet (decisionOf l journal q)
-  unfolding proposeDecision proposal preflightDecision preflighting commitDecision committing faultySignDecision faultyAcknowledgeDecision showDecision generationsDecision
+  unfolding proposeDecision proposal settling preflightDecision preflighting commitDecision committing faultySignDecision faultyAcknowledgeDecision showDecision generationsDecision
   quiets (propose bytes) = behind (saneGate l) _ (behind (examined bytes) _ (placed _ _ _ _))
   quiets (preflight v k) = behind (vaultGate l journal v k false) _ (consents _ _ _ _ _)
   quiets (commit v k signers) = behind (vaultGate l journal v k false) _ (behind (certificate _ _ _) _ (received _ _ _ _))

@@ -23,7 +23,8 @@ use Rattle.sets.proofs.Jobs.{job-with-other, job-with-same}
 use Rattle.sets.specs.Bits.{hasBit, withMember}
 use Rattle.sets.specs.Jobs.{jobHas, jobWith}
 use Rattle.sets.specs.declared.job_set.JobSet.{JobSet}
-use Rattle.ledger.specs.State.{arrived, arriving, hasArrived, acknowledgersOf, isArrival, signersOf, vaultAt}
+use Rattle.generations.specs.Generations.{isAt}
+use Rattle.ledger.specs.State.{arrived, arriving, hasArrived, acknowledgersOf, signersOf, vaultAt}
 use Rattle.ledger.specs.declared.Ledger.{Ledger}
 
 -- ---- the relations
@@ -185,7 +186,7 @@ module _ (l : Ledger) (job : ℕ) where
 
 -- a job has arrived exactly where it is in the list of arrivals
 pub reflect-arrived : (l : Ledger) (job : ℕ) → l .arrivals ≤ length (l .order) → Reflects (hasArrived (l .order) (l .arrivals) job) (In job (arrived l))
-unfolding hasArrived isArrival
+unfolding hasArrived isAt
 reflect-arrived l job h =
     reflect-as (reflect-any (l .arrivals) (λ i b. reflect-eq (getD (l .order) i 0) job))
     (λ s. subst (λ (x : ℕ). In x (arrived l)) (getD-take (l .arrivals) (l .order) (s .which) 0 (s .below) ∙ s .has)

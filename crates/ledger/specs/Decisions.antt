@@ -47,9 +47,11 @@ placing equal inside booked room =
     cond (ltb equal inside) (answering equal)
     (cond room (record { outcome = Done booked; change = Book }) (refusing Full))
 
+unfoldable pub settling : List ℕ → ℕ → List ℕ → Decision
+settling journal booked bytes = placing (equalIn journal booked bytes) (insideOf journal booked) booked (hasRoom journal booked)
+
 unfoldable pub proposal : List ℕ → ℕ → List ℕ → Decision
-proposal journal booked bytes =
-    gated (examined bytes) (placing (equalIn journal booked bytes) (insideOf journal booked) booked (hasRoom journal booked))
+proposal journal booked bytes = gated (examined bytes) (settling journal booked bytes)
 
 -- ---- kind 2, a preflight: "11 to 14"
 abbrev pub consenting : Consent → Vault → ℕ → ℕ → Decision

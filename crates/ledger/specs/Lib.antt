@@ -1,10 +1,10 @@
 pub mod Decisions
 pub mod Demand3
-pub mod Generations
+pub mod Given
 pub mod Graph
 pub mod Growth
+pub mod Holders
 pub mod Meaning
-pub mod Placed
 pub mod Register
 pub mod State
 pub mod Steps

@@ -3,7 +3,7 @@
 use mathlib.Core.Bool.{Bool, cond, _&&_, _||_}
 use mathlib.Core.List.{List}
 use Prim.Native.Nat.{ℕ, _+_}
-use lib.Dec.{eqb, leb}
+use lib.Dec.{leb}
 use lib.ListN.{getD, set, replicate, take}
 use Rattle.base.specs.Search.{anyBelow}
 use Rattle.sets.specs.Bits.{withMember}
@@ -13,6 +13,7 @@ use Rattle.ledger.specs.declared.Change.the-variants.{Book, Hold, Nothin
 use Rattle.ledger.specs.declared.Ledger.{Ledger}
 use Rattle.federation.specs.Federation.{isLawful}
 use Rattle.journal.specs.Journal.{capacity}
+use Rattle.generations.specs.Generations.{isAt}
 use Rattle.ledger.specs.Vaults.{newVault}
 
 -- ---- views
@@ -31,13 +32,9 @@ acknowledgersOf l job = getD (l .acknowledgements) job 0
 abbrev pub arrived : Ledger → List ℕ
 arrived l = take (l .arrivals) (l .order)
 
--- the job stands at position i of the arrival order
-unfoldable pub isArrival : List ℕ → ℕ → ℕ → Bool
-isArrival order job i = eqb (getD order i 0) job
-
 -- the job is among the first n
 unfoldable pub hasArrived : List ℕ → ℕ → ℕ → Bool
-hasArrived order n job = anyBelow n (isArrival order job)
+hasArrived order n job = anyBelow n (isAt order job)
 
 -- a state that a run can reach has lawful settings and counts within the capacity
 unfoldable pub isSane : Ledger → Bool

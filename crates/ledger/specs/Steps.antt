@@ -14,13 +14,14 @@ use Rattle.sets.specs.Bits.{hasBit}
 use Rattle.federation.specs.Federation.{isLawful, thresholdOf}
 use Rattle.federation.specs.declared.Settings.{Settings}
 use Rattle.journal.specs.Journal.{isBooked, jobAt, putAt}
+use Rattle.generations.specs.Generations.{ageIn}
 use Rattle.ledger.specs.declared.Change.{Change}
 use Rattle.ledger.specs.declared.Change.the-variants.{Book, Hold, Nothing, RecordAcknowledgement, RecordSignature, Sign}
 use Rattle.ledger.specs.declared.Decision.{Decision}
 use Rattle.ledger.specs.declared.Ledger.{Ledger}
 use Rattle.ledger.specs.declared.Reply.{Reply}
 use Rattle.ledger.specs.Decisions.{ageing, answering, committing, gated, preflighting, proposal, statusOf, voting}
-use Rattle.ledger.specs.Generations.{ageIn, isHeld}
+use Rattle.ledger.specs.Holders.{isHeld}
 use Rattle.ledger.specs.State.{acknowledgersOf, applied, isSane, newLedger, signersOf, vaultAt}
 
 -- ---- a new ledger: the threshold where the settings are lawful

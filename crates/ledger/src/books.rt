@@ -3,9 +3,10 @@ ghost use mathlib.Core.Path.{_≡_};
 ghost use Prim.Native.Nat.{_<_, _≤_};
 ghost use lib.ListN.{length};
 ghost use Rattle.journal.specs.Journal.{recordAt};
-ghost use Rattle.ledger.specs.State.{applied, arriving, hasArrived, isArrival, isSane, newLedger};
+ghost use Rattle.generations.specs.Generations.{isAt};
+ghost use Rattle.ledger.specs.State.{applied, arriving, hasArrived, isSane, newLedger};
 ghost use Rattle.ledger.specs.Steps.{newOf};
-ghost use Rattle.ledger.specs.Placed.{Placed};
+ghost use Rattle.ledger.specs.Given.{Placed};
 use crate::Change;
 use crate::Ledger;
 use crate::Reply;
@@ -17,7 +18,7 @@ use outcome::Refusal;
 
 fn is_arrival(order: &[u8], job: u8, i: usize) -> bool
     requires { ⌜ i < length (now order) ⌝ }
-    ensures { λ r. ⌜ r ≡ isArrival (now (order .entry)) job i ⌝ }
+    ensures { λ r. ⌜ r ≡ isAt (now (order .entry)) job i ⌝ }
 {
     order[i] == job
 }

@@ -1,7 +1,9 @@
 // What a step decides, from the pieces that it names: the verdict of the checks before, a vault, the votes on a job. The ledger's
 // operations and the run share these functions.
 ghost use mathlib.Core.Path.{_≡_};
-ghost use Prim.Native.Nat.{_≤_};
+ghost use Prim.Native.Nat.{_<_, _≤_};
+ghost use Rattle.record.specs.Codec.{jobOf};
+ghost use Rattle.index.specs.Index.{IndexedEntries};
 ghost use Rattle.ledger.specs.Decisions.{
   refusing,
   answering,
@@ -15,7 +17,11 @@ ghost use Rattle.ledger.specs.Decisions.{
   committing,
   statusOf,
   ageing,
+  proposal,
+  settling,
+  preflighting,
 };
+ghost use Rattle.ledger.specs.Given.{Known, Searchable};
 ghost use Rattle.ledger.specs.Steps.{gateOf};
 use crate::Change;
 use crate::Consent;
@@ -26,6 +32,8 @@ use federation::Settings;
 use outcome::Outcome;
 use outcome::Refusal;
 use outcome::Verdict;
+use record::Job;
+use record::RECORD;
 
 pub fn refuse(why: Refusal) -> Decision
     ensures { λ r. ⌜ r ≡ refusing why ⌝ }
@@ -194,6 +202,77 @@ pub fn show(gate: Verdict, settings: Settings, signers: u16, acknowledgers: u16)
 {
     match gate {
         Verdict::Pass => answer(status(settings, signers, acknowledgers)),
+        Verdict::Fail(why) => refuse(why),
+    }
+}
+
+// ---- the steps that look into the index, which is the journal's: the operations make it, and the run keeps it.
+
+// A record that passes checks 6 to 9, which says `job`.
+fn settle(records: &[u16], journal: &[u8], booked: usize, bytes: &[u8], job: Job) -> Decision
+    requires { ⌜ (job ≡ jobOf (now bytes)) × Searchable (now journal) booked (now records) ⌝ }
+    ensures { λ r. ⌜ r ≡ settling (now (journal .entry)) booked (now (bytes .entry)) ⌝ }
+{
+    let inside = journal::inside(journal, booked);
+    let equal = index::find(records, journal, bytes, job, inside);
+    place(equal, inside, booked, journal::has_room(journal, booked))
+}
+
+// Kind 1. The index is that of the booked records that lie inside.
+pub fn propose(records: &[u16], journal: &[u8], booked: usize, bytes: &[u8]) -> Decision
+    requires { ⌜ Searchable (now journal) booked (now records) ⌝ }
+    ensures { λ r. ⌜ r ≡ proposal (now (journal .entry)) booked (now (bytes .entry)) ⌝ }
+{
+    if bytes.len() != RECORD {
+        return refuse(Refusal::Malformed);
+    }
+    let job = record::read(bytes);
+    let verdict = record::check(job);
+    match verdict {
+        Verdict::Pass => settle(records, journal, booked, bytes, job),
+        Verdict::Fail(why) => refuse(why),
+    }
+}
+
+// Checks 11 to 14 are made only for a job that the vault has not signed.
+fn consult(
+    state: Vault,
+    numbers: &[u16],
+    sets: &[u64],
+    journal: &[u8],
+    booked: usize,
+    signers: u16,
+    vault: u8,
+    job: usize,
+) -> Decision
+    requires { ⌜ (job < booked) × IndexedEntries (now journal) booked (now numbers) (now sets) ⌝ }
+    ensures { λ r. ⌜ r ≡ preflighting state (now (journal .entry)) booked signers vault job ⌝ }
+{
+    if state.signed.has(job) {
+        return answer(sets::vaults::size(signers));
+    }
+    let others = state.signed.without(job);
+    let verdict = index::admission(numbers, sets, journal, booked, state.held, others, job);
+    state.consent(verdict, signers, vault, job)
+}
+
+// Kind 2.
+pub fn preflight(
+    gate: Verdict,
+    state: Vault,
+    numbers: &[u16],
+    sets: &[u64],
+    journal: &[u8],
+    booked: usize,
+    signers: u16,
+    vault: u8,
+    job: usize,
+) -> Decision
+    requires { ⌜ Known gate booked job × IndexedEntries (now journal) booked (now numbers) (now sets) ⌝ }
+    ensures { λ r. ⌜ r ≡ gated gate (preflighting state (now (journal .entry)) booked signers vault job) ⌝ }
+{
+    match gate {
+        Verdict::Pass => consult(state, numbers, sets, journal, booked, signers, vault, job),
         Verdict::Fail(why) => refuse(why),
     }
 }

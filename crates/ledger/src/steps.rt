@@ -1,6 +1,6 @@
 // The operations that the votes on a job decide: each is its checks, a decision from small pieces, and its change applied.
 ghost use mathlib.Core.Path.{_≡_};
-ghost use Rattle.ledger.specs.Placed.{Placed};
+ghost use Rattle.ledger.specs.Given.{Placed};
 ghost use Rattle.ledger.specs.Steps.{
   bookedGate,
   carried,

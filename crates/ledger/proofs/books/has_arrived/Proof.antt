@@ -6,13 +6,14 @@ use borrow.Author.Needs.{needs}
 use Rattle.base.proofs.Search.{searches}
 use Rattle.base.specs.Search.{anyBelow}
 use Rattle.ledger.proofs.books.has_arrived.Statement.{statement}
-use Rattle.ledger.specs.State.{hasArrived, isArrival}
+use Rattle.generations.specs.Generations.{isAt}
+use Rattle.ledger.specs.State.{hasArrived}
 use Rattle.ledger.proofs.books.has_arrived.Tie as tie
 
 ruleset by = (searches, needs)
 
 abbrev Inv-loop : tie.InvT-loop
-Inv-loop order n job i₀ i = (n ≤ length order) × ((i ≤ n) × (anyBelow i (isArrival order job) ≡ false))
+Inv-loop order n job i₀ i = (n ≤ length order) × ((i ≤ n) × (anyBelow i (isAt order job) ≡ false))
 
 abbrev μ-loop : tie.MeasureT-loop
 μ-loop order n job i₀ i = n - i

@@ -1,11 +1,12 @@
 use mathlib.Core.Path.{refl}
 use borrow.Author.Needs.{needs}
 use Rattle.ledger.proofs.books.is_arrival.Statement.{statement}
-use Rattle.ledger.specs.State.{isArrival}
+use Rattle.generations.specs.Generations.{isAt}
+
 use Rattle.ledger.proofs.books.is_arrival.Tie as tie
 
 returns : tie.Need-returns
-unfolding isArrival
+unfolding isAt
 returns c = refl
 
 pub is-arrival-spec : {M : Type 1} → statement M
