@@ -1,56 +1,17 @@
-use borrow.Author.Needs.{needs}
 use Rattle.ledger.proofs.decisions.consult.Statement.{statement}
 use Rattle.ledger.proofs.decisions.consult.Tie as tie
-use Rattle.ledger.proofs.decisions.consult.Reads as reads
-use Rattle.ledger.proofs.decisions.consult.Lts as lts
-use Rattle.index.proofs.admission.Reads as admission-reads
-use Rattle.ledger.proofs.Vault.consent.Reads as consent-reads
-use Rattle.ledger.proofs.decisions.answer.Reads as answer-reads
-use Rattle.sets.proofs.job_set.JobSet.has.Reads as has-reads
-use Rattle.sets.proofs.job_set.JobSet.without.Reads as without-reads
-use Rattle.sets.proofs.vaults.size.Reads as size-reads
+use Rattle.ledger.specs.Decisions.{consent, preflighting}
+use Rattle.ledger.specs.Vaults.{admissionAt, vaultPreflight}
+use borrow.Author.Needs.{needs}
+use mathlib.Core.Path.{_∙_, sym}
 
--- src/decisions.rt:251:8
-has-requires : tie.Need-has-requires
-has-requires c κs = search needs
-
--- src/decisions.rt:252:23
-size-requires : tie.Need-size-requires
-size-requires c κs = search needs
-
--- src/decisions.rt:252:9
-answer-requires : tie.Need-answer-requires
-answer-requires c κs = search needs
-
--- src/decisions.rt:252:9
 returns : tie.Need-returns
-returns c = ?
+unfolding preflighting consent vaultPreflight
+returns c = simp (sym (c .before .before .before .has .ensures) ∙ c .before .before .if1 .taken, ← c .before .size .ensures) (c .answer .ensures)
 
--- src/decisions.rt:254:9
-without-requires : tie.Need-without-requires
-without-requires c κs = search needs
-
--- src/decisions.rt:255:9
-admission-requires : tie.Need-admission-requires
-admission-requires c κs = search needs
-
--- src/decisions.rt:256:5
-consent-requires : tie.Need-consent-requires
-consent-requires c κs = search needs
-
--- src/decisions.rt:238:1
 returns-2 : tie.Need-returns-2
-returns-2 c = ?
+unfolding preflighting admissionAt
+returns-2 c = simp (← c .before .before .without .ensures, ← c .before .admission .ensures) (c .consent .ensures)
 
 pub consult-spec : {M : Type 1} → statement M
-consult-spec =
-    tie.close
-    (tie.spec
-    has-requires
-    size-requires
-    answer-requires
-    returns
-    without-requires
-    admission-requires
-    consent-requires
-    returns-2)
+consult-spec = tie.close (tie.spec (λ c κs. search needs) (λ c κs. search needs) (λ c κs. search needs) returns (λ c κs. search needs) (λ c κs. search needs) (λ c κs. search needs) returns-2)

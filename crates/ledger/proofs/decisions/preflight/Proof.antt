@@ -1,36 +1,15 @@
-use borrow.Author.Needs.{needs}
 use Rattle.ledger.proofs.decisions.preflight.Statement.{statement}
 use Rattle.ledger.proofs.decisions.preflight.Tie as tie
-use Rattle.ledger.proofs.decisions.preflight.Reads as reads
-use Rattle.ledger.proofs.decisions.preflight.Lts as lts
-use Rattle.ledger.proofs.decisions.consult.Reads as consult-reads
-use Rattle.ledger.proofs.decisions.refuse.Reads as refuse-reads
+use borrow.Author.Needs.{needs}
 
--- src/decisions.rt:275:26
-enum-told : tie.Need-enum-told
-enum-told c = search needs
-
--- src/decisions.rt:275:26
 consult-requires : tie.Need-consult-requires
-consult-requires c κs = ?
+consult-requires c κs = (c .before .before .before .before .before .pre .0 .below (c .enum-told .given .1), c .before .before .before .before .before .pre .1)
 
--- src/decisions.rt:276:23
-enum-known-gate : tie.Need-enum-known-gate
-enum-known-gate c = search needs
-
--- src/decisions.rt:276:31
-refuse-requires : tie.Need-refuse-requires
-refuse-requires c κs = search needs
-
--- src/decisions.rt:260:1
 returns : tie.Need-returns
-returns c = ?
+returns c = simp (c .before .enum-told .given .1) (c .consult .ensures)
 
--- src/decisions.rt:260:1
 returns-2 : tie.Need-returns-2
-returns-2 c = ?
+returns-2 c = simp (c .before .before .gate .given .1) (c .refuse .ensures)
 
 pub preflight-spec : {M : Type 1} → statement M
-preflight-spec =
-    tie.close
-    (tie.spec enum-told consult-requires enum-known-gate refuse-requires returns returns-2)
+preflight-spec = tie.close (tie.spec (λ c. search needs) consult-requires (λ c. search needs) (λ c κs. search needs) returns returns-2)
