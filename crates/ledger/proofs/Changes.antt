@@ -263,7 +263,7 @@ module _ (w : World) (sh : Shape (w .ledger) (w .booked)) (size : ℕ) (beyond :
       h .unknown (q .0) b (slot-tabled (q .0) b ∙ q .2)
 
   change-propose : (bytes : List ℕ) (d : Decision) → Proposed l journal bytes d
-      → Change w (propose bytes) (isDone (d .outcome)) (left (carried l d 0 0) (journalWith (d .change) l journal bytes))
+      → Change w (propose bytes) (isDone (d .outcome)) (left (carried l d 0 0) (journalWith (d .change) (l .booked) journal bytes))
   unfolding applied booking
   change-propose bytes d (insane n) = refuses (propose bytes) BadSettings 0 0
   change-propose bytes d (failed why s e) = refuses (propose bytes) why 0 0

@@ -93,6 +93,12 @@ module _ (l : Ledger) (journal : List ℕ) (v job : ℕ) (faulty : Bool) where
   pub placed-vault : (r : Verdict) → r ≡ vaultGate l journal v job faulty → r ≡ Pass → v < 16
   placed-vault r p q = placed r p q .vault
 
+  pub placed-known : (r : Verdict) → r ≡ vaultGate l journal v job faulty → r ≡ Pass → Booked journal (l .booked) job
+  placed-known r p q = entered l journal v job faulty (sym p ∙ q) .known
+
+  pub placed-few : (r : Verdict) → r ≡ vaultGate l journal v job faulty → r ≡ Pass → l .booked ≤ capacity
+  placed-few r p q = placed r p q .booked
+
   pub placed-job : (r : Verdict) → r ≡ vaultGate l journal v job faulty → r ≡ Pass → job < 128
   placed-job r p q = placed r p q .job
 
@@ -100,7 +106,29 @@ module _ (l : Ledger) (journal : List ℕ) (job : ℕ) where
   pub known-job : (r : Verdict) → r ≡ bookedGate l journal job → r ≡ Pass → job < 128
   known-job r p q = let h = booked-entered l journal job (sym p ∙ q) in omega (arith, h .1 .below, h .0 .booked)
 
-pub ruleset entering = (placed, placed-vault, placed-job, known-job)
+  pub known-booked : (r : Verdict) → r ≡ bookedGate l journal job → r ≡ Pass → Booked journal (l .booked) job
+  known-booked r p q = booked-entered l journal job (sym p ∙ q) .1
+
+  pub known-sane : (r : Verdict) → r ≡ bookedGate l journal job → r ≡ Pass → Sane l
+  known-sane r p q = booked-entered l journal job (sym p ∙ q) .0
+
+  pub known-few : (r : Verdict) → r ≡ bookedGate l journal job → r ≡ Pass → l .booked ≤ capacity
+  known-few r p q = known-sane r p q .booked
+
+  pub known-arrivals : (r : Verdict) → r ≡ bookedGate l journal job → r ≡ Pass → l .arrivals ≤ capacity
+  known-arrivals r p q = known-sane r p q .arrivals
+
+  pub known-vaults : (r : Verdict) → r ≡ bookedGate l journal job → r ≡ Pass → l .settings .n ≤ 16
+  known-vaults r p q = known-sane r p q .lawful .vaults
+
+module _ (l : Ledger) where
+  pub sane-placed : (r : Bool) → r ≡ isSane l → r ≡ true → Placed l 0 0
+  sane-placed r p q = let h = reflect-sane l .sound (sym p ∙ q) in record { vault = omega arith; job = omega arith; booked = h .booked; arrivals = h .arrivals }
+
+  pub sane-booked : (r : Bool) → r ≡ isSane l → r ≡ true → l .booked ≤ capacity
+  sane-booked r p q = reflect-sane l .sound (sym p ∙ q) .booked
+
+pub ruleset entering = (placed, placed-vault, placed-job, placed-few, placed-known, known-job, known-booked, known-few, known-arrivals, known-vaults, sane-placed, sane-booked)
 
 -- ---- the two ways of a step: its gate passes and what was decided is carried, or its gate fails
 module _ (l : Ledger) (v job : ℕ) where
@@ -111,6 +139,10 @@ module _ (l : Ledger) (v job : ℕ) where
   unfolding applied
   shut g r d why z p q w = simp (sym p ∙ q) w
 
+  -- what was decided behind the open gate
+  pub passed : (g r : Verdict) (d e : Decision) (z : Reply) → r ≡ g → r ≡ Pass → e ≡ d → z ≡ carried l e v job → z ≡ carried l (gated g d) v job
+  passed g r d e z p q u w = simp (sym p ∙ q, ← u) w
+
 -- the same of a step that only reads
 pub read-opened : (g r : Verdict) (d e : Decision) → r ≡ g → r ≡ Pass → e ≡ gated r d → e .outcome ≡ gated g d .outcome
 read-opened g r d e p q u = simp (← p, ← u)
@@ -118,4 +150,7 @@ read-opened g r d e p q u = simp (← p, ← u)
 pub read-shut : (g r : Verdict) (d : Decision) (why : Refusal) → r ≡ g → r ≡ Fail why → Refused why ≡ gated g d .outcome
 read-shut g r d why p q = simp (sym p ∙ q)
 
-pub ruleset ways = (opened, shut, read-opened, read-shut, entering)
+pub read-passed : (g r : Verdict) (d e : Decision) → r ≡ g → r ≡ Pass → e ≡ d → e .outcome ≡ gated g d .outcome
+read-passed g r d e p q u = simp (sym p ∙ q, ← u)
+
+pub ruleset ways = (opened, passed, shut, read-opened, read-passed, read-shut, entering)

@@ -15,3 +15,4 @@ pub mod Refusals
 pub mod Safety
 pub mod Unchanged
 pub mod Views
+pub mod Writes

@@ -1,5 +1,5 @@
 -- What a step decides behind checks 3 to 5, from the pieces that it names: an outcome, and what it changes. A refusal changes nothing.
-use mathlib.Core.Bool.{Bool, cond}
+use mathlib.Core.Bool.{Bool, cond, false, true}
 use mathlib.Core.List.{List}
 use Prim.Native.Nat.{ℕ}
 use lib.Count.{ones}
@@ -16,7 +16,7 @@ use Rattle.federation.specs.declared.Settings.{Settings}
 use Rattle.record.specs.Checks.{examined}
 use Rattle.journal.specs.Journal.{equalIn, hasRoom, insideOf}
 use Rattle.ledger.specs.declared.Change.{Change}
-use Rattle.ledger.specs.declared.Change.the-variants.{Book, Hold, Nothing, Sign}
+use Rattle.ledger.specs.declared.Change.the-variants.{Book, Hold, Nothing, RecordAcknowledgement, RecordSignature, Sign}
 use Rattle.ledger.specs.declared.Consent.{Consent}
 use Rattle.ledger.specs.declared.Consent.the-variants.{Already, Denied, Fresh}
 use Rattle.ledger.specs.declared.Decision.{Decision}
@@ -94,3 +94,20 @@ statusOf s signers acknowledgers =
 -- ---- kind 8: "18"
 unfoldable pub ageing : Bool → ℕ → Decision
 ageing held age = cond held (answering age) (refusing NotHeld)
+
+-- ---- of a change
+abbrev pub isNothing : Change → Bool
+isNothing Nothing = true
+isNothing Book = false
+isNothing (Sign state) = false
+isNothing (Hold state) = false
+isNothing RecordSignature = false
+isNothing RecordAcknowledgement = false
+
+abbrev pub isBook : Change → Bool
+isBook Nothing = false
+isBook Book = true
+isBook (Sign state) = false
+isBook (Hold state) = false
+isBook RecordSignature = false
+isBook RecordAcknowledgement = false

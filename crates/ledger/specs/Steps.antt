@@ -100,20 +100,20 @@ abbrev pub turned : Ledger → Refusal → Reply
 turned l why = record { outcome = Refused why; ledger = l }
 
 -- the lent journal afterwards: a new record stands after the booked ones
-abbrev pub journalWith : Change → Ledger → List ℕ → List ℕ → List ℕ
-journalWith Book l journal bytes = putAt journal (l .booked) bytes
-journalWith Nothing l journal bytes = journal
-journalWith (Sign state) l journal bytes = journal
-journalWith (Hold state) l journal bytes = journal
-journalWith RecordSignature l journal bytes = journal
-journalWith RecordAcknowledgement l journal bytes = journal
+abbrev pub journalWith : Change → ℕ → List ℕ → List ℕ → List ℕ
+journalWith Book booked journal bytes = putAt journal booked bytes
+journalWith Nothing booked journal bytes = journal
+journalWith (Sign state) booked journal bytes = journal
+journalWith (Hold state) booked journal bytes = journal
+journalWith RecordSignature booked journal bytes = journal
+journalWith RecordAcknowledgement booked journal bytes = journal
 
 -- ---- the operations; a proposal names no vault and no job
 unfoldable pub proposeOf : Ledger → List ℕ → List ℕ → Reply
 proposeOf l journal bytes = carried l (proposeDecision l journal bytes) 0 0
 
 unfoldable pub journalAfter : Ledger → List ℕ → List ℕ → List ℕ
-journalAfter l journal bytes = journalWith (proposeDecision l journal bytes .change) l journal bytes
+journalAfter l journal bytes = journalWith (proposeDecision l journal bytes .change) (l .booked) journal bytes
 
 unfoldable pub preflightOf : Ledger → List ℕ → ℕ → ℕ → Reply
 preflightOf l journal v job = carried l (preflightDecision l journal v job) v job

@@ -1,9 +1,13 @@
 // What a step decides, from the pieces that it names: the verdict of the checks before, a vault, the votes on a job. The ledger's
 // operations and the run share these functions.
+ghost use mathlib.Core.Bool.{_&&_, not};
 ghost use mathlib.Core.Path.{_≡_};
 ghost use Prim.Native.Nat.{_<_, _≤_};
 ghost use Rattle.record.specs.Codec.{jobOf};
+ghost use Rattle.sets.specs.Bits.{hasBit};
+ghost use Rattle.sets.specs.Jobs.{jobHas};
 ghost use Rattle.index.specs.Index.{IndexedEntries};
+ghost use Rattle.generations.specs.Memo.{Ready};
 ghost use Rattle.ledger.specs.Decisions.{
   refusing,
   answering,
@@ -21,7 +25,8 @@ ghost use Rattle.ledger.specs.Decisions.{
   settling,
   preflighting,
 };
-ghost use Rattle.ledger.specs.Given.{Known, Searchable};
+ghost use Rattle.ledger.specs.Given.{Aged, Known, Searchable};
+ghost use Rattle.ledger.specs.Holders.{isHeld};
 ghost use Rattle.ledger.specs.Steps.{gateOf};
 use crate::Change;
 use crate::Consent;
@@ -34,6 +39,7 @@ use outcome::Refusal;
 use outcome::Verdict;
 use record::Job;
 use record::RECORD;
+use sets::JobSet;
 
 pub fn refuse(why: Refusal) -> Decision
     ensures { λ r. ⌜ r ≡ refusing why ⌝ }
@@ -275,4 +281,60 @@ pub fn preflight(
         Verdict::Pass => consult(state, numbers, sets, journal, booked, signers, vault, job),
         Verdict::Fail(why) => refuse(why),
     }
+}
+
+fn holds(faulty: u16, held: JobSet, vault: u8, job: usize) -> bool
+    ensures { λ r. ⌜ r ≡ (not (hasBit faulty vault) && jobHas held job) ⌝ }
+{
+    if sets::vaults::has(faulty, vault) {
+        return false;
+    }
+    held.has(job)
+}
+
+// Check 18: some correct vault holds the job.
+fn is_held(settings: Settings, vaults: [Vault; 16], job: usize) -> bool
+    requires { ⌜ settings .n ≤ 16 ⌝ }
+    ensures { λ r. ⌜ r ≡ isHeld settings vaults job ⌝ }
+{
+    let n = settings.n;
+    for v in 0..n {
+        let at = v as usize;
+        let vault = vaults[at];
+        if holds(settings.faulty, vault.held, v, job) {
+            return true;
+        }
+    }
+    false
+}
+
+// Kind 8, where the job is booked. The memo has the generations that were found before.
+pub fn generations(
+    settings: Settings,
+    vaults: [Vault; 16],
+    order: &[u8],
+    arrivals: usize,
+    numbers: &[u16],
+    sets: &[u64],
+    journal: &[u8],
+    booked: usize,
+    memo: &mut [u8],
+    job: usize,
+) -> Decision
+    requires { ⌜ (settings .n ≤ 16) × Ready (now journal) booked (now numbers) (now sets) (now order) arrivals (now memo) ⌝ }
+    ensures { λ r. ⌜ Aged settings vaults (now (order .entry)) arrivals (now (journal .entry)) booked (now (memo .exit)) job r ⌝ }
+{
+    if is_held(settings, vaults, job) {
+        return answer(generations::age(
+            journal,
+            booked,
+            numbers,
+            sets,
+            order,
+            arrivals,
+            memo,
+            job,
+        ));
+    }
+    refuse(Refusal::NotHeld)
 }

@@ -2,7 +2,9 @@
 // kind of step. Every operation takes any arguments and any journal; its promise is one equation with a definition of
 // specs/Steps.antt, refused steps included. A step is decided from small pieces, and what it changes is applied in one place.
 mod books;
+mod booking;
 pub mod decisions;
+mod indexed;
 mod steps;
 mod vaults;
 
