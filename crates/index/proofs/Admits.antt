@@ -1,5 +1,4 @@
 -- Checks 11 to 14 by the index are those of the vaults.
--- Assumes nothing.
 use mathlib.Core.Bool.{Bool, _&&_, _||_, cond, false, not, true, true≢false}
 use mathlib.Core.List.{List}
 use mathlib.Core.Logic.{inl, inr, ⊎-elim}

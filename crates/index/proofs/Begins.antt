@@ -1,5 +1,4 @@
 -- The index of no job, and that it speaks of the entered jobs alone.
--- Assumes nothing.
 use mathlib.Core.Bool.{Bool, false, true}
 use mathlib.Core.List.{List}
 use mathlib.Core.Path.{_∙_, _≡_, ap, refl}

@@ -1,5 +1,4 @@
 -- The index of a journal's slots is that of the jobs that it books.
--- Assumes nothing.
 use mathlib.Core.List.{List}
 use mathlib.Core.Path.{sym}
 use Prim.Native.Nat.{_*_, _≤_, ℕ}

@@ -1,5 +1,4 @@
 -- What a place stores, and that the index of the places so far becomes that of one more.
--- Assumes nothing.
 use mathlib.Core.Bool.{Bool, _&&_, _||_, cond, false, not, true, true≢false}
 use mathlib.Core.List.{List}
 use mathlib.Core.Logic.{_≢_, _⊎_, ⊎-elim}

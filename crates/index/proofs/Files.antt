@@ -1,5 +1,4 @@
 -- The walk along a chain from the last to the first finds the first that passes; and a filed record keeps the chains.
--- Assumes nothing.
 use mathlib.Core.Bool.{Bool, _||_, cond, false, true, true≢false}
 use mathlib.Core.List.{List}
 use mathlib.Core.Logic.{_≢_, ⊎-elim}

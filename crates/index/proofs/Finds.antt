@@ -1,5 +1,4 @@
 -- What the sets at a number have: the jobs with the label on that side, or the makers of the tape.
--- Assumes nothing.
 use mathlib.Core.Bool.{Bool, _&&_, cond, false, not, true, true≢false}
 use mathlib.Core.Logic.{_⊎_, inl, inr, ⊎-elim}
 use mathlib.Core.Path.{_∙_, _≡_, ap, refl, sym}

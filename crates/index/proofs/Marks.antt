@@ -1,5 +1,4 @@
 -- A mark sets its own bit and no other, so what a row of marks has set is what one of them has.
--- Assumes nothing.
 use mathlib.Core.Bool.{Bool, false, true, true≢false}
 use mathlib.Core.List.{List}
 use mathlib.Core.Logic.{_≢_, _⊎_, inl, inr}

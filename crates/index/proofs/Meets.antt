@@ -1,5 +1,4 @@
 -- The sets at the numbers of a booked job's entries have the jobs that the ledger's checks look for.
--- Assumes nothing.
 use mathlib.Core.Bool.{Bool, _&&_, false, true}
 use mathlib.Core.List.{List}
 use mathlib.Core.Path.{_∙_, _≡_, ap, refl, sym}

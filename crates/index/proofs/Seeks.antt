@@ -1,5 +1,4 @@
 -- The walk along a bucket's chain finds the last place that matches, and its numbers are those of the label or the tape.
--- Assumes nothing.
 use mathlib.Core.Bool.{Bool, _&&_, cond, false, true}
 use mathlib.Core.List.{List}
 use mathlib.Core.Logic.{_≢_}

@@ -1,22 +1,9 @@
 -- The two words at the number.
--- Assumes nothing.
 use native.Mathlib.Omega.{arith}
 use borrow.Author.Needs.{needs}
 use Rattle.index.proofs.checks.set_of.Statement.{statement}
 use Rattle.index.specs.Checks.{setOf}
 use Rattle.index.proofs.checks.set_of.Tie as tie
-
-number-requires : tie.Need-number-requires
-number-requires c κs = search needs
-
-mul-set-at : tie.Need-mul-set-at
-mul-set-at c = search needs
-
-mul-set-at-2 : tie.Need-mul-set-at-2
-mul-set-at-2 c = search needs
-
-add-set-at : tie.Need-add-set-at
-add-set-at c = search needs
 
 set-at-requires : tie.Need-set-at-requires
 set-at-requires c κs = let p = c .before .before .before .pre in omega (arith, p .2 .small (c .before .before .before .args .at) (p .0), p .2 .sets-size, c .number .ensures .0)
@@ -27,4 +14,11 @@ returns c = simp (← c .before .number .ensures .0) (c .set-at .ensures)
 
 pub set-of-spec : {M : Type 1} → statement M
 set-of-spec =
-    tie.close (tie.spec number-requires mul-set-at mul-set-at-2 add-set-at set-at-requires returns)
+    tie.close
+    (tie.spec
+    (λ c κs. search needs)
+    (λ c. search needs)
+    (λ c. search needs)
+    (λ c. search needs)
+    set-at-requires
+    returns)
