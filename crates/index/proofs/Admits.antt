@@ -20,6 +20,7 @@ use Rattle.record.specs.declared.Job.{Job}
 use Rattle.sets.proofs.Jobs.{job-union-has, union-words}
 use Rattle.sets.specs.Jobs.{InWords, jobHas, jobUnion}
 use Rattle.sets.specs.declared.job_set.JobSet.{JobSet}
+use Rattle.journal.specs.Journal.{capacity}
 use Rattle.index.specs.Admission.{admission, consumedAt, listedBy, listsAt, madeBefore, notCreatedAt, remadeAt}
 use Rattle.index.proofs.Marks.{same-truth}
 use Rattle.index.proofs.Meets.{makers-meet, readers-meet, writers-meet}
@@ -143,7 +144,7 @@ either-first p q r both F G rest never = by (anyBelow 4 p) (anyBelow 4 q) refl r
         let none = none-any r 4 (λ e l. both e l ∙ simp (any-none p 4 ep e l, any-none q 4 eq e l)) in
         simp (found-none p 4 (first-none p 4 ep), found-none q 4 (first-none q 4 eq), found-none r 4 (first-none r 4 none))
 
-module _ (job : ℕ → Job) (n : ℕ) (numbers sets : List ℕ) (t : Entered job (8 * n) numbers sets) (few : n ≤ 128) (k : ℕ) (lk : k < n)
+module _ (job : ℕ → Job) (n : ℕ) (numbers sets : List ℕ) (t : Entered job (8 * n) numbers sets) (few : n ≤ capacity) (k : ℕ) (lk : k < n)
     (held others : JobSet) (hw : InWords held) (ow : InWords others) where
   missing-same : (e : ℕ) → e < 4 → unmetAt numbers sets (job k .inputs) (places + 8 * k) 2 held e ≡ notCreatedAt job n held (job k) (0 + e)
   unfolding unmetAt notCreatedAt

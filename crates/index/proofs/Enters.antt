@@ -5,13 +5,12 @@ use mathlib.Core.Logic.{_≢_, _⊎_, ⊎-elim}
 use mathlib.Core.Path.{_∙_, _≡_, ap, refl, sym}
 use Prim.Native.Nat.{_%_, _*_, _+_, _-_, _/_, _<_, _≤_, suc, ℕ}
 use native.Mathlib.Nat.{eq-or-lt-of-le, le-of-suc-le-suc}
-use native.Mathlib.Numerals.{add-one}
 use native.Mathlib.Omega.{arith}
 use lib.Dec.{eqb, ltb}
 use lib.ListN.{getD, length, length-set, set}
 use lib.Seq.{getD-set-other, getD-set-same}
 use borrow.Author.Tests.{eq-eqb, eqb-false, eqb-true, le-ltb, lt-ltb, ne-eqb}
-use Rattle.base.specs.Search.{anyBelow, firstBelow}
+use Rattle.base.specs.Search.{anyBelow}
 use Rattle.record.specs.Entries.{framesOf, isUsed, labelOf}
 use Rattle.record.specs.declared.Job.{Job}
 use Rattle.journal.specs.Journal.{capacity}
@@ -19,7 +18,7 @@ use Rattle.index.proofs.Chains.{last-no, last-yes}
 use Rattle.index.proofs.Marks.{mark-other, mark-sets, mark-size}
 use Rattle.index.specs.Chains.{lastBelow}
 use Rattle.index.specs.Entering.{numbersWith, setsWith}
-use Rattle.index.specs.Places.{Entered, Marked, Numbered, Sought, bitOf, bucketOf, buckets, framesAt, headsAt, inBucket, isMatch, labelAt, linksAt, marks, numberAt, numbersAt, numbersSize, places, sideOf, usedAt}
+use Rattle.index.specs.Places.{Marked, Numbered, bitOf, bucketOf, buckets, framesAt, headsAt, inBucket, labelAt, linksAt, marks, numberAt, numbersAt, numbersSize, places, sideOf, usedAt}
 use Rattle.index.specs.Words.{bitAt, marked}
 
 -- ---- the four stores

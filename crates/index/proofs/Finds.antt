@@ -13,6 +13,7 @@ use Rattle.base.specs.Search.{anyBelow, firstBelow}
 use Rattle.record.specs.Conflicts.{isLabelAt, isTapeAt, labelIn, makesTape}
 use Rattle.record.specs.Entries.{isUsed}
 use Rattle.record.specs.declared.Job.{Job}
+use Rattle.journal.specs.Journal.{capacity}
 use Rattle.index.proofs.Chains.{first-short}
 use Rattle.index.proofs.Enters.{place-frames, place-label, place-used}
 use Rattle.index.proofs.Marks.{same-truth}
@@ -78,7 +79,7 @@ module _ (job : ℕ → Job) (exact : Bool) where
       ∙ fits-self exact (labelAt job q) (framesAt job q)
 
 -- ---- the parts of a bit
-bit-parts : (kind number k kind' number' k' : ℕ) → kind < 3 → kind' < 3 → k < 128 → k' < 128 → bitOf kind number k ≡ bitOf kind' number' k'
+bit-parts : (kind number k kind' number' k' : ℕ) → kind < 3 → kind' < 3 → k < capacity → k' < capacity → bitOf kind number k ≡ bitOf kind' number' k'
     → (kind ≡ kind') × (number ≡ number') × (k ≡ k')
 bit-parts kind number k kind' number' k' lk lk' lj lj' e =
     let a : 3 * number + kind ≡ 3 * number' + kind' = omega arith in
@@ -132,7 +133,7 @@ module _ (job : ℕ → Job) (half i k q : ℕ) (ei : half + i ≡ q % 8) (ek : 
       let a : 4 + i ≡ q % 8 = omega arith in
       simp (rw h at (place-listed label l)) (rw (a, ek) (eq-eqb _ _ f))
 
-module _ (job : ℕ → Job) (n : ℕ) (few : n ≤ 128) (p : ℕ) (u : usedAt job p ≡ true) (k : ℕ) (lk : k < 128) where
+module _ (job : ℕ → Job) (n : ℕ) (few : n ≤ capacity) (p : ℕ) (u : usedAt job p ≡ true) (k : ℕ) (lk : k < capacity) where
   abbrev number : Bool → ℕ
   number exact = numberAt job exact p
 

@@ -2,7 +2,7 @@
 -- and they depend on these jobs alone.
 use mathlib.Core.Bool.{Bool, cond, false, true}
 use mathlib.Core.List.{List}
-use mathlib.Core.Path.{_∙_, _≡_, ap, refl, subst, sym}
+use mathlib.Core.Path.{_∙_, _≡_, ap, refl, sym}
 use Prim.Native.Nat.{_%_, _*_, _+_, _/_, _<_, _≤_, suc, zero, ℕ}
 use native.Mathlib.Nat.{le-refl, mod-lt}
 use native.Mathlib.Numerals.{add-one}
@@ -13,15 +13,15 @@ use Rattle.record.specs.Codec.{jobOf, recordSize}
 use Rattle.record.specs.Entries.{framesOf, isUsed, labelOf}
 use Rattle.record.specs.declared.Job.{Job}
 use Rattle.journal.proofs.Putting.{put-length, slot-before}
-use Rattle.journal.specs.Journal.{capacity, jobAt, putAt, recordAt, slotAt}
+use Rattle.journal.specs.Journal.{capacity, jobAt, putAt, recordAt}
 use Rattle.outcome.specs.declared.Verdict.{Verdict}
 use Rattle.sets.specs.Jobs.{InWords}
 use Rattle.sets.specs.declared.job_set.JobSet.{JobSet}
 use Rattle.index.proofs.Admits.{by-index}
 use Rattle.index.proofs.Begins.{entered-new, label-alike, number-alike, used-alike}
+use Rattle.index.proofs.Books.{entered-booked}
 use Rattle.index.proofs.Enters.{marked-next, marked-same, numbered-next, numbered-same, place-frames, place-label, place-used}
 use Rattle.index.proofs.Files.{filed-new, filed-next}
-use Rattle.index.proofs.Inside.{slot-booked}
 use Rattle.index.specs.Admission.{admission}
 use Rattle.index.specs.Checks.{Tables, admissionBy}
 use Rattle.index.specs.Entering.{Entries, numbersOf, numbersWith, setsOf, setsWith}
@@ -155,10 +155,7 @@ module _ (journal : List ℕ) (n : ℕ) (numbers sets : List ℕ) (t : IndexedEn
 
   -- and of the jobs that the journal books
   pub indexed-booked : Entered (jobAt journal n) (8 * n) numbers sets
-  indexed-booked =
-      let same : (k : ℕ) → k < n → slotJob journal k ≡ jobAt journal n k = λ k l. slot-booked journal n k (t .inside) l in
-      rw (t .numbers-are ∙ numbers-alike (slotJob journal) (jobAt journal n) n same (8 * n) (le-refl (8 * n)), t .sets-are ∙ sets-alike (slotJob journal) (jobAt journal n) n same (8 * n) (le-refl (8 * n)))
-      (tables-entered (jobAt journal n) (8 * n) (omega (arith, t .few)))
+  indexed-booked = entered-booked journal n (t .inside) numbers sets indexed-entered
 
 pub indexed-filed : (journal : List ℕ) (n : ℕ) (records : List ℕ) → IndexedRecords journal n records → Filed (slotJob journal) n records
 indexed-filed journal n records t = rw (t .records-are) (tables-filed (slotJob journal) n (t .few))

@@ -5,12 +5,12 @@ use native.Mathlib.Omega.{arith}
 use borrow.Author.Needs.{needs}
 use Rattle.index.proofs.Files.{sum-next}
 use Rattle.index.proofs.records.sum.Statement.{statement}
-use Rattle.index.specs.Places.{bucketOf}
+use Rattle.index.specs.Places.{bucketOf, buckets}
 use Rattle.index.specs.Records.{sumTo}
 use Rattle.index.proofs.records.sum.Tie as tie
 
 abbrev Inv-loop : tie.InvT-loop
-Inv-loop a sum₀ e₀ sum e = (sum < 1021) × ((e ≤ 8) × (sum ≡ sumTo e a))
+Inv-loop a sum₀ e₀ sum e = (sum < buckets) × ((e ≤ 8) × (sum ≡ sumTo e a))
 
 abbrev μ-loop : tie.MeasureT-loop
 μ-loop a sum₀ e₀ sum e = 8 - e
