@@ -227,4 +227,6 @@ module _ (job : ℕ → Job) (n : ℕ) (numbers sets : List ℕ) (t : Entered jo
       let first : Verdict → Verdict = λ r. cond (ltb missing 8) (Fail (NotCreated missing)) r in
       let second : Verdict → Verdict = λ r. first (cond (ltb retired 8) (Fail (Retired retired)) r) in
       let third : Verdict → Verdict = λ r. second (cond (ltb reserved 8) (Fail (InputReserved reserved)) r) in
-      created _ ∙ ap first (either _) ∙ ap first (consumed (λ m. Fail (Retired m)) held hw _) ∙ ap second (consumed (λ m. Fail (InputReserved m)) others ow _) ∙ ap third remade
+      created _ ∙ ap first (either _)
+      ∙ ap first (consumed (λ m. Fail (Retired m)) held hw _)
+      ∙ ap second (consumed (λ m. Fail (InputReserved m)) others ow _) ∙ ap third remade

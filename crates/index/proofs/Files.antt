@@ -19,7 +19,6 @@ use Rattle.record.specs.Codec.{jobOf, recordSize}
 use Rattle.record.specs.Entries.{framesOf, labelOf}
 use Rattle.record.specs.declared.Job.{Job}
 use Rattle.journal.specs.Journal.{capacity, equalAt, equalIn, insideOf, slotAt}
-use Rattle.index.proofs.Begins.{last-same}
 use Rattle.index.proofs.Chains.{last-has, last-le, last-no, last-skip, last-yes}
 use Rattle.index.proofs.Enters.{last-or-below}
 use Rattle.index.specs.Chains.{lastBelow}
@@ -27,7 +26,8 @@ use Rattle.index.specs.Places.{bucketOf, buckets, slotJob}
 use Rattle.index.specs.Records.{Filed, inSum, recordsSize, recordsWith, sumOf, sumTo}
 
 -- ---- the sum
-pub sum-next : (a : Job) (e before b f : ℕ) → before ≡ sumTo e a → b ≡ bucketOf (labelOf a e) → f ≡ framesOf a e → (31 * before + b + f) % buckets ≡ sumTo (e + 1) a
+pub sum-next : (a : Job) (e before b f : ℕ) → before ≡ sumTo e a → b ≡ bucketOf (labelOf a e) → f ≡ framesOf a e
+    → (31 * before + b + f) % buckets ≡ sumTo (e + 1) a
 unfolding sumTo
 sum-next a e before b f q v u = rw (add-one e, q, v, u)
 
@@ -196,4 +196,6 @@ filed-new job = record {
 pub found-equal : (journal bytes : List ℕ) (booked : ℕ) → recordSize * booked ≤ length journal
     → firstBelow booked (equalAt journal bytes) ≡ equalIn journal booked bytes
 unfolding equalIn insideOf
-found-equal journal bytes booked h = let e : booked ≡ min booked (length journal / recordSize) = omega arith in ap (λ (n : ℕ). firstBelow n (equalAt journal bytes)) e
+found-equal journal bytes booked h =
+    let e : booked ≡ min booked (length journal / recordSize) = omega arith in
+    ap (λ (n : ℕ). firstBelow n (equalAt journal bytes)) e

@@ -176,14 +176,16 @@ module _ (job : ℕ → Job) (n : ℕ) (few : n ≤ capacity) (p : ℕ) (u : use
         let i : ℕ = q % 8 - 4 * kind in
         let half = side-half (q % 8) (omega arith) in
         let z : 4 * kind + i ≡ q % 8 = omega (arith, half .0, r .0) in
-        let l : labelAt job q ≡ labelAt job p = fits-label false (labelAt job p) (framesAt job p) (labelAt job q) (framesAt job q) (number-fits job false p q u v (r .1)) in
+        let l : labelAt job q ≡ labelAt job p =
+        fits-label false (labelAt job p) (framesAt job p) (labelAt job q) (framesAt job q) (number-fits job false p q u v (r .1)) in
         simp (lt-ltb k n (omega (arith, r .2, s .below)))
         (any-intro _ 4 i (omega (arith, half .0, half .1, r .0)) (place-listed job (4 * kind) i k q z (r .2) v _ l)))
         (λ r. absurd (omega (arith, r .1, lx)))
         (mark-place kind (number false) q (omega arith) (s .below) (s .has))
 
     -- a place of the job that enters it
-    label-in : (i : ℕ) → k < n → i < 4 → isLabelAt (4 * kind) (job k) (labelAt job p) i ≡ true → anyBelow (8 * n) (marks job (bitOf kind (number false) k)) ≡ true
+    label-in : (i : ℕ) → k < n → i < 4 → isLabelAt (4 * kind) (job k) (labelAt job p) i ≡ true
+        → anyBelow (8 * n) (marks job (bitOf kind (number false) k)) ≡ true
     unfolding isLabelAt
     label-in i ln li h =
         let q = there (4 * kind) i in

@@ -55,7 +55,8 @@ module _ (job : ℕ → Job) (n : ℕ) (numbers sets : List ℕ) (t : Entered jo
         → jobHas (setOf numbers sets at kind) j ≡ anyBelow (8 * n) (marks job (bitOf kind (numberAt job exact (8 * k + e)) j))
     unfolding setOf
     at-number exact at kind j ea la lx lj =
-        let v : getD numbers at 0 ≡ numberAt job exact (8 * k + e) = ap (λ (i : ℕ). getD numbers i 0) ea ∙ t .numbered .named exact (8 * k + e) (omega arith) here in
+        let v : getD numbers at 0 ≡ numberAt job exact (8 * k + e) =
+        ap (λ (i : ℕ). getD numbers i 0) ea ∙ t .numbered .named exact (8 * k + e) (omega arith) here in
         let b : 64 * (6 * getD numbers at 0 + 2 * kind) + j ≡ bitOf kind (numberAt job exact (8 * k + e)) j = omega (arith, v) in
         set-bit sets (6 * getD numbers at 0 + 2 * kind) j lj ∙ ap (bitAt sets) b ∙ t .marked .bits _ (omega (arith, v, t .numbered .small at la))
 

@@ -11,15 +11,35 @@ returns c = simp (← c .before .first-unmet .ensures, lt-ltb _ _ (c .if1 .taken
 
 returns-2 : tie.Need-returns-2
 unfolding admissionBy
-returns-2 c = simp (← c .before .before .before .union .ensures, ← c .before .before .first-met .ensures, lt-ltb _ _ (c .before .if2 .taken), ← c .before .before .before .before .before .first-unmet .ensures, le-ltb _ _ (c .before .before .before .before .if1 .left)) (c .consumed .ensures)
+returns-2 c =
+    let m = c .before .before in
+    let u = m .before in
+    let f = u .before .before in
+    simp
+    (← u .union .ensures, ← m .first-met .ensures, lt-ltb _ _ (c .before .if2 .taken), ← f .first-unmet .ensures, le-ltb _ _ (u .before .if1 .left))
+    (c .consumed .ensures)
 
 returns-3 : tie.Need-returns-3
 unfolding admissionBy
-returns-3 c = simp (← c .before .before .before .before .union .ensures, ← c .before .first-met2 .ensures, lt-ltb _ _ (c .if3 .taken), ← c .before .before .before .first-met .ensures, le-ltb _ _ (c .before .before .if2 .left), ← c .before .before .before .before .before .before .first-unmet .ensures, le-ltb _ _ (c .before .before .before .before .before .if1 .left))
+returns-3 c =
+    let m = c .before .before .before in
+    let u = m .before in
+    let f = u .before .before in
+    let first = le-ltb _ _ (u .before .if1 .left) in
+    let second = le-ltb _ _ (c .before .before .if2 .left) in
+    simp
+    (← u .union .ensures, ← c .before .first-met2 .ensures, lt-ltb _ _ (c .if3 .taken), ← m .first-met .ensures, second, ← f .first-unmet .ensures, first)
 
 returns-4 : tie.Need-returns-4
 unfolding admissionBy
-returns-4 c = simp (← c .before .before .before .before .union .ensures, ← c .before .first-met2 .ensures, le-ltb _ _ (c .if3 .left), ← c .before .before .before .first-met .ensures, le-ltb _ _ (c .before .before .if2 .left), ← c .before .before .before .before .before .before .first-unmet .ensures, le-ltb _ _ (c .before .before .before .before .before .if1 .left))
+returns-4 c =
+    let m = c .before .before .before in
+    let u = m .before in
+    let f = u .before .before in
+    let first = le-ltb _ _ (u .before .if1 .left) in
+    let second = le-ltb _ _ (c .before .before .if2 .left) in
+    simp
+    (← u .union .ensures, ← c .before .first-met2 .ensures, le-ltb _ _ (c .if3 .left), ← m .first-met .ensures, second, ← f .first-unmet .ensures, first)
 
 pub admission-by-spec : {M : Type 1} → statement M
 admission-by-spec =

@@ -11,11 +11,15 @@ returns c = simp (← c .before .first-met .ensures, lt-ltb _ _ (c .if1 .taken))
 
 returns-2 : tie.Need-returns-2
 unfolding consumedBy
-returns-2 c = simp (← c .before .first-met2 .ensures, lt-ltb _ _ (c .if2 .taken), ← c .before .before .before .first-met .ensures, le-ltb _ _ (c .before .before .if1 .left))
+returns-2 c =
+    let d = c .before in
+    simp (← d .first-met2 .ensures, lt-ltb _ _ (c .if2 .taken), ← d .before .before .first-met .ensures, le-ltb _ _ (d .before .if1 .left))
 
 returns-3 : tie.Need-returns-3
 unfolding consumedBy
-returns-3 c = simp (← c .before .first-met2 .ensures, le-ltb _ _ (c .if2 .left), ← c .before .before .before .first-met .ensures, le-ltb _ _ (c .before .before .if1 .left))
+returns-3 c =
+    let d = c .before in
+    simp (← d .first-met2 .ensures, le-ltb _ _ (c .if2 .left), ← d .before .before .first-met .ensures, le-ltb _ _ (d .before .if1 .left))
 
 pub consumed-spec : {M : Type 1} → statement M
 consumed-spec =

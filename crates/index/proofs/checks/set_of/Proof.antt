@@ -6,7 +6,9 @@ use Rattle.index.specs.Checks.{setOf}
 use Rattle.index.proofs.checks.set_of.Tie as tie
 
 set-at-requires : tie.Need-set-at-requires
-set-at-requires c κs = let p = c .before .before .before .pre in omega (arith, p .2 .small (c .before .before .before .args .at) (p .0), p .2 .sets-size, c .number .ensures .0)
+set-at-requires c κs =
+    let s = c .before .before .before in
+    omega (arith, s .pre .2 .small (s .args .at) (s .pre .0), s .pre .2 .sets-size, c .number .ensures .0)
 
 returns : tie.Need-returns
 unfolding setOf

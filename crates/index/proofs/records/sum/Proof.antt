@@ -21,7 +21,9 @@ loop-holds c = (omega arith, (omega arith, refl))
 
 loop-again : tie.Need-loop-again Inv-loop μ-loop
 loop-again c =
-    (omega arith, (omega arith, sum-next _ _ _ _ _ (c .before .before .before .before .loop .inv .1 .1) (c .before .bucket .ensures .0 ∙ ap bucketOf (c .before .before .label .ensures)) (c .frames .ensures)))
+    let d = c .before in
+    let bucket = d .bucket .ensures .0 ∙ ap bucketOf (d .before .label .ensures) in
+    (omega arith, (omega arith, sum-next _ _ _ _ _ (d .before .before .before .loop .inv .1 .1) bucket (c .frames .ensures)))
 
 returns : tie.Need-returns Inv-loop μ-loop
 returns c = let e : c .before .loop .e ≡ 8 = omega arith in (rw e at (c .before .loop .inv .1 .1), c .before .loop .inv .0)

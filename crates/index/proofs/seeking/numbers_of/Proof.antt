@@ -12,19 +12,31 @@ abbrev μ-loop : tie.MeasureT-loop
 μ-loop journal numbers label frames m seen₀ x₀ seen x = x
 
 loop-holds : tie.Need-loop-holds Inv-loop μ-loop
-loop-holds c = look-start _ _ _ (c .before .before .before .before .pre .2) _ _ _ _ (c .before .bucket .ensures) (c .number .ensures .0)
+loop-holds c = look-start _ _ _ (c .before .before .before .before .pre .1) _ _ _ _ (c .before .bucket .ensures) (c .number .ensures .0)
 
 returns : tie.Need-returns Inv-loop μ-loop
-returns c = look-found _ _ _ (c .before .before .before .before .before .before .before .before .before .before .before .pre .2) _ _ _ _ (c .before .before .before .before .before .loop-test .taken) (c .before .before .before .before .before .before .loop .inv) _ _ _ _ _ (c .before .before .before .before .entry-at .ensures) (c .before .before .before .agree .ensures) (c .before .before .if1 .taken) (c .before .number2 .ensures .0) (c .number3 .ensures .0)
+returns c =
+    let d = c .before .before .before .before in
+    let l = d .before in
+    look-found _ _ _ (l .before .before .before .before .before .before .pre .1) _ _ _ _ (l .loop-test .taken) (l .before .loop .inv) _ _ _ _ _
+    (d .entry-at .ensures) (c .before .before .before .agree .ensures) (c .before .before .if1 .taken) (c .before .number2 .ensures .0) (c .number3 .ensures .0)
 
 loop-less : tie.Need-loop-less Inv-loop μ-loop
-loop-less c = look-less _ _ _ (c .before .before .before .before .before .before .before .before .before .before .before .pre .2) _ _ _ _ (c .before .before .before .before .before .loop-test .taken) (c .before .before .before .before .before .before .loop .inv) _ (c .number4 .ensures .0)
+loop-less c =
+    let l = c .before .before .before .before .before in
+    look-less _ _ _ (l .before .before .before .before .before .before .pre .1) _ _ _ _ (l .loop-test .taken) (l .before .loop .inv) _ (c .number4 .ensures .0)
 
 loop-again : tie.Need-loop-again Inv-loop μ-loop
-loop-again c = look-next _ _ _ (c .before .before .before .before .before .before .before .before .before .before .before .pre .2) _ _ _ _ (c .before .before .before .before .before .loop-test .taken) (c .before .before .before .before .before .before .loop .inv) _ _ _ _ _ (c .before .before .before .before .entry-at .ensures) (c .before .before .before .agree .ensures) (c .before .before .if1 .left) (c .before .nearest .ensures) (c .number4 .ensures .0)
+loop-again c =
+    let d = c .before .before .before .before in
+    let l = d .before in
+    look-next _ _ _ (l .before .before .before .before .before .before .pre .1) _ _ _ _ (l .loop-test .taken) (l .before .loop .inv) _ _ _ _ _
+    (d .entry-at .ensures) (c .before .before .before .agree .ensures) (c .before .before .if1 .left) (c .before .nearest .ensures) (c .number4 .ensures .0)
 
 returns-2 : tie.Need-returns-2 Inv-loop μ-loop
-returns-2 c = look-end _ _ _ (c .before .before .before .before .before .before .before .pre .2) _ _ _ _ _ (c .before .loop-test .left) (c .before .before .loop .inv) (c .label-number .ensures)
+returns-2 c =
+    let l = c .before in
+    look-end _ _ _ (l .before .before .before .before .before .before .pre .1) _ _ _ _ _ (l .loop-test .left) (l .before .loop .inv) (c .label-number .ensures)
 
 pub numbers-of-spec : {M : Type 1} → statement M
 numbers-of-spec =
