@@ -19,7 +19,7 @@ ruleset by = (indexed-none, indexed-all, needs)
 
 enter-requires : tie.Need-enter-requires Inv-loop μ-loop
 enter-requires c κs =
-    (search needs, c .read .ensures ∙ part-job _ _ _ (omega arith) (c .before .slot .ensures), c .before .before .before .before .before .before .loop .inv .1)
+    (search needs, c .read .ensures ∙ part-job _ _ _ (c .before .slot .ensures), c .before .before .before .before .before .before .loop .inv .1)
 
 same-length : tie.Need-same-length Inv-loop μ-loop
 same-length c = indexed-lengths _ _ _ _ _ (c .before .loop .inv .1) _ _ _ (c .before .before .before .before .before .before .pre .2) .0
