@@ -1,7 +1,7 @@
 -- The jobs of a journal's places are those that it books, and an entry is read from its record's part.
 use mathlib.Core.List.{List}
 use mathlib.Core.Path.{_∙_, _≡_, ap, sym}
-use Prim.Native.Nat.{_%_, _*_, _+_, _/_, _<_, _≤_, ℕ}
+use Prim.Native.Nat.{_%_, _*_, _/_, _<_, _≤_, ℕ}
 use native.Mathlib.Omega.{arith}
 use lib.ListN.{getD, length}
 use borrow.Author.Tests.{le-leb, lt-ltb}

@@ -1,7 +1,6 @@
 -- The loop's head holds the index of the records so far.
 use mathlib.Core.Path.{_∙_}
 use Prim.Native.Nat.{_-_, _≤_}
-use native.Mathlib.Omega.{arith}
 use borrow.Author.Needs.{needs}
 use Rattle.index.proofs.Inside.{part-job}
 use Rattle.index.proofs.Tables.{indexed-all, indexed-lengths, indexed-none}
