@@ -1,5 +1,4 @@
 -- Checks 11 to 14 by the index are those of the vaults.
--- Assumes nothing.
 use mathlib.Core.Bool.{Bool, _&&_, _||_, cond, false, not, true, true≢false}
 use mathlib.Core.List.{List}
 use mathlib.Core.Logic.{inl, inr, ⊎-elim}
@@ -21,6 +20,7 @@ use Rattle.record.specs.declared.Job.{Job}
 use Rattle.sets.proofs.Jobs.{job-union-has, union-words}
 use Rattle.sets.specs.Jobs.{InWords, jobHas, jobUnion}
 use Rattle.sets.specs.declared.job_set.JobSet.{JobSet}
+use Rattle.journal.specs.Journal.{capacity}
 use Rattle.index.specs.Admission.{admission, consumedAt, listedBy, listsAt, madeBefore, notCreatedAt, remadeAt}
 use Rattle.index.proofs.Marks.{same-truth}
 use Rattle.index.proofs.Meets.{makers-meet, readers-meet, writers-meet}
@@ -144,7 +144,7 @@ either-first p q r both F G rest never = by (anyBelow 4 p) (anyBelow 4 q) refl r
         let none = none-any r 4 (λ e l. both e l ∙ simp (any-none p 4 ep e l, any-none q 4 eq e l)) in
         simp (found-none p 4 (first-none p 4 ep), found-none q 4 (first-none q 4 eq), found-none r 4 (first-none r 4 none))
 
-module _ (job : ℕ → Job) (n : ℕ) (numbers sets : List ℕ) (t : Entered job (8 * n) numbers sets) (few : n ≤ 128) (k : ℕ) (lk : k < n)
+module _ (job : ℕ → Job) (n : ℕ) (numbers sets : List ℕ) (t : Entered job (8 * n) numbers sets) (few : n ≤ capacity) (k : ℕ) (lk : k < n)
     (held others : JobSet) (hw : InWords held) (ow : InWords others) where
   missing-same : (e : ℕ) → e < 4 → unmetAt numbers sets (job k .inputs) (places + 8 * k) 2 held e ≡ notCreatedAt job n held (job k) (0 + e)
   unfolding unmetAt notCreatedAt
@@ -227,4 +227,6 @@ module _ (job : ℕ → Job) (n : ℕ) (numbers sets : List ℕ) (t : Entered jo
       let first : Verdict → Verdict = λ r. cond (ltb missing 8) (Fail (NotCreated missing)) r in
       let second : Verdict → Verdict = λ r. first (cond (ltb retired 8) (Fail (Retired retired)) r) in
       let third : Verdict → Verdict = λ r. second (cond (ltb reserved 8) (Fail (InputReserved reserved)) r) in
-      created _ ∙ ap first (either _) ∙ ap first (consumed (λ m. Fail (Retired m)) held hw _) ∙ ap second (consumed (λ m. Fail (InputReserved m)) others ow _) ∙ ap third remade
+      created _ ∙ ap first (either _)
+      ∙ ap first (consumed (λ m. Fail (Retired m)) held hw _)
+      ∙ ap second (consumed (λ m. Fail (InputReserved m)) others ow _) ∙ ap third remade

@@ -1,5 +1,4 @@
 -- The index of no job, and that it speaks of the entered jobs alone.
--- Assumes nothing.
 use mathlib.Core.Bool.{Bool, false, true}
 use mathlib.Core.List.{List}
 use mathlib.Core.Path.{_∙_, _≡_, ap, refl}
@@ -13,7 +12,8 @@ use Rattle.record.specs.Entries.{framesOf, isUsed, labelOf}
 use Rattle.record.specs.declared.Job.{Job}
 use Rattle.sets.proofs.Bits.{has-none}
 use Rattle.index.specs.Chains.{lastBelow}
-use Rattle.index.specs.Places.{Entered, Marked, Numbered, bucketOf, framesAt, headsAt, inBucket, isMatch, labelAt, marks, numberAt, numbersSize, setsSize, usedAt}
+use Rattle.index.specs.Places.{Entered, Marked, Numbered, bucketOf, framesAt, headsAt, inBucket, isMatch}
+use Rattle.index.specs.Places.{labelAt, marks, numberAt, numbersSize, setsSize, usedAt}
 use Rattle.index.specs.Words.{bitAt}
 
 -- ---- no job

@@ -1,5 +1,4 @@
 -- A chain of places, each linked to the last before it, leads to the last that matches.
--- Assumes nothing.
 use mathlib.Core.Bool.{Bool, cond, false, true, true≢false}
 use mathlib.Core.Path.{_∙_, _≡_, refl, sym}
 use Prim.Native.Nat.{_-_, _<_, _≤_, suc, zero, ℕ}

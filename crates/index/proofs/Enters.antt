@@ -1,18 +1,16 @@
 -- What a place stores, and that the index of the places so far becomes that of one more.
--- Assumes nothing.
 use mathlib.Core.Bool.{Bool, _&&_, _||_, cond, false, not, true, true≢false}
 use mathlib.Core.List.{List}
 use mathlib.Core.Logic.{_≢_, _⊎_, ⊎-elim}
 use mathlib.Core.Path.{_∙_, _≡_, ap, refl, sym}
 use Prim.Native.Nat.{_%_, _*_, _+_, _-_, _/_, _<_, _≤_, suc, ℕ}
 use native.Mathlib.Nat.{eq-or-lt-of-le, le-of-suc-le-suc}
-use native.Mathlib.Numerals.{add-one}
 use native.Mathlib.Omega.{arith}
 use lib.Dec.{eqb, ltb}
 use lib.ListN.{getD, length, length-set, set}
 use lib.Seq.{getD-set-other, getD-set-same}
 use borrow.Author.Tests.{eq-eqb, eqb-false, eqb-true, le-ltb, lt-ltb, ne-eqb}
-use Rattle.base.specs.Search.{anyBelow, firstBelow}
+use Rattle.base.specs.Search.{anyBelow}
 use Rattle.record.specs.Entries.{framesOf, isUsed, labelOf}
 use Rattle.record.specs.declared.Job.{Job}
 use Rattle.journal.specs.Journal.{capacity}
@@ -20,7 +18,8 @@ use Rattle.index.proofs.Chains.{last-no, last-yes}
 use Rattle.index.proofs.Marks.{mark-other, mark-sets, mark-size}
 use Rattle.index.specs.Chains.{lastBelow}
 use Rattle.index.specs.Entering.{numbersWith, setsWith}
-use Rattle.index.specs.Places.{Entered, Marked, Numbered, Sought, bitOf, bucketOf, buckets, framesAt, headsAt, inBucket, isMatch, labelAt, linksAt, marks, numberAt, numbersAt, numbersSize, places, sideOf, usedAt}
+use Rattle.index.specs.Places.{Marked, Numbered, bitOf, bucketOf, buckets, framesAt, headsAt, inBucket, labelAt, linksAt}
+use Rattle.index.specs.Places.{marks, numberAt, numbersAt, numbersSize, places, sideOf, usedAt}
 use Rattle.index.specs.Words.{bitAt, marked}
 
 -- ---- the four stores
@@ -86,7 +85,8 @@ pub last-or-below : (p m : ℕ) → p < suc m → (p ≡ m) ⊎ (p < m)
 last-or-below p m l = eq-or-lt-of-le (le-of-suc-le-suc l)
 
 module _ (job : ℕ → Job) (m : ℕ) (numbers : List ℕ) (t : Numbered job m numbers) (lm : m < places) (used : usedAt job m ≡ true)
-    (label tape b : ℕ) (ll : label ≤ m) (lt : tape ≤ m) (lb : b < buckets) (el : label ≡ numberAt job false m) (et : tape ≡ numberAt job true m) (eb : b ≡ bucketOf (labelAt job m)) where
+    (label tape b : ℕ) (ll : label ≤ m) (lt : tape ≤ m) (lb : b < buckets)
+    (el : label ≡ numberAt job false m) (et : tape ≡ numberAt job true m) (eb : b ≡ bucketOf (labelAt job m)) where
   abbrev after : List ℕ
   after = numbersWith numbers m label tape b
 
@@ -95,7 +95,8 @@ module _ (job : ℕ → Job) (m : ℕ) (numbers : List ℕ) (t : Numbered job m 
   named-now false = let z : 0 + m ≡ m = omega arith in rw z (with-label numbers (t .size) m label tape b lm lb ∙ el)
 
   named-before : (exact : Bool) (p : ℕ) → p < m → getD after (numbersAt exact + p) 0 ≡ getD numbers (numbersAt exact + p) 0
-  named-before true p l = with-other numbers (t .size) m label tape b lm lb (places + p) (λ e. omega arith) (λ e. omega arith) (λ e. omega arith) (λ e. omega arith)
+  named-before true p l =
+      with-other numbers (t .size) m label tape b lm lb (places + p) (λ e. omega arith) (λ e. omega arith) (λ e. omega arith) (λ e. omega arith)
   named-before false p l = with-other numbers (t .size) m label tape b lm lb (0 + p) (λ e. omega arith) (λ e. omega arith) (λ e. omega arith) (λ e. omega arith)
 
   in-own : inBucket job b m ≡ true
@@ -115,7 +116,9 @@ module _ (job : ℕ → Job) (m : ℕ) (numbers : List ℕ) (t : Numbered job m 
       by false true eu ev =
           let q = eqb-true i (places + m) ev in rw q (omega (arith, with-tape numbers (t .size) m label tape b lm lb))
       by false false eu ev =
-          omega (arith, t .small i l, with-other numbers (t .size) m label tape b lm lb i (eqb-false i m eu) (eqb-false i (places + m) ev) (λ e. omega arith) (λ e. omega arith))
+          let kept =
+          with-other numbers (t .size) m label tape b lm lb i (eqb-false i m eu) (eqb-false i (places + m) ev) (λ e. omega arith) (λ e. omega arith) in
+          omega (arith, t .small i l, kept)
 
   pub numbered-next : Numbered job (suc m) after
   numbered-next = record {

@@ -1,5 +1,4 @@
 -- The walk along a chain from the last to the first finds the first that passes; and a filed record keeps the chains.
--- Assumes nothing.
 use mathlib.Core.Bool.{Bool, _||_, cond, false, true, true≢false}
 use mathlib.Core.List.{List}
 use mathlib.Core.Logic.{_≢_, ⊎-elim}
@@ -19,8 +18,7 @@ use Rattle.base.specs.Search.{anyBelow, firstBelow}
 use Rattle.record.specs.Codec.{jobOf, recordSize}
 use Rattle.record.specs.Entries.{framesOf, labelOf}
 use Rattle.record.specs.declared.Job.{Job}
-use Rattle.journal.specs.Journal.{equalAt, equalIn, insideOf, slotAt}
-use Rattle.index.proofs.Begins.{last-same}
+use Rattle.journal.specs.Journal.{capacity, equalAt, equalIn, insideOf, slotAt}
 use Rattle.index.proofs.Chains.{last-has, last-le, last-no, last-skip, last-yes}
 use Rattle.index.proofs.Enters.{last-or-below}
 use Rattle.index.specs.Chains.{lastBelow}
@@ -28,7 +26,8 @@ use Rattle.index.specs.Places.{bucketOf, buckets, slotJob}
 use Rattle.index.specs.Records.{Filed, inSum, recordsSize, recordsWith, sumOf, sumTo}
 
 -- ---- the sum
-pub sum-next : (a : Job) (e before b f : ℕ) → before ≡ sumTo e a → b ≡ bucketOf (labelOf a e) → f ≡ framesOf a e → (31 * before + b + f) % 1021 ≡ sumTo (e + 1) a
+pub sum-next : (a : Job) (e before b f : ℕ) → before ≡ sumTo e a → b ≡ bucketOf (labelOf a e) → f ≡ framesOf a e
+    → (31 * before + b + f) % buckets ≡ sumTo (e + 1) a
 unfolding sumTo
 sum-next a e before b f q v u = rw (add-one e, q, v, u)
 
@@ -141,7 +140,7 @@ module _ (journal bytes records : List ℕ) (n : ℕ) (t : Filed (slotJob journa
       sym (or-end (equalAt journal bytes) d) ∙ (rw z at w) .left
 
 -- ---- one record more
-module _ (job : ℕ → Job) (n : ℕ) (records : List ℕ) (t : Filed job n records) (few : n < 128) (a : Job) (ea : a ≡ job n) where
+module _ (job : ℕ → Job) (n : ℕ) (records : List ℕ) (t : Filed job n records) (few : n < capacity) (a : Job) (ea : a ≡ job n) where
   abbrev b : ℕ
   b = sumOf a
 
@@ -184,7 +183,7 @@ module _ (job : ℕ → Job) (n : ℕ) (records : List ℕ) (t : Filed job n rec
           let q = eqb-false c b e in
           with-other c q (λ e. omega arith) ∙ t .headed c l ∙ sym (last-no (inSum job c) n (ne-eqb _ _ (λ r. q (sym r ∙ ap sumOf (sym ea)))))
 
--- ---- no record, and other jobs that are the same below n
+-- ---- no record
 pub filed-new : (job : ℕ → Job) → Filed job 0 (replicate recordsSize 0)
 unfolding lastBelow
 filed-new job = record {
@@ -193,18 +192,10 @@ filed-new job = record {
   headed = λ b l. getD-replicate {A = ℕ} recordsSize b 0 0 (omega arith);
 }
 
-pub filed-alike : (job job′ : ℕ → Job) (n : ℕ) → ((k : ℕ) → k < n → job k ≡ job′ k) → (records : List ℕ) → Filed job n records → Filed job′ n records
-unfolding inSum
-filed-alike job job′ n alike records t = record {
-  size = t .size;
-  linked = λ k l.
-      t .linked k l ∙ ap (λ (j : Job). lastBelow k (inSum job (sumOf j))) (alike k l)
-      ∙ last-same _ _ k (λ i li. ap (λ (j : Job). eqb (sumOf j) (sumOf (job′ k))) (alike i (omega arith)));
-  headed = λ b l. t .headed b l ∙ last-same _ _ n (λ i li. ap (λ (j : Job). eqb (sumOf j) b) (alike i li));
-}
-
 -- what is found is the ledger's equal
 pub found-equal : (journal bytes : List ℕ) (booked : ℕ) → recordSize * booked ≤ length journal
     → firstBelow booked (equalAt journal bytes) ≡ equalIn journal booked bytes
 unfolding equalIn insideOf
-found-equal journal bytes booked h = let e : booked ≡ min booked (length journal / recordSize) = omega arith in ap (λ (n : ℕ). firstBelow n (equalAt journal bytes)) e
+found-equal journal bytes booked h =
+    let e : booked ≡ min booked (length journal / recordSize) = omega arith in
+    ap (λ (n : ℕ). firstBelow n (equalAt journal bytes)) e

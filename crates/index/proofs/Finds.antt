@@ -1,5 +1,4 @@
 -- What the sets at a number have: the jobs with the label on that side, or the makers of the tape.
--- Assumes nothing.
 use mathlib.Core.Bool.{Bool, _&&_, cond, false, not, true, true≢false}
 use mathlib.Core.Logic.{_⊎_, inl, inr, ⊎-elim}
 use mathlib.Core.Path.{_∙_, _≡_, ap, refl, sym}
@@ -14,6 +13,7 @@ use Rattle.base.specs.Search.{anyBelow, firstBelow}
 use Rattle.record.specs.Conflicts.{isLabelAt, isTapeAt, labelIn, makesTape}
 use Rattle.record.specs.Entries.{isUsed}
 use Rattle.record.specs.declared.Job.{Job}
+use Rattle.journal.specs.Journal.{capacity}
 use Rattle.index.proofs.Chains.{first-short}
 use Rattle.index.proofs.Enters.{place-frames, place-label, place-used}
 use Rattle.index.proofs.Marks.{same-truth}
@@ -79,7 +79,7 @@ module _ (job : ℕ → Job) (exact : Bool) where
       ∙ fits-self exact (labelAt job q) (framesAt job q)
 
 -- ---- the parts of a bit
-bit-parts : (kind number k kind' number' k' : ℕ) → kind < 3 → kind' < 3 → k < 128 → k' < 128 → bitOf kind number k ≡ bitOf kind' number' k'
+bit-parts : (kind number k kind' number' k' : ℕ) → kind < 3 → kind' < 3 → k < capacity → k' < capacity → bitOf kind number k ≡ bitOf kind' number' k'
     → (kind ≡ kind') × (number ≡ number') × (k ≡ k')
 bit-parts kind number k kind' number' k' lk lk' lj lj' e =
     let a : 3 * number + kind ≡ 3 * number' + kind' = omega arith in
@@ -133,7 +133,7 @@ module _ (job : ℕ → Job) (half i k q : ℕ) (ei : half + i ≡ q % 8) (ek : 
       let a : 4 + i ≡ q % 8 = omega arith in
       simp (rw h at (place-listed label l)) (rw (a, ek) (eq-eqb _ _ f))
 
-module _ (job : ℕ → Job) (n : ℕ) (few : n ≤ 128) (p : ℕ) (u : usedAt job p ≡ true) (k : ℕ) (lk : k < 128) where
+module _ (job : ℕ → Job) (n : ℕ) (few : n ≤ capacity) (p : ℕ) (u : usedAt job p ≡ true) (k : ℕ) (lk : k < capacity) where
   abbrev number : Bool → ℕ
   number exact = numberAt job exact p
 
@@ -176,14 +176,16 @@ module _ (job : ℕ → Job) (n : ℕ) (few : n ≤ 128) (p : ℕ) (u : usedAt j
         let i : ℕ = q % 8 - 4 * kind in
         let half = side-half (q % 8) (omega arith) in
         let z : 4 * kind + i ≡ q % 8 = omega (arith, half .0, r .0) in
-        let l : labelAt job q ≡ labelAt job p = fits-label false (labelAt job p) (framesAt job p) (labelAt job q) (framesAt job q) (number-fits job false p q u v (r .1)) in
+        let l : labelAt job q ≡ labelAt job p =
+        fits-label false (labelAt job p) (framesAt job p) (labelAt job q) (framesAt job q) (number-fits job false p q u v (r .1)) in
         simp (lt-ltb k n (omega (arith, r .2, s .below)))
         (any-intro _ 4 i (omega (arith, half .0, half .1, r .0)) (place-listed job (4 * kind) i k q z (r .2) v _ l)))
         (λ r. absurd (omega (arith, r .1, lx)))
         (mark-place kind (number false) q (omega arith) (s .below) (s .has))
 
     -- a place of the job that enters it
-    label-in : (i : ℕ) → k < n → i < 4 → isLabelAt (4 * kind) (job k) (labelAt job p) i ≡ true → anyBelow (8 * n) (marks job (bitOf kind (number false) k)) ≡ true
+    label-in : (i : ℕ) → k < n → i < 4 → isLabelAt (4 * kind) (job k) (labelAt job p) i ≡ true
+        → anyBelow (8 * n) (marks job (bitOf kind (number false) k)) ≡ true
     unfolding isLabelAt
     label-in i ln li h =
         let q = there (4 * kind) i in

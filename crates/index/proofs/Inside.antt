@@ -1,7 +1,7 @@
 -- The jobs of a journal's places are those that it books, and an entry is read from its record's part.
 use mathlib.Core.List.{List}
 use mathlib.Core.Path.{_∙_, _≡_, ap, sym}
-use Prim.Native.Nat.{_%_, _*_, _+_, _/_, _<_, _≤_, ℕ}
+use Prim.Native.Nat.{_%_, _*_, _/_, _<_, _≤_, ℕ}
 use native.Mathlib.Omega.{arith}
 use lib.ListN.{getD, length}
 use borrow.Author.Tests.{le-leb, lt-ltb}
@@ -22,15 +22,13 @@ unfolding slotJob jobAt
 slot-booked journal booked k h l = ap jobOf (sym (part-slot journal booked k h l))
 
 -- the part of the journal that is record k
-module _ (journal part : List ℕ) (k : ℕ) (inside : recordSize * k + recordSize ≤ length journal) (e : part ≡ recordAt journal (slots journal) k) where
-  pub part-job : jobOf part ≡ slotJob journal k
-  unfolding slotJob
-  part-job = ap jobOf (e ∙ part-slot journal (slots journal) k (omega arith) (omega arith))
+pub part-job : (journal part : List ℕ) (k : ℕ) → part ≡ slotAt journal k → jobOf part ≡ slotJob journal k
+unfolding slotJob
+part-job journal part k e = ap jobOf e
 
-pub place-read : (journal part : List ℕ) (at : ℕ) (r : Entry) → recordSize * (at / 8) + recordSize ≤ length journal
-    → part ≡ recordAt journal (slots journal) (at / 8) → r ≡ getD (jobOf part .entries) (at % 8) noEntry
+pub place-read : (journal part : List ℕ) (at : ℕ) (r : Entry) → part ≡ slotAt journal (at / 8) → r ≡ getD (jobOf part .entries) (at % 8) noEntry
     → (r .label ≡ labelAt (slotJob journal) at) × (r .frames ≡ framesAt (slotJob journal) at)
 unfolding labelAt framesAt labelOf framesOf
-place-read journal part at r h p e =
-    let q = e ∙ ap (λ (a : Job). getD (a .entries) (at % 8) noEntry) (part-job journal part (at / 8) h p) in
+place-read journal part at r p e =
+    let q = e ∙ ap (λ (a : Job). getD (a .entries) (at % 8) noEntry) (part-job journal part (at / 8) p) in
     (ap (λ (x : Entry). x .label) q, ap (λ (x : Entry). x .frames) q)

@@ -1,5 +1,4 @@
 -- The sets at the numbers of a booked job's entries have the jobs that the ledger's checks look for.
--- Assumes nothing.
 use mathlib.Core.Bool.{Bool, _&&_, false, true}
 use mathlib.Core.List.{List}
 use mathlib.Core.Path.{_∙_, _≡_, ap, refl, sym}
@@ -17,32 +16,33 @@ use Rattle.record.specs.declared.Job.{Job}
 use Rattle.sets.proofs.Jobs.{meets-any}
 use Rattle.sets.specs.Jobs.{InWords, jobHas, jobsMeet}
 use Rattle.sets.specs.declared.job_set.JobSet.{JobSet}
+use Rattle.journal.specs.Journal.{capacity}
 use Rattle.index.specs.Admission.{listedBy, listsAt, madeBy, makesAt}
 use Rattle.index.proofs.Enters.{place-frames, place-label, place-used}
 use Rattle.index.proofs.Finds.{label-set, tape-set}
 use Rattle.index.proofs.Marks.{same-truth, set-bit}
 use Rattle.index.specs.Checks.{Tables, setOf}
-use Rattle.index.specs.Places.{Entered, bitOf, marks, numberAt, numbersAt, places, usedAt}
+use Rattle.index.specs.Places.{Entered, bitOf, linksAt, marks, numberAt, numbersAt, places, usedAt}
 use Rattle.index.specs.Words.{bitAt}
 
 -- a set of booked jobs that pass meets another where one of that passes
-set-meets : (set s : JobSet) (n : ℕ) (p : ℕ → Bool) → n ≤ 128 → InWords s → ((j : ℕ) → j < 128 → jobHas set j ≡ (ltb j n && p j))
+set-meets : (set s : JobSet) (n : ℕ) (p : ℕ → Bool) → n ≤ capacity → InWords s → ((j : ℕ) → j < capacity → jobHas set j ≡ (ltb j n && p j))
     → jobsMeet set s ≡ anyBelow n (λ j. jobHas s j && p j)
 set-meets set s n p few w has =
     meets-any set s w
     ∙ same-truth _ _
     (λ e.
-    let m = any-elim (λ (j : ℕ). jobHas set j && jobHas s j) 128 e in
+    let m = any-elim (λ (j : ℕ). jobHas set j && jobHas s j) capacity e in
     let b = and-true (jobHas set (m .which)) _ (m .has) in
     let c = and-true (ltb (m .which) n) _ (sym (has (m .which) (m .below)) ∙ b .0) in
     any-intro _ n (m .which) (ltb-true (m .which) n (c .0)) (simp (b .1, c .1)))
     (λ e.
     let m = any-elim (λ (j : ℕ). jobHas s j && p j) n e in
     let b = and-true (jobHas s (m .which)) _ (m .has) in
-    let l : m .which < 128 = omega (arith, m .below) in
-    any-intro _ 128 (m .which) l (simp (has (m .which) l, lt-ltb (m .which) n (m .below), b .0, b .1)))
+    let l : m .which < capacity = omega (arith, m .below) in
+    any-intro _ capacity (m .which) l (simp (has (m .which) l, lt-ltb (m .which) n (m .below), b .0, b .1)))
 
-module _ (job : ℕ → Job) (n : ℕ) (numbers sets : List ℕ) (t : Entered job (8 * n) numbers sets) (few : n ≤ 128) where
+module _ (job : ℕ → Job) (n : ℕ) (numbers sets : List ℕ) (t : Entered job (8 * n) numbers sets) (few : n ≤ capacity) where
   pub tables : Tables numbers sets
   tables = record { numbers-size = t .numbered .size; sets-size = t .marked .size; small = t .numbered .small }
 
@@ -51,22 +51,23 @@ module _ (job : ℕ → Job) (n : ℕ) (numbers sets : List ℕ) (t : Entered jo
     here = place-used job k e le (job k) refl ∙ used
 
     -- the bits at its number
-    at-number : (exact : Bool) (at kind j : ℕ) → at ≡ numbersAt exact + (8 * k + e) → at < 2048 → kind < 3 → j < 128
+    at-number : (exact : Bool) (at kind j : ℕ) → at ≡ numbersAt exact + (8 * k + e) → at < linksAt → kind < 3 → j < capacity
         → jobHas (setOf numbers sets at kind) j ≡ anyBelow (8 * n) (marks job (bitOf kind (numberAt job exact (8 * k + e)) j))
     unfolding setOf
     at-number exact at kind j ea la lx lj =
-        let v : getD numbers at 0 ≡ numberAt job exact (8 * k + e) = ap (λ (i : ℕ). getD numbers i 0) ea ∙ t .numbered .named exact (8 * k + e) (omega arith) here in
+        let v : getD numbers at 0 ≡ numberAt job exact (8 * k + e) =
+        ap (λ (i : ℕ). getD numbers i 0) ea ∙ t .numbered .named exact (8 * k + e) (omega arith) here in
         let b : 64 * (6 * getD numbers at 0 + 2 * kind) + j ≡ bitOf kind (numberAt job exact (8 * k + e)) j = omega (arith, v) in
         set-bit sets (6 * getD numbers at 0 + 2 * kind) j lj ∙ ap (bitAt sets) b ∙ t .marked .bits _ (omega (arith, v, t .numbered .small at la))
 
-    pub label-has : (kind j : ℕ) → kind < 2 → j < 128
+    pub label-has : (kind j : ℕ) → kind < 2 → j < capacity
         → jobHas (setOf numbers sets (8 * k + e) kind) j ≡ (ltb j n && labelIn (4 * kind) (job j) (labelOf (job k) e))
     label-has kind j lx lj =
         at-number false (8 * k + e) kind j (omega arith) (omega arith) (omega arith) lj
         ∙ label-set job n few (8 * k + e) here j lj kind lx
         ∙ ap (λ (l : ℕ). ltb j n && labelIn (4 * kind) (job j) l) (place-label job k e le (job k) refl)
 
-    pub tape-has : (j : ℕ) → j < 128
+    pub tape-has : (j : ℕ) → j < capacity
         → jobHas (setOf numbers sets (places + 8 * k + e) 2) j ≡ (ltb j n && makesTape (job j) (labelOf (job k) e) (framesOf (job k) e))
     tape-has j lj =
         at-number true (places + 8 * k + e) 2 j (omega arith) (omega arith) (omega arith) lj

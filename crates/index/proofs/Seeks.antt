@@ -1,5 +1,4 @@
 -- The walk along a bucket's chain finds the last place that matches, and its numbers are those of the label or the tape.
--- Assumes nothing.
 use mathlib.Core.Bool.{Bool, _&&_, cond, false, true}
 use mathlib.Core.List.{List}
 use mathlib.Core.Logic.{_≢_}
@@ -15,7 +14,8 @@ use Rattle.base.specs.Search.{firstBelow}
 use Rattle.record.specs.declared.Job.{Job}
 use Rattle.index.proofs.Chains.{Walk, first-short, last-le, last-no, last-none, last-skip, last-zero, walk-next, walk-on, walk-start}
 use Rattle.index.specs.Chains.{lastBelow}
-use Rattle.index.specs.Places.{Numbered, Sought, bucketOf, buckets, fits, framesAt, headsAt, inBucket, isMatch, labelAt, linksAt, numberAt, numbersAt, places, usedAt}
+use Rattle.index.specs.Places.{Numbered, Sought, bucketOf, buckets, fits, framesAt, headsAt, inBucket, isMatch, labelAt}
+use Rattle.index.specs.Places.{linksAt, numberAt, numbersAt, places, usedAt}
 
 -- what fits has the label
 pub fits-label : (exact : Bool) (label frames l f : ℕ) → fits exact label frames l f ≡ true → l ≡ label
@@ -205,7 +205,8 @@ module _ (job : ℕ → Job) (m : ℕ) (numbers : List ℕ) (t : Numbered job m 
         tape-here : fits true label frames (labelAt job (x - 1)) (framesAt job (x - 1)) ≡ true → isMatch job true label frames (x - 1) ≡ true
         tape-here g = match-made job true label frames (x - 1) place-used g
 
-  pub look-end : (x seen name : ℕ) → x ≤ 0 → Look job label frames m x seen → name ≡ cond (eqb seen 0) m (getD numbers (seen - 1) 0) → Sought job label frames m name m
+  pub look-end : (x seen name : ℕ) → x ≤ 0 → Look job label frames m x seen → name ≡ cond (eqb seen 0) m (getD numbers (seen - 1) 0)
+      → Sought job label frames m name m
   look-end x seen name lx w e = by (eqb seen 0) refl e
     where
       none-left : (q : ℕ → Bool) → lastBelow x q ≡ 0

@@ -2,7 +2,7 @@
 -- and they depend on these jobs alone.
 use mathlib.Core.Bool.{Bool, cond, false, true}
 use mathlib.Core.List.{List}
-use mathlib.Core.Path.{_∙_, _≡_, ap, refl, subst, sym}
+use mathlib.Core.Path.{_∙_, _≡_, ap, refl, sym}
 use Prim.Native.Nat.{_%_, _*_, _+_, _/_, _<_, _≤_, suc, zero, ℕ}
 use native.Mathlib.Nat.{le-refl, mod-lt}
 use native.Mathlib.Numerals.{add-one}
@@ -13,20 +13,21 @@ use Rattle.record.specs.Codec.{jobOf, recordSize}
 use Rattle.record.specs.Entries.{framesOf, isUsed, labelOf}
 use Rattle.record.specs.declared.Job.{Job}
 use Rattle.journal.proofs.Putting.{put-length, slot-before}
-use Rattle.journal.specs.Journal.{capacity, jobAt, putAt, recordAt, slotAt}
+use Rattle.journal.specs.Journal.{capacity, jobAt, putAt, recordAt}
 use Rattle.outcome.specs.declared.Verdict.{Verdict}
 use Rattle.sets.specs.Jobs.{InWords}
 use Rattle.sets.specs.declared.job_set.JobSet.{JobSet}
 use Rattle.index.proofs.Admits.{by-index}
 use Rattle.index.proofs.Begins.{entered-new, label-alike, number-alike, used-alike}
+use Rattle.index.proofs.Books.{entered-booked}
 use Rattle.index.proofs.Enters.{marked-next, marked-same, numbered-next, numbered-same, place-frames, place-label, place-used}
 use Rattle.index.proofs.Files.{filed-new, filed-next}
-use Rattle.index.proofs.Inside.{slot-booked}
 use Rattle.index.specs.Admission.{admission}
 use Rattle.index.specs.Checks.{Tables, admissionBy}
 use Rattle.index.specs.Entering.{Entries, numbersOf, numbersWith, setsOf, setsWith}
 use Rattle.index.specs.Index.{Blank, HasRecord, Indexed, IndexedEntries, IndexedRecords}
-use Rattle.index.specs.Places.{Entered, Numbered, Sought, UsedEntry, bucketOf, buckets, framesAt, isMatch, labelAt, numberAt, numbersSize, places, setsSize, slotJob, usedAt}
+use Rattle.index.specs.Places.{Entered, Numbered, Sought, UsedEntry, bucketOf, buckets, framesAt, isMatch}
+use Rattle.index.specs.Places.{labelAt, numberAt, numbersSize, places, setsSize, slotJob, usedAt}
 use Rattle.index.specs.Records.{Filed, recordsOf, recordsSize, recordsWith, sumOf}
 
 -- ---- what the tables of any jobs have
@@ -54,10 +55,14 @@ module _ (job : ℕ → Job) where
       b = bucketOf (labelAt job m)
 
       by : (t : Bool) → usedAt job m ≡ t → Entered job m (numbersOf job m) (setsOf job m)
-          → Entered job (suc m) (cond t (numbersWith (numbersOf job m) m label tape b) (numbersOf job m)) (cond t (setsWith (setsOf job m) label tape (m / 8) (m % 8)) (setsOf job m))
+          → Entered job (suc m) (cond t (numbersWith (numbersOf job m) m label tape b) (numbersOf job m))
+          (cond t (setsWith (setsOf job m) label tape (m / 8) (m % 8)) (setsOf job m))
       by true u t = record {
-        numbered = numbered-next job m (numbersOf job m) (t .numbered) h u label tape b (number-low false m) (number-low true m) (bucket-low (labelAt job m)) refl refl refl;
-        marked = marked-next job m (setsOf job m) (t .marked) h u label tape (m / 8) (m % 8) refl refl refl refl (number-low false m) (number-low true m);
+        numbered =
+            numbered-next job m (numbersOf job m) (t .numbered) h u label tape b
+            (number-low false m) (number-low true m) (bucket-low (labelAt job m)) refl refl refl;
+        marked =
+            marked-next job m (setsOf job m) (t .marked) h u label tape (m / 8) (m % 8) refl refl refl refl (number-low false m) (number-low true m);
       }
       by false u t = record {
         numbered = numbered-same job m u (numbersOf job m) (t .numbered);
@@ -130,7 +135,8 @@ module _ (job job′ : ℕ → Job) (n : ℕ) (alike : (k : ℕ) → k < n → j
   unfolding numbersOf
   numbers-alike zero h = refl
   numbers-alike (suc m) h =
-      rw (numbers-alike m (omega arith), used-alike job job′ n alike m h, number-alike job job′ n alike false m h, number-alike job job′ n alike true m h, label-alike job job′ n alike m h)
+      let tape = number-alike job job′ n alike true m h in
+      rw (numbers-alike m (omega arith), used-alike job job′ n alike m h, number-alike job job′ n alike false m h, tape, label-alike job job′ n alike m h)
 
   pub sets-alike : (m : ℕ) → m ≤ 8 * n → setsOf job m ≡ setsOf job′ m
   unfolding setsOf
@@ -155,10 +161,7 @@ module _ (journal : List ℕ) (n : ℕ) (numbers sets : List ℕ) (t : IndexedEn
 
   -- and of the jobs that the journal books
   pub indexed-booked : Entered (jobAt journal n) (8 * n) numbers sets
-  indexed-booked =
-      let same : (k : ℕ) → k < n → slotJob journal k ≡ jobAt journal n k = λ k l. slot-booked journal n k (t .inside) l in
-      rw (t .numbers-are ∙ numbers-alike (slotJob journal) (jobAt journal n) n same (8 * n) (le-refl (8 * n)), t .sets-are ∙ sets-alike (slotJob journal) (jobAt journal n) n same (8 * n) (le-refl (8 * n)))
-      (tables-entered (jobAt journal n) (8 * n) (omega (arith, t .few)))
+  indexed-booked = entered-booked journal n (t .inside) numbers sets indexed-entered
 
 pub indexed-filed : (journal : List ℕ) (n : ℕ) (records : List ℕ) → IndexedRecords journal n records → Filed (slotJob journal) n records
 indexed-filed journal n records t = rw (t .records-are) (tables-filed (slotJob journal) n (t .few))
@@ -208,8 +211,8 @@ module _ (journal : List ℕ) (n : ℕ) (numbers sets records : List ℕ) (t : I
   pub indexed-all : (m : ℕ) → n ≤ m → m ≤ n → Indexed journal m numbers sets records
   indexed-all m l h = let e : m ≡ n = omega arith in rw e t
 
-  pub indexed-next : (a : Job) (numbers′ sets′ records′ : List ℕ) → HasRecord journal n → a ≡ slotJob journal n → Entries (slotJob journal) (8 * (n + 1)) numbers′ sets′
-      → records′ ≡ recordsWith records (sumOf a) n → Indexed journal (n + 1) numbers′ sets′ records′
+  pub indexed-next : (a : Job) (numbers′ sets′ records′ : List ℕ) → HasRecord journal n → a ≡ slotJob journal n
+      → Entries (slotJob journal) (8 * (n + 1)) numbers′ sets′ → records′ ≡ recordsWith records (sumOf a) n → Indexed journal (n + 1) numbers′ sets′ records′
   unfolding recordsOf
   indexed-next a numbers′ sets′ records′ h ea e r = record {
     few = omega (arith, h .few);
@@ -220,7 +223,8 @@ module _ (journal : List ℕ) (n : ℕ) (numbers sets records : List ℕ) (t : I
   }
 
   -- a record put in place n leaves the index of those before
-  pub indexed-put : (bytes : List ℕ) → length bytes ≡ recordSize → recordSize * n + recordSize ≤ length journal → Indexed (putAt journal n bytes) n numbers sets records
+  pub indexed-put : (bytes : List ℕ) → length bytes ≡ recordSize → recordSize * n + recordSize ≤ length journal
+      → Indexed (putAt journal n bytes) n numbers sets records
   unfolding slotJob
   indexed-put bytes size room =
       let same : (k : ℕ) → k < n → slotJob journal k ≡ slotJob (putAt journal n bytes) k = λ k l. ap jobOf (sym (slot-before n journal bytes size room k l)) in

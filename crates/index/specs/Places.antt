@@ -44,8 +44,9 @@ unfoldable pub slotJob : List ℕ → ℕ → Job
 slotJob journal k = jobOf (slotAt journal k)
 
 -- the journal holds the records of the first m places
-abbrev pub Holds : List ℕ → ℕ → Type 0
-Holds journal m = recordSize * ((m + 7) / 8) ≤ length journal
+pub record Holds (journal : List ℕ) (m : ℕ) : Type 0 where
+  pub few : m ≤ places
+  pub inside : recordSize * ((m + 7) / 8) ≤ length journal
 
 -- ---- what a place has
 

@@ -50,7 +50,7 @@ fn enter_used(
     label: u64,
     frames: u32,
 )
-    requires { ⌜ (m < places) × Holds (now journal) m × UsedEntry (slotJob (now journal)) m label frames × Entries (slotJob (now journal)) m (now numbers) (now sets) ⌝ }
+    requires { ⌜ Holds (now journal) (m + 1) × UsedEntry (slotJob (now journal)) m label frames × Entries (slotJob (now journal)) m (now numbers) (now sets) ⌝ }
     ensures { λ _. ⌜ Entries (slotJob (now (journal .entry))) (m + 1) (now (numbers .exit)) (now (sets .exit)) ⌝ }
 {
     let own = seeking::numbers_of(journal, &numbers[..], label, frames, m);

@@ -5,7 +5,7 @@ ghost use Prim.Native.Nat.{_*_, _+_, _-_, _/_, _<_, _≤_};
 ghost use lib.Dec.{eqb};
 ghost use lib.ListN.{getD, length};
 ghost use Rattle.record.specs.Codec.{recordSize};
-ghost use Rattle.index.specs.Places.{Holds, Numbered, Sought, bucketOf, buckets, fits, framesAt, labelAt, places, slotJob};
+ghost use Rattle.index.specs.Places.{Holds, Numbered, Sought, bucketOf, buckets, fits, framesAt, labelAt, slotJob};
 use crate::BUCKETS;
 use crate::HEADS;
 use crate::LINKS;
@@ -80,7 +80,7 @@ fn label_number(numbers: &[u16], seen: usize, m: usize) -> usize
 // The numbers of a tape among the first m places. The walk ends at a place that has the tape, which has both; else some place that it
 // passed may have the label.
 pub(crate) fn numbers_of(journal: &[u8], numbers: &[u16], label: u64, frames: u32, m: usize) -> Pair
-    requires { ⌜ (m ≤ places) × Holds (now journal) m × Numbered (slotJob (now journal)) m (now numbers) ⌝ }
+    requires { ⌜ Holds (now journal) m × Numbered (slotJob (now journal)) m (now numbers) ⌝ }
     ensures { λ r. ⌜ Sought (slotJob (now (journal .entry))) label frames m (r .label) (r .tape) ⌝ }
 {
     let mut seen = 0;

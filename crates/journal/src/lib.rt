@@ -4,7 +4,7 @@ ghost use Prim.Native.Nat.{_+_, _*_, _≤_};
 ghost use lib.ListN.{length};
 ghost use Rattle.base.specs.Search.{firstBelow};
 ghost use Rattle.record.specs.Codec.{recordSize};
-ghost use Rattle.journal.specs.Journal.{isBooked, recordAt, jobAt, insideOf, slots, equalAt, equalIn, hasRoom, putAt};
+ghost use Rattle.journal.specs.Journal.{isBooked, recordAt, jobAt, insideOf, slotAt, equalAt, equalIn, hasRoom, putAt};
 use record::Job;
 use record::RECORD;
 
@@ -42,11 +42,14 @@ pub fn job_at(journal: &[u8], booked: usize, job: usize) -> Job
     record::read(lookup(journal, booked, job))
 }
 
-// The bytes in place k, booked or not; the empty part where they do not lie inside.
+// The bytes in place k. A helper for whoever keeps a journal, not a step: the place lies inside. The index reads entries by it, and a test
+// here would stand in each of its reads.
 pub fn slot(journal: &[u8], k: usize) -> &[u8]
-    ensures { λ r. ⌜ now r ≡ recordAt (now (journal .entry)) (slots (now (journal .entry))) k ⌝ }
+    requires { ⌜ recordSize * k + recordSize ≤ length (now journal) ⌝ }
+    ensures { λ r. ⌜ now r ≡ slotAt (now (journal .entry)) k ⌝ }
 {
-    lookup(journal, journal.len() / RECORD, k)
+    let at = RECORD * k;
+    &journal[at..at + RECORD]
 }
 
 // How many booked records lie wholly inside.
@@ -60,13 +63,12 @@ pub fn inside(journal: &[u8], booked: usize) -> usize
     fit
 }
 
-// The bytes in place k are these. A helper for whoever keeps a journal, not a step: the place lies inside.
+// The bytes in place k, which lies inside, are these.
 pub fn equal_at(journal: &[u8], bytes: &[u8], k: usize) -> bool
     requires { ⌜ recordSize * k + recordSize ≤ length (now journal) ⌝ }
     ensures { λ r. ⌜ r ≡ equalAt (now (journal .entry)) (now (bytes .entry)) k ⌝ }
 {
-    let at = RECORD * k;
-    check::same(&journal[at..at + RECORD], bytes)
+    check::same(slot(journal, k), bytes)
 }
 
 fn find(journal: &[u8], bytes: &[u8], n: usize) -> usize

@@ -1,25 +1,14 @@
 -- The two words at the number.
--- Assumes nothing.
 use native.Mathlib.Omega.{arith}
 use borrow.Author.Needs.{needs}
 use Rattle.index.proofs.checks.set_of.Statement.{statement}
 use Rattle.index.specs.Checks.{setOf}
 use Rattle.index.proofs.checks.set_of.Tie as tie
 
-number-requires : tie.Need-number-requires
-number-requires c κs = search needs
-
-mul-set-at : tie.Need-mul-set-at
-mul-set-at c = search needs
-
-mul-set-at-2 : tie.Need-mul-set-at-2
-mul-set-at-2 c = search needs
-
-add-set-at : tie.Need-add-set-at
-add-set-at c = search needs
-
 set-at-requires : tie.Need-set-at-requires
-set-at-requires c κs = let p = c .before .before .before .pre in omega (arith, p .2 .small (c .before .before .before .args .at) (p .0), p .2 .sets-size, c .number .ensures .0)
+set-at-requires c κs =
+    let s = c .before .before .before in
+    omega (arith, s .pre .2 .small (s .args .at) (s .pre .0), s .pre .2 .sets-size, c .number .ensures .0)
 
 returns : tie.Need-returns
 unfolding setOf
@@ -27,4 +16,11 @@ returns c = simp (← c .before .number .ensures .0) (c .set-at .ensures)
 
 pub set-of-spec : {M : Type 1} → statement M
 set-of-spec =
-    tie.close (tie.spec number-requires mul-set-at mul-set-at-2 add-set-at set-at-requires returns)
+    tie.close
+    (tie.spec
+    (λ c κs. search needs)
+    (λ c. search needs)
+    (λ c. search needs)
+    (λ c. search needs)
+    set-at-requires
+    returns)

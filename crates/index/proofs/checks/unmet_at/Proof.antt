@@ -1,20 +1,10 @@
 -- The set at the number of an entry that is one of so many.
--- Assumes nothing.
 use borrow.Author.Needs.{needs}
 use borrow.Author.Tests.{lt-ltb}
 use Rattle.base.proofs.Tests.{chain}
 use Rattle.index.proofs.checks.unmet_at.Statement.{statement}
 use Rattle.index.specs.Checks.{unmetAt}
 use Rattle.index.proofs.checks.unmet_at.Tie as tie
-
-add-set-of : tie.Need-add-set-of
-add-set-of c = search needs
-
-set-of-requires : tie.Need-set-of-requires
-set-of-requires c κs = search needs
-
-meets-requires : tie.Need-meets-requires
-meets-requires c κs = search needs
 
 returns : tie.Need-returns
 unfolding unmetAt
@@ -25,4 +15,6 @@ unfolding unmetAt
 returns-2 c = search chain depth 8
 
 pub unmet-at-spec : {M : Type 1} → statement M
-unmet-at-spec = tie.close (tie.spec add-set-of set-of-requires meets-requires returns returns-2)
+unmet-at-spec =
+    tie.close
+    (tie.spec (λ c. search needs) (λ c κs. search needs) (λ c κs. search needs) returns returns-2)

@@ -1,7 +1,6 @@
 -- The loop's head holds the index of the records so far.
 use mathlib.Core.Path.{_∙_}
 use Prim.Native.Nat.{_-_, _≤_}
-use native.Mathlib.Omega.{arith}
 use borrow.Author.Needs.{needs}
 use Rattle.index.proofs.Inside.{part-job}
 use Rattle.index.proofs.Tables.{indexed-all, indexed-lengths, indexed-none}
@@ -19,7 +18,7 @@ ruleset by = (indexed-none, indexed-all, needs)
 
 enter-requires : tie.Need-enter-requires Inv-loop μ-loop
 enter-requires c κs =
-    (search needs, c .read .ensures ∙ part-job _ _ _ (omega arith) (c .before .slot .ensures), c .before .before .before .before .before .before .loop .inv .1)
+    (search needs, c .read .ensures ∙ part-job _ _ _ (c .before .slot .ensures), c .before .before .before .before .before .before .loop .inv .1)
 
 same-length : tie.Need-same-length Inv-loop μ-loop
 same-length c = indexed-lengths _ _ _ _ _ (c .before .loop .inv .1) _ _ _ (c .before .before .before .before .before .before .pre .2) .0

@@ -5,7 +5,9 @@ use Rattle.index.proofs.entering.enter.Statement.{statement}
 use Rattle.index.proofs.entering.enter.Tie as tie
 
 file-requires : tie.Need-file-requires
-file-requires c κs = let p = c .before .before .before .before .before .before .before .before .before .before .before .before .pre in (p .0 .few, indexed-size _ _ _ _ _ (p .2) .2)
+file-requires c κs =
+    let p = c .before .before .before .before .before .before .before .before .before .before .before .before .pre in
+    (p .0 .few, indexed-size _ _ _ _ _ (p .2) .2)
 
 returns : tie.Need-returns
 returns c =

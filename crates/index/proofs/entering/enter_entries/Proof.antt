@@ -18,10 +18,14 @@ abbrev μ-loop : tie.MeasureT-loop
 ruleset by = (entries-begin, entries-on, entries-all, needs)
 
 same-length : tie.Need-same-length Inv-loop μ-loop
-same-length c = numbers-size _ _ _ _ (c .before .loop .inv .1) (omega arith) ∙ sym (numbers-size _ _ _ _ (c .before .before .before .before .before .pre .2) (omega arith))
+same-length c =
+    let l = c .before in
+    numbers-size _ _ _ _ (l .loop .inv .1) (omega arith) ∙ sym (numbers-size _ _ _ _ (l .before .before .before .before .pre .2) (omega arith))
 
 same-length-2 : tie.Need-same-length-2 Inv-loop μ-loop
-same-length-2 c = sets-size _ _ _ _ (c .before .loop .inv .1) (omega arith) ∙ sym (sets-size _ _ _ _ (c .before .before .before .before .before .pre .2) (omega arith))
+same-length-2 c =
+    let l = c .before in
+    sets-size _ _ _ _ (l .loop .inv .1) (omega arith) ∙ sym (sets-size _ _ _ _ (l .before .before .before .before .pre .2) (omega arith))
 
 pub enter-entries-spec : {M : Type 1} → statement M
 enter-entries-spec =

@@ -1,17 +1,16 @@
 -- The loop's head holds the sum of the entries so far, which is a remainder.
--- Assumes nothing.
 use mathlib.Core.Path.{_∙_, _≡_, ap, refl}
 use Prim.Native.Nat.{_-_, _<_, _≤_}
 use native.Mathlib.Omega.{arith}
 use borrow.Author.Needs.{needs}
 use Rattle.index.proofs.Files.{sum-next}
 use Rattle.index.proofs.records.sum.Statement.{statement}
-use Rattle.index.specs.Places.{bucketOf}
+use Rattle.index.specs.Places.{bucketOf, buckets}
 use Rattle.index.specs.Records.{sumTo}
 use Rattle.index.proofs.records.sum.Tie as tie
 
 abbrev Inv-loop : tie.InvT-loop
-Inv-loop a sum₀ e₀ sum e = (sum < 1021) × ((e ≤ 8) × (sum ≡ sumTo e a))
+Inv-loop a sum₀ e₀ sum e = (sum < buckets) × ((e ≤ 8) × (sum ≡ sumTo e a))
 
 abbrev μ-loop : tie.MeasureT-loop
 μ-loop a sum₀ e₀ sum e = 8 - e
@@ -20,36 +19,11 @@ loop-holds : tie.Need-loop-holds Inv-loop μ-loop
 unfolding sumTo
 loop-holds c = (omega arith, (omega arith, refl))
 
-label-requires : tie.Need-label-requires Inv-loop μ-loop
-label-requires c κs = search needs
-
-bucket-requires : tie.Need-bucket-requires Inv-loop μ-loop
-bucket-requires c κs = search needs
-
-frames-requires : tie.Need-frames-requires Inv-loop μ-loop
-frames-requires c κs = search needs
-
-cast-frames : tie.Need-cast-frames Inv-loop μ-loop
-cast-frames c = search needs
-
-mul-sum : tie.Need-mul-sum Inv-loop μ-loop
-mul-sum c = search needs
-
-add-sum : tie.Need-add-sum Inv-loop μ-loop
-add-sum c = search needs
-
-add-sum-2 : tie.Need-add-sum-2 Inv-loop μ-loop
-add-sum-2 c = search needs
-
-add-e : tie.Need-add-e Inv-loop μ-loop
-add-e c = search needs
-
-loop-less : tie.Need-loop-less Inv-loop μ-loop
-loop-less c = search needs
-
 loop-again : tie.Need-loop-again Inv-loop μ-loop
 loop-again c =
-    (omega arith, (omega arith, sum-next _ _ _ _ _ (c .before .before .before .before .loop .inv .1 .1) (c .before .bucket .ensures .0 ∙ ap bucketOf (c .before .before .label .ensures)) (c .frames .ensures)))
+    let d = c .before in
+    let bucket = d .bucket .ensures .0 ∙ ap bucketOf (d .before .label .ensures) in
+    (omega arith, (omega arith, sum-next _ _ _ _ _ (d .before .before .before .loop .inv .1 .1) bucket (c .frames .ensures)))
 
 returns : tie.Need-returns Inv-loop μ-loop
 returns c = let e : c .before .loop .e ≡ 8 = omega arith in (rw e at (c .before .loop .inv .1 .1), c .before .loop .inv .0)
@@ -61,14 +35,14 @@ sum-spec =
     Inv-loop
     μ-loop
     loop-holds
-    label-requires
-    bucket-requires
-    frames-requires
-    cast-frames
-    mul-sum
-    add-sum
-    add-sum-2
-    add-e
-    loop-less
+    (λ c κs. search needs)
+    (λ c κs. search needs)
+    (λ c κs. search needs)
+    (λ c. search needs)
+    (λ c. search needs)
+    (λ c. search needs)
+    (λ c. search needs)
+    (λ c. search needs)
+    (λ c. search needs)
     loop-again
     returns)

@@ -1,5 +1,4 @@
 -- Each return is one way through the two tests.
--- Assumes nothing.
 use borrow.Author.Tests.{eq-eqb, ne-eqb}
 use Rattle.index.proofs.seeking.agree.Statement.{statement}
 use Rattle.index.specs.Places.{fits}

@@ -1,5 +1,4 @@
 -- The two ways through the test.
--- Assumes nothing.
 use borrow.Author.Needs.{needs}
 use borrow.Author.Tests.{eq-eqb, ne-eqb}
 use Rattle.index.proofs.seeking.label_number.Statement.{statement}
@@ -8,14 +7,10 @@ use Rattle.index.proofs.seeking.label_number.Tie as tie
 returns : tie.Need-returns
 returns c = simp (eq-eqb _ _ (c .if1 .taken))
 
-sub-number : tie.Need-sub-number
-sub-number c = search needs
-
-number-requires : tie.Need-number-requires
-number-requires c κs = search needs
-
 returns-2 : tie.Need-returns-2
 returns-2 c = simp (ne-eqb _ _ (c .before .if1 .left)) (c .number .ensures .0)
 
 pub label-number-spec : {M : Type 1} → statement M
-label-number-spec = tie.close (tie.spec returns sub-number number-requires returns-2)
+label-number-spec =
+    tie.close
+    (tie.spec returns (λ c. search needs) (λ c κs. search needs) returns-2)

@@ -1,5 +1,4 @@
 -- The two ways through the test.
--- Assumes nothing.
 use borrow.Author.Tests.{eq-eqb, ne-eqb}
 use Rattle.index.proofs.seeking.nearest.Statement.{statement}
 use Rattle.index.proofs.seeking.nearest.Tie as tie
