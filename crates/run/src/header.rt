@@ -1,10 +1,13 @@
 // The header, and 16 bits of the file.
 ghost use mathlib.Core.Path.{_≡_};
 ghost use Prim.Native.Nat.{_+_, _<_, _≤_};
-ghost use lib.ListN.{length};
+ghost use lib.ListN.{getD, length};
 ghost use Rattle.runfile.specs.Steps.{wordAt};
 ghost use Rattle.runfile.specs.Run.{isHeader, opened, opens};
 use federation::Settings;
+
+// How long the header is.
+pub(crate) const SIZE: usize = 9;
 
 // A byte is below 256.
 fn wide(x: u8) -> u16
@@ -13,11 +16,22 @@ fn wide(x: u8) -> u16
     x as u16
 }
 
+// Bytes past the end count as 0.
+pub(crate) fn byte_at(input: &[u8], at: usize) -> u8
+    ensures { λ r. ⌜ r ≡ getD (now (input .entry)) at 0 ⌝ }
+{
+    if at < input.len() {
+        return input[at];
+    }
+    0
+}
+
+// 16 bits, the low byte first.
 pub(crate) fn word_at(input: &[u8], at: usize) -> u16
-    requires { ⌜ at + 1 < length (now input) ⌝ }
+    requires { ⌜ at ≤ 65538 ⌝ }
     ensures { λ r. ⌜ r ≡ wordAt (now (input .entry)) at ⌝ }
 {
-    wide(input[at]) + 256 * wide(input[at + 1])
+    wide(byte_at(input, at)) + 256 * wide(byte_at(input, at + 1))
 }
 
 pub(crate) fn is_header(input: &[u8]) -> bool
