@@ -1,54 +1,68 @@
-use borrow.Author.Needs.{needs}
+use Rattle.federation.specs.Federation.{isLawful}
+use Rattle.runfile.proofs.Turns.{open-when, opened-run, refused-run}
+use Rattle.run.proofs.Keeps.{kept-new}
+use Rattle.run.proofs.Pieces.{nothing-yet, piece-more}
 use Rattle.run.proofs.start.Statement.{statement}
 use Rattle.run.proofs.start.Tie as tie
-use Rattle.run.proofs.start.Reads as reads
-use Rattle.run.proofs.start.Lts as lts
-use Rattle.ledger.proofs.Ledger.new.Reads as new-reads
-use Rattle.run.proofs.header.opens.Reads as opens-reads
-use Rattle.run.proofs.header.settings_in.Reads as settings-in-reads
-use Rattle.text.proofs.write_line.Reads as write-line-reads
+use borrow.Author.Needs.{needs}
+use mathlib.Core.Path.{_∙_, ap, refl, sym}
+use native.Mathlib.Nat.{le-refl, lt-irrefl}
+use native.Mathlib.Omega.{arith}
+use mathlib.Core.Bool.{Bool, false, true}
+use mathlib.Core.List.{List}
+use mathlib.Core.Path.{_≡_}
+use Prim.Native.Nat.{ℕ}
+use lib.ListN.{getD}
+use Rattle.federation.specs.declared.Settings.{Settings}
+use Rattle.journal.specs.Journal.{capacity}
+use Rattle.index.specs.Places.{numbersSize, setsSize}
+use Rattle.index.specs.Records.{recordsSize}
+use Rattle.ledger.specs.State.{newLedger}
+use Rattle.ledger.specs.Steps.{newOf}
+use Rattle.ledger.specs.declared.Ledger.{Ledger}
+use Rattle.ledger.specs.declared.Reply.{Reply}
+use Rattle.runfile.specs.Run.{begins, headerSize, journalSize, opened, textFrom}
+use Rattle.runfile.specs.Steps.{wordAt}
+use Rattle.run.specs.Kept.{Kept}
+use Rattle.run.specs.Pieces.{blank, runAt}
 
--- src/lib.rt:25:8
-opens-requires : tie.Need-opens-requires
-opens-requires c κs = search needs
+-- the new ledger has the header's settings
+began : (input : List ℕ) (s : Settings) → s ≡ opened input .settings → (r : Reply) → r ≡ newOf (s .n) (s .b) (s .faulty) → r .ledger ≡ opened input
+unfolding opened newOf newLedger
+began input s e r q = by (isLawful (record { n = s .n; b = s .b; faulty = s .faulty })) refl
+  where
+    made : Ledger
+    made = newLedger (s .n) (s .b) (s .faulty)
 
--- src/lib.rt:26:13
+    by : (b : Bool) → isLawful (made .settings) ≡ b → r .ledger ≡ opened input
+    by true t = ap (λ (x : Reply). x .ledger) q ∙ simp t (rw e)
+    by false t = ap (λ (x : Reply). x .ledger) q ∙ simp t (rw e)
+
+begins-at : (input : List ℕ) (l : Ledger) → l ≡ opened input → runAt l headerSize 0 (blank journalSize) ≡ begins input
+begins-at input l e = rw e
+
+kept-begun : (input : List ℕ) (l : Ledger) → l ≡ opened input → isLawful (opened input .settings) ≡ true
+    → Kept l (blank journalSize) (blank numbersSize) (blank setsSize) (blank recordsSize) (blank capacity)
+unfolding opened newLedger
+kept-begun input l e h = rw e (kept-new (getD input 5 0) (getD input 6 0) (wordAt input 7) h)
+
 settings-in-requires : tie.Need-settings-in-requires
-settings-in-requires c κs = ?
+settings-in-requires c κs = open-when _ (sym (c .before .opens .ensures) ∙ c .if1 .taken) .headed
 
--- src/lib.rt:27:13
-new-requires : tie.Need-new-requires
-new-requires c κs = search needs
-
--- src/lib.rt:29:9
 returns : tie.Need-returns
-returns c = ?
+returns c =
+    let o = sym (c .before .before .before .before .opens .ensures) ∙ c .before .before .before .if1 .taken in
+    let h = open-when _ o in
+    let e = began _ _ (c .before .before .settings-in .ensures) _ (c .before .new .ensures) in
+    record {
+      piece = nothing-yet (opened-run _ o ∙ ap (textFrom _) (sym (begins-at _ _ e)));
+      going = λ l. record { few = h .few; steps = omega arith; inside = h .headed; kept = kept-begun _ _ e (h .lawful) };
+      silent = λ l. refl;
+      first = λ l. begins-at _ _ e;
+    }
 
--- src/lib.rt:36:9
-write-line-requires : tie.Need-write-line-requires
-write-line-requires c κs = search needs
-
--- src/lib.rt:37:9
-new-requires-2 : tie.Need-new-requires-2
-new-requires-2 c κs = search needs
-
--- src/lib.rt:21:1
-same-length : tie.Need-same-length
-same-length c = search needs
-
--- src/lib.rt:21:1
 returns-2 : tie.Need-returns-2
-returns-2 c = ?
+returns-2 c = let w = c .before .before .before .before .write-line .ensures in record { piece = piece-more (nothing-yet refl) (refused-run _ (sym (c .before .before .before .before .before .before .before .opens .ensures) ∙ c .before .before .before .before .before .before .if1 .left) _ (le-refl _)) (w .0) (omega arith); going = λ l. absurd (lt-irrefl _ l); silent = λ l. absurd (lt-irrefl _ l); first = λ l. absurd (lt-irrefl _ l) }
 
 pub start-spec : {M : Type 1} → statement M
-start-spec =
-    tie.close
-    (tie.spec
-    opens-requires
-    settings-in-requires
-    new-requires
-    returns
-    write-line-requires
-    new-requires-2
-    same-length
-    returns-2)
+start-spec = tie.close (tie.spec (λ c κs. search needs) settings-in-requires (λ c κs. search needs) returns (λ c κs. search needs) (λ c κs. search needs) (λ c. search needs) returns-2)

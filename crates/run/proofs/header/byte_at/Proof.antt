@@ -1,20 +1,12 @@
-use borrow.Author.Needs.{needs}
 use Rattle.run.proofs.header.byte_at.Statement.{statement}
 use Rattle.run.proofs.header.byte_at.Tie as tie
-use Rattle.run.proofs.header.byte_at.Reads as reads
-use Rattle.run.proofs.header.byte_at.Lts as lts
+use borrow.Author.Needs.{needs}
+use denote.Ref.{now}
+use lib.ListN.{List·getD-eq-default}
+use mathlib.Core.Path.{sym}
 
--- src/header.rt:24:16
-shared-slice-read-result : tie.Need-shared-slice-read-result
-shared-slice-read-result c = search needs
-
--- src/header.rt:24:9
-returns : tie.Need-returns
-returns c = search needs
-
--- src/header.rt:20:1
 returns-2 : tie.Need-returns-2
-returns-2 c = ?
+returns-2 c = sym (List·getD-eq-default (now (c .before .args .input)) 0 (c .if1 .left))
 
 pub byte-at-spec : {M : Type 1} → statement M
-byte-at-spec = tie.close (tie.spec shared-slice-read-result returns returns-2)
+byte-at-spec = tie.close (tie.spec (λ c. search needs) (λ c. search needs) returns-2)

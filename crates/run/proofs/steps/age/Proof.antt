@@ -1,31 +1,17 @@
-use borrow.Author.Needs.{needs}
+use Rattle.ledger.specs.declared.Decision.{Decision}
 use Rattle.run.proofs.steps.age.Statement.{statement}
 use Rattle.run.proofs.steps.age.Tie as tie
-use Rattle.run.proofs.steps.age.Reads as reads
-use Rattle.run.proofs.steps.age.Lts as lts
-use Rattle.journal.proofs.is_booked.Reads as is-booked-reads
-use Rattle.ledger.proofs.decisions.generations.Reads as generations-reads
+use Rattle.run.specs.Decided.{bookedOr}
+use borrow.Author.Needs.{needs}
+use mathlib.Core.Path.{_∙_, ap, sym}
 
--- src/steps.rt:276:8
-is-booked-requires : tie.Need-is-booked-requires
-is-booked-requires c κs = search needs
-
--- src/steps.rt:277:16
-generations-requires : tie.Need-generations-requires
-generations-requires c κs = search needs
-
--- src/steps.rt:277:9
-same-length : tie.Need-same-length
-same-length c = search needs
-
--- src/steps.rt:277:9
 returns : tie.Need-returns
-returns c = ?
+unfolding bookedOr
+returns c = let g = c .before .before .generations .ensures in record { outcome = simp (sym (c .before .before .before .before .before .is-booked .ensures) ∙ c .before .before .before .before .if1 .taken) (ap (λ (d : Decision). d .outcome) (g .decision)); right = g .right; size = g .size }
 
--- src/steps.rt:260:1
 returns-2 : tie.Need-returns-2
-returns-2 c = ?
+unfolding bookedOr
+returns-2 c = record { outcome = simp (sym (c .before .is-booked .ensures) ∙ c .if1 .left); right = c .before .before .before .before .before .before .before .pre .1 .right; size = c .before .before .before .before .before .before .before .pre .1 .size }
 
 pub age-spec : {M : Type 1} → statement M
-age-spec =
-    tie.close (tie.spec is-booked-requires generations-requires same-length returns returns-2)
+age-spec = tie.close (tie.spec (λ c κs. search needs) (λ c κs. search needs) (λ c. search needs) returns returns-2)

@@ -1,54 +1,44 @@
+use Rattle.runfile.specs.Steps.{kindOf}
+use Rattle.run.proofs.Reading.{unknown-kind}
 use Rattle.run.proofs.steps.operation_of.Statement.{statement}
 use Rattle.run.proofs.steps.operation_of.Tie as tie
-use Rattle.run.proofs.steps.operation_of.Reads as reads
-use Rattle.run.proofs.steps.operation_of.Lts as lts
+use Rattle.run.specs.Reading.{operationOf}
 
--- src/steps.rt:33:1
 returns : tie.Need-returns
-returns c = ?
+unfolding operationOf kindOf
+returns c = simp (c .match .keys1)
 
--- src/steps.rt:33:1
 returns-2 : tie.Need-returns-2
-returns-2 c = ?
+unfolding operationOf kindOf
+returns-2 c = simp (c .match .keys2)
 
--- src/steps.rt:33:1
 returns-3 : tie.Need-returns-3
-returns-3 c = ?
+unfolding operationOf kindOf
+returns-3 c = simp (c .match .keys3)
 
--- src/steps.rt:33:1
 returns-4 : tie.Need-returns-4
-returns-4 c = ?
+unfolding operationOf kindOf
+returns-4 c = simp (c .match .keys4)
 
--- src/steps.rt:33:1
 returns-5 : tie.Need-returns-5
-returns-5 c = ?
+unfolding operationOf kindOf
+returns-5 c = simp (c .match .keys5)
 
--- src/steps.rt:33:1
 returns-6 : tie.Need-returns-6
-returns-6 c = ?
+unfolding operationOf kindOf
+returns-6 c = simp (c .match .keys6)
 
--- src/steps.rt:33:1
 returns-7 : tie.Need-returns-7
-returns-7 c = ?
+unfolding operationOf kindOf
+returns-7 c = simp (c .match .keys7)
 
--- src/steps.rt:33:1
 returns-8 : tie.Need-returns-8
-returns-8 c = ?
+unfolding operationOf kindOf
+returns-8 c = simp (c .match .keys8)
 
--- src/steps.rt:33:1
 returns-9 : tie.Need-returns-9
-returns-9 c = ?
+unfolding operationOf
+returns-9 c = let r = c .match .rest in simp (unknown-kind _ (r .0 .0 .0 .0 .0 .0 .0 .1) (r .0 .0 .0 .0 .0 .0 .1) (r .0 .0 .0 .0 .0 .1) (r .0 .0 .0 .0 .1) (r .0 .0 .0 .1) (r .0 .0 .1) (r .0 .1) (r .1))
 
 pub operation-of-spec : {M : Type 1} → statement M
-operation-of-spec =
-    tie.close
-    (tie.spec
-    returns
-    returns-2
-    returns-3
-    returns-4
-    returns-5
-    returns-6
-    returns-7
-    returns-8
-    returns-9)
+operation-of-spec = tie.close (tie.spec returns returns-2 returns-3 returns-4 returns-5 returns-6 returns-7 returns-8 returns-9)

@@ -1,84 +1,36 @@
-use borrow.Author.Needs.{needs}
+use Rattle.record.specs.Codec.{jobOf}
+use Rattle.journal.specs.Journal.{putAt}
+use Rattle.run.proofs.Storing.{has-record, part-is, record-inside, record-room, record-size, says, still-indexed, stored, unstored}
 use Rattle.run.proofs.steps.store.Statement.{statement}
 use Rattle.run.proofs.steps.store.Tie as tie
-use Rattle.run.proofs.steps.store.Reads as reads
-use Rattle.run.proofs.steps.store.Lts as lts
-use Rattle.index.proofs.enter.Reads as enter-reads
-use Rattle.journal.proofs.put_at.Reads as put-at-reads
-use Rattle.ledger.proofs.Change.is_book.Reads as is-book-reads
-use Rattle.record.proofs.read.Reads as read-reads
+use borrow.Author.Needs.{needs}
+use denote.Ref.{now}
+use mathlib.Core.Path.{_∙_, ap}
+use native.Mathlib.Omega.{arith}
 
--- src/steps.rt:296:8
-is-book-requires : tie.Need-is-book-requires
-is-book-requires c κs = search needs
-
--- src/steps.rt:297:32
-add-bytes : tie.Need-add-bytes
-add-bytes c = search needs
-
--- src/steps.rt:297:21
-sub-bytes : tie.Need-sub-bytes
-sub-bytes c = search needs
-
--- src/steps.rt:297:21
-part-bytes-start : tie.Need-part-bytes-start
-part-bytes-start c = search needs
-
--- src/steps.rt:297:21
 part-bytes-end : tie.Need-part-bytes-end
-part-bytes-end c = ?
+part-bytes-end c = let s = c .before .before .before .before .before .before .before .args in omega (arith, record-inside (s .change) _ (s .booked) (s .at) (now (s .journal)) (now (s .input)) (c .before .is-book .ensures) (c .if1 .taken) (c .before .before .before .before .before .before .before .pre .0))
 
--- src/steps.rt:298:9
 put-at-requires : tie.Need-put-at-requires
-put-at-requires c κs = ?
+put-at-requires c κs =
+    let s = c .before .before .before .before .before .before .before .before .before .args in
+    (record-room (s .change) _ (s .booked) (s .at) (now (s .journal)) (now (s .input)) (c .before .before .before .is-book .ensures) (c .before .before .if1 .taken) (c .before .before .before .before .before .before .before .before .before .pre .0), rw (part-is (s .at) (now (s .input))) (record-size (s .change) _ (s .booked) (s .at) (now (s .journal)) (now (s .input)) (c .before .before .before .is-book .ensures) (c .before .before .if1 .taken) (c .before .before .before .before .before .before .before .before .before .pre .0)))
 
--- src/steps.rt:299:60
-read-requires : tie.Need-read-requires
-read-requires c κs = search needs
-
--- src/steps.rt:299:9
 enter-requires : tie.Need-enter-requires
-enter-requires c κs = ?
+enter-requires c κs =
+    let s = c .before .before .before .before .before .before .before .before .before .before .before .before .before .before .before .before .before .args in
+    let p = c .before .before .before .before .before .before .before .put-at .ensures ∙ ap (putAt (now (s .journal)) (s .booked)) (part-is (s .at) (now (s .input))) in
+    (has-record (s .change) _ (s .booked) (s .at) (now (s .journal)) (now (s .input)) (c .before .before .before .before .before .before .before .before .before .before .before .is-book .ensures) (c .before .before .before .before .before .before .before .before .before .before .if1 .taken) (c .before .before .before .before .before .before .before .before .before .before .before .before .before .before .before .before .before .pre .0) _ p,
+    says (s .change) _ (s .booked) (s .at) (now (s .journal)) (now (s .input)) (c .before .before .before .before .before .before .before .before .before .before .before .is-book .ensures) (c .before .before .before .before .before .before .before .before .before .before .if1 .taken) (c .before .before .before .before .before .before .before .before .before .before .before .before .before .before .before .before .before .pre .0) _ p _ (c .read .ensures ∙ ap jobOf (part-is (s .at) (now (s .input)))),
+    still-indexed (s .change) _ (s .booked) (s .at) (now (s .journal)) (now (s .input)) (c .before .before .before .before .before .before .before .before .before .before .before .is-book .ensures) (c .before .before .before .before .before .before .before .before .before .before .if1 .taken) (c .before .before .before .before .before .before .before .before .before .before .before .before .before .before .before .before .before .pre .0) _ p _ _ _ (c .before .before .before .before .before .before .before .before .before .before .before .before .before .before .before .before .before .pre .1))
 
--- src/steps.rt:300:9
-same-length : tie.Need-same-length
-same-length c = search needs
-
--- src/steps.rt:300:9
-same-length-2 : tie.Need-same-length-2
-same-length-2 c = search needs
-
--- src/steps.rt:300:9
-same-length-3 : tie.Need-same-length-3
-same-length-3 c = search needs
-
--- src/steps.rt:300:9
-same-length-4 : tie.Need-same-length-4
-same-length-4 c = search needs
-
--- src/steps.rt:300:9
 returns : tie.Need-returns
-returns c = ?
+returns c =
+    let s = c .before .before .before .before .before .before .before .before .before .before .before .before .before .before .before .before .before .before .before .before .before .before .before .before .args in
+    stored (s .change) _ (s .booked) (s .at) (now (s .journal)) (now (s .input)) (c .before .before .before .before .before .before .before .before .before .before .before .before .before .before .before .before .before .before .is-book .ensures) (c .before .before .before .before .before .before .before .before .before .before .before .before .before .before .before .before .before .if1 .taken) (c .before .before .before .before .before .before .before .before .before .before .before .before .before .before .before .before .before .before .before .before .before .before .before .before .pre .0) _ (c .before .before .before .before .before .before .before .before .before .before .before .before .before .before .put-at .ensures ∙ ap (putAt (now (s .journal)) (s .booked)) (part-is (s .at) (now (s .input)))) _ _ _ (c .before .before .before .before .before .before .enter .ensures)
 
--- src/steps.rt:283:1
 returns-2 : tie.Need-returns-2
-returns-2 c = ?
+returns-2 c = let s = c .before .before .before .before .before .before .before .args in unstored (s .change) _ (s .booked) (now (s .journal)) _ _ _ _ (c .before .is-book .ensures) (c .if1 .left) (c .before .before .before .before .before .before .before .pre .1)
 
 pub store-spec : {M : Type 1} → statement M
-store-spec =
-    tie.close
-    (tie.spec
-    is-book-requires
-    add-bytes
-    sub-bytes
-    part-bytes-start
-    part-bytes-end
-    put-at-requires
-    read-requires
-    enter-requires
-    same-length
-    same-length-2
-    same-length-3
-    same-length-4
-    returns
-    returns-2)
+store-spec = tie.close (tie.spec (λ c κs. search needs) (λ c. search needs) (λ c. search needs) (λ c. search needs) part-bytes-end put-at-requires (λ c κs. search needs) enter-requires (λ c. search needs) (λ c. search needs) (λ c. search needs) (λ c. search needs) returns returns-2)
