@@ -1,10 +1,16 @@
 // A run file carried out, its text in pieces.
+mod buffers;
 mod header;
 mod steps;
 
 ghost use Prim.Native.Nat.{_≤_};
 ghost use lib.ListN.{length};
 ghost use Rattle.run.specs.Pieces.{Advanced, Going, Started, longestText};
+pub use buffers::INPUT;
+pub use buffers::JOURNAL;
+pub use buffers::PIECE;
+pub use buffers::input_buffer;
+pub use buffers::printed;
 use ledger::Ledger;
 use outcome::Outcome;
 use outcome::Refusal;
