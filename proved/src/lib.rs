@@ -3,7 +3,7 @@
 use reference::run::LONGEST_LINE;
 use reference::settings::LONGEST_FILE;
 
-/// Room for any text: no step has less than a byte, and the program stops where a buffer may have no room for one line more.
+/// Room for any text, since no step has less than a byte, and for the one line more without which the program writes no further.
 pub const ROOM: usize = LONGEST_FILE * LONGEST_LINE + LONGEST_LINE;
 
 extern "C" {

@@ -3,12 +3,10 @@
 //! to be compared with the proved program.
 
 pub mod draw;
-#[cfg(feature = "generator")]
 pub mod edges;
 pub mod engine;
 #[cfg(feature = "generator")]
 pub mod generate;
-#[cfg(feature = "generator")]
 pub mod random;
 pub mod record;
 pub mod refusal;
@@ -18,11 +16,8 @@ pub mod settings;
 pub mod step;
 pub mod vault;
 pub mod watch;
-#[cfg(feature = "generator")]
 pub mod whole;
-#[cfg(feature = "generator")]
 pub mod write;
 
 pub use run::run;
-#[cfg(feature = "generator")]
 pub use whole::{whole_run, whole_text};
