@@ -7,6 +7,9 @@ use crate::settings::{read_header, HEADER_BYTES};
 use crate::step::{decode, Step};
 use crate::watch;
 
+/// No line is longer: 5 digits, a refusal or 0 of 2, a value of 4, two spaces and the end.
+pub const LONGEST_LINE: usize = 14;
+
 /// "step number from 1, 0 or the refusal, a value".
 #[derive(Clone, Copy, PartialEq, Eq, Debug)]
 pub struct Line {
