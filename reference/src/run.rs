@@ -8,7 +8,7 @@ use crate::step::{decode, Step};
 use crate::watch;
 
 /// No line is longer: 5 digits, a refusal or 0 of 2, a value of 4, two spaces and the end.
-pub const LONGEST_LINE: usize = 14;
+pub const LONGEST_LINE: usize = 27;
 
 /// "step number from 1, 0 or the refusal, a value".
 #[derive(Clone, Copy, PartialEq, Eq, Debug)]
