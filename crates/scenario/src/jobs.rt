@@ -2,26 +2,33 @@
 ghost use mathlib.Core.List.{_∷_, []};
 ghost use mathlib.Core.Path.{_≡_};
 ghost use Prim.Native.Nat.{_<_};
-ghost use Rattle.telling.specs.Samples.{jobWith, unused};
+ghost use Rattle.record.specs.Codec.{leAt};
+ghost use Rattle.scenario.specs.Samples.{copyJob, jobWith, masterJob, tapeWith, unused};
 use record::Entry;
 use record::Job;
 
 // A label as a number, its first character lowest.
-fn label(s: &[u8; 8]) -> u64 {
+fn label(s: &[u8; 8]) -> u64
+    ensures { λ r. ⌜ r ≡ leAt (now (s .entry)) 0 8 ⌝ }
+{
     let mut sum: u64 = 0;
-    for i in 0..8 {
-        sum = sum / 256 + wide(s[i]) * 72057594037927936;
+    let mut k: usize = 8;
+    while 0 < k {
+        k -= 1;
+        sum = sum * 256 + wide(s[k]);
     }
     sum
 }
 
 fn wide(x: u8) -> u64
-    ensures { λ r. ⌜ r < 256 ⌝ }
+    ensures { λ r. ⌜ (r ≡ x) × (r < 256) ⌝ }
 {
     x as u64
 }
 
-pub fn tape(s: &[u8; 8], frames: u32) -> Entry {
+pub fn tape(s: &[u8; 8], frames: u32) -> Entry
+    ensures { λ r. ⌜ r ≡ tapeWith (now (s .entry)) frames ⌝ }
+{
     Entry {
         label: label(s),
         frames,
@@ -96,10 +103,14 @@ pub fn split(from: Entry, to: Entry, second: Entry) -> Job
 }
 
 // The two jobs of document 01's run.
-pub fn master() -> Job {
+pub fn master() -> Job
+    ensures { λ r. ⌜ r ≡ masterJob ⌝ }
+{
     accession(tape(b"VAA001L5", 1000))
 }
 
-pub fn copy() -> Job {
+pub fn copy() -> Job
+    ensures { λ r. ⌜ r ≡ copyJob ⌝ }
+{
     migration(tape(b"VAA001L5", 1000), tape(b"VAB001L7", 1000))
 }

@@ -23,17 +23,17 @@ fn argument(x: u64) {
 }
 
 // A line: the name, and the figures of the answer.
-pub fn step(name: &[u8], outcome: Outcome) {
+pub fn line(name: &[u8], outcome: Outcome) {
     io::write_all(STDOUT_FILENO, name);
     figures(outcome.number() as u64, outcome.value() as u64);
 }
 
 // The line of a step, and the ledger that it left.
-pub fn told(name: &[u8], reply: Reply) -> Ledger
+pub fn report(name: &[u8], reply: Reply) -> Ledger
     ensures { λ r. ⌜ r ≡ reply .ledger ⌝ }
 {
     let outcome = reply.outcome;
-    step(name, outcome);
+    line(name, outcome);
     reply.ledger
 }
 
@@ -57,14 +57,14 @@ pub fn propose(l: Ledger, journal: &mut [u8], name: &[u8], job: Job) -> Ledger
     record::write(job, &mut bytes);
     let reply = l.propose(journal, &bytes);
     io::write_all(STDOUT_FILENO, b"propose.");
-    told(name, reply)
+    report(name, reply)
 }
 
 pub fn preflight(l: Ledger, journal: &[u8], vault: u8, job: u8) -> Ledger
     ensures { λ r. ⌜ r ≡ preflightOf l (now (journal .entry)) vault job .ledger ⌝ }
 {
     named(b"preflight", vault, job);
-    told(b"", l.preflight(journal, vault, job))
+    report(b"", l.preflight(journal, vault, job))
 }
 
 pub fn commit(l: Ledger, journal: &[u8], vault: u8, job: u8, signers: u16) -> Ledger
@@ -72,33 +72,33 @@ pub fn commit(l: Ledger, journal: &[u8], vault: u8, job: u8, signers: u16) -> Le
 {
     named(b"commit", vault, job);
     argument(signers as u64);
-    told(b"", l.commit(journal, vault, job, signers))
+    report(b"", l.commit(journal, vault, job, signers))
 }
 
 pub fn sign(l: Ledger, journal: &[u8], vault: u8, job: u8) -> Ledger
     ensures { λ r. ⌜ r ≡ faultySignOf l (now (journal .entry)) vault job .ledger ⌝ }
 {
     named(b"faulty-sign", vault, job);
-    told(b"", l.faulty_sign(journal, vault, job))
+    report(b"", l.faulty_sign(journal, vault, job))
 }
 
 pub fn acknowledge(l: Ledger, journal: &[u8], vault: u8, job: u8) -> Ledger
     ensures { λ r. ⌜ r ≡ faultyAcknowledgeOf l (now (journal .entry)) vault job .ledger ⌝ }
 {
     named(b"faulty-acknowledge", vault, job);
-    told(b"", l.faulty_acknowledge(journal, vault, job))
+    report(b"", l.faulty_acknowledge(journal, vault, job))
 }
 
 pub fn show(l: Ledger, journal: &[u8], job: u8) {
     io::write_all(STDOUT_FILENO, b"show");
     argument(job as u64);
-    step(b"", l.show(journal, job));
+    line(b"", l.show(journal, job));
 }
 
 pub fn generations(l: Ledger, journal: &[u8], job: u8) {
     io::write_all(STDOUT_FILENO, b"generations");
     argument(job as u64);
-    step(b"", l.generations(journal, job));
+    line(b"", l.generations(journal, job));
 }
 
 // The length of the part shown, and the frames of its first output.
