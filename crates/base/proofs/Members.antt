@@ -1,7 +1,6 @@
 -- Laws of membership: of lists joined, mapped, kept in part, and of distinct elements. A test over a list decides the
 -- claim over its elements. Distinct elements that all stand in another list add up to no more than it, so distinct
 -- numbers below a bound are no more than the bound.
--- Assumes nothing.
 use mathlib.Core.Bool.{Bool, _&&_, _||_, cond, false, not, true, true≢false}
 use mathlib.Core.List.{List, [], _++_, _∷_, map}
 use mathlib.Core.Logic.{_⊎_, inl, inr, ⊎-elim}

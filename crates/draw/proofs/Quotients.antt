@@ -1,5 +1,4 @@
 -- Factorials up to 16 fit 45 bits, and so do the products that a binomial divides by; the binomials of n grow with n.
--- Assumes nothing.
 use mathlib.Core.Bool.{Bool, cond, false, true}
 use mathlib.Core.Path.{_≡_, ap, refl, sym}
 use Prim.Native.Nat.{_*_, _+_, _-_, _/_, _<_, _≤_, suc, zero, ℕ}

@@ -1,6 +1,5 @@
 -- Each check decides what specs/Meaning.antt says: the connectives and searches of a check are read off one by one.
 -- At the end, what each answer of `checkOf` means.
--- Assumes nothing.
 use mathlib.Core.Bool.{Bool, cond, false, not, true, true≢false}
 use mathlib.Core.Logic.{_⊎_, inl, inr, ⊎-elim}
 use mathlib.Core.Path.{_≡_, refl, subst, sym}

@@ -1,5 +1,4 @@
 -- `isBetween` decides that a number lies in a range.
--- Assumes nothing.
 use mathlib.Core.Bool.{Bool, true}
 use mathlib.Core.Path.{_∙_, _≡_, sym}
 use Prim.Native.Nat.{_≤_, ℕ}

@@ -1,6 +1,5 @@
 -- The two constant tables say what the house table's rows list: one computed test over both, turned into the rule at
 -- each drive and medium. A medium past the last column is in no row.
--- Assumes nothing.
 -- as in src/drives.rt
 use mathlib.Core.Bool.{Bool, _&&_, cond, false, not, true}
 use mathlib.Core.List.{List, [], _∷_}

@@ -1,6 +1,5 @@
 -- A job's tapes as lists say what the searches over its entries say: a label or a tape is found exactly where it is in the
 -- list. A job that passes checks 6 to 9 has distinct labels, and its frames balance.
--- Assumes nothing.
 use mathlib.Core.Bool.{Bool, cond, false, true, true≢false}
 use mathlib.Core.List.{List, [], _++_, _∷_}
 use mathlib.Core.Logic.{_⊎_, inl, inr}

@@ -1,9 +1,6 @@
 // The labels and tapes of a job's two halves, and when two jobs conflict.
 ghost use mathlib.Core.Path.{_≡_};
 ghost use Prim.Native.Nat.{_+_, _≤_};
-ghost use mathlib.Core.Bool.{_&&_};
-ghost use lib.Dec.{eqb};
-ghost use Rattle.record.specs.Entries.{isUsed, labelOf};
 ghost use Rattle.record.specs.Conflicts.{isLabelAt, isTapeAt, halfOf, labelIn, makesTape, sharesAt, sharesIn, conflicting};
 use crate::Job;
 use crate::entries;

@@ -1,6 +1,5 @@
 -- The laws of sets of jobs. A job is a bit of one of the two words, or of none from 128 on; in each case the law is the
 -- one that `Bits` has for a word, and the other word is as it was.
--- Assumes nothing.
 use mathlib.Core.Bool.{Bool, _&&_, _||_, cond, false, not, true, true≢false}
 use mathlib.Core.Logic.{_≢_, _⊎_, inl, inr, ⊎-elim}
 use mathlib.Core.Path.{_∙_, _≡_, ap, ap₂, refl, sym}

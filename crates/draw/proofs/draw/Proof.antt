@@ -1,5 +1,4 @@
 -- Each return is one way through checks 1 and 17; behind them there is a quorum and no more without the absent vaults.
--- Assumes nothing.
 use mathlib.Core.Path.{_∙_, sym}
 use Prim.Native.Nat.{_-_, _<_}
 use native.Mathlib.Omega.{arith}
@@ -10,9 +9,6 @@ use Rattle.draw.proofs.draw.Statement.{statement}
 use Rattle.draw.specs.Draw.{drawOf, failing}
 use Rattle.draw.proofs.draw.Tie as tie
 
-is-lawful-requires : tie.Need-is-lawful-requires
-is-lawful-requires c κs = search needs
-
 returns : tie.Need-returns
 unfolding drawOf
 returns c = simp (sym (c .before .is-lawful .ensures) ∙ not-true _ (c .if1 .taken))
@@ -21,20 +17,8 @@ returns-2 : tie.Need-returns-2
 unfolding drawOf
 returns-2 c = simp (sym (c .before .before .is-lawful .ensures) ∙ not-false _ (c .before .if1 .left), lt-leb _ _ (c .if2 .taken))
 
-threshold-requires : tie.Need-threshold-requires
-threshold-requires c κs = search needs
-
-cast-k : tie.Need-cast-k
-cast-k c = search needs
-
-cast-choose : tie.Need-cast-choose
-cast-choose c = search needs
-
 choose-requires : tie.Need-choose-requires
 choose-requires c κs = small _ _ (sym (c .before .before .before .is-lawful .ensures) ∙ not-false _ (c .before .before .if1 .left)) (c .before .if2 .left)
-
-cast-choose-2 : tie.Need-cast-choose-2
-cast-choose-2 c = search needs
 
 choose-requires-2 : tie.Need-choose-requires-2
 choose-requires-2 c κs = omega (arith, small _ _ (sym (c .before .before .before .before .is-lawful .ensures) ∙ not-false _ (c .before .before .before .if1 .left)) (c .before .before .if2 .left))
@@ -60,14 +44,14 @@ pub draw-spec : {M : Type 1} → statement M
 draw-spec =
     tie.close
     (tie.spec
-    is-lawful-requires
+    (λ c κs. search needs)
     returns
     returns-2
-    threshold-requires
-    cast-k
-    cast-choose
+    (λ c κs. search needs)
+    (λ c. search needs)
+    (λ c. search needs)
     choose-requires
-    cast-choose-2
+    (λ c. search needs)
     choose-requires-2
     sub-thousandths
     thousandths-requires

@@ -1,5 +1,4 @@
 -- Each return is one way through the tests of `checkOf`.
--- Assumes nothing.
 use mathlib.Core.Path.{_∙_, sym}
 use borrow.Author.Needs.{needs}
 use borrow.Author.Tests.{le-ltb, lt-ltb, not-false, not-true}
@@ -7,29 +6,17 @@ use Rattle.record.proofs.checks.check.Statement.{statement}
 use Rattle.record.specs.Checks.{checkOf}
 use Rattle.record.proofs.checks.check.Tie as tie
 
-well-formed-requires : tie.Need-well-formed-requires
-well-formed-requires c κs = search needs
-
 returns : tie.Need-returns
 unfolding checkOf
 returns c = simp (sym (c .before .well-formed .ensures) ∙ not-true _ (c .if1 .taken))
-
-first-repeated-requires : tie.Need-first-repeated-requires
-first-repeated-requires c κs = search needs
 
 returns-2 : tie.Need-returns-2
 unfolding checkOf
 returns-2 c = let d = c .before .before in simp (sym (d .before .well-formed .ensures) ∙ not-false _ (d .if1 .left), ← c .before .first-repeated .ensures, lt-ltb _ _ (c .if2 .taken))
 
-first-unsupported-requires : tie.Need-first-unsupported-requires
-first-unsupported-requires c κs = search needs
-
 returns-3 : tie.Need-returns-3
 unfolding checkOf
 returns-3 c = let e = c .before .before in let d = e .before .before in simp (sym (d .before .well-formed .ensures) ∙ not-false _ (d .if1 .left), ← e .before .first-repeated .ensures, le-ltb _ _ (e .if2 .left), ← c .before .first-unsupported .ensures, lt-ltb _ _ (c .if3 .taken))
-
-is-balanced-requires : tie.Need-is-balanced-requires
-is-balanced-requires c κs = search needs
 
 returns-4 : tie.Need-returns-4
 unfolding checkOf
@@ -43,12 +30,12 @@ pub check-spec : {M : Type 1} → statement M
 check-spec =
     tie.close
     (tie.spec
-    well-formed-requires
+    (λ c κs. search needs)
     returns
-    first-repeated-requires
+    (λ c κs. search needs)
     returns-2
-    first-unsupported-requires
+    (λ c κs. search needs)
     returns-3
-    is-balanced-requires
+    (λ c κs. search needs)
     returns-4
     returns-5)

@@ -1,5 +1,4 @@
 -- The bytes are taken from the highest down, so what is gathered is always the number of those above k.
--- Assumes nothing.
 use mathlib.Core.Path.{_≡_}
 use Prim.Native.Nat.{_*_, _+_, _-_, _<_, _^_, _≤_, suc}
 use native.Mathlib.Nat.{sub-self}
@@ -22,27 +21,12 @@ abbrev μ-loop : tie.MeasureT-loop
 loop-holds : tie.Need-loop-holds Inv-loop μ-loop
 loop-holds c = (omega arith, (leAt-none _ _ _, rw sub-self (lit< tt)))
 
-sub-k : tie.Need-sub-k Inv-loop μ-loop
-sub-k c = search needs
-
 mul-acc : tie.Need-mul-acc Inv-loop μ-loop
 mul-acc c = let l = c .before .loop in omega (arith, room (l .k) (c .before .before .before .args .count) (l .acc) (c .loop-test .taken) (c .before .before .before .pre .1) (l .inv .1 .1))
-
-add-byte-at : tie.Need-add-byte-at Inv-loop μ-loop
-add-byte-at c = search needs
-
-byte-at-requires : tie.Need-byte-at-requires Inv-loop μ-loop
-byte-at-requires c κs = search needs
-
-cast-acc : tie.Need-cast-acc Inv-loop μ-loop
-cast-acc c = search needs
 
 add-acc : tie.Need-add-acc Inv-loop μ-loop
 add-acc c = let l = c .before .before .loop in
     omega (arith, room (l .k) (c .before .before .before .before .args .count) (l .acc) (c .before .loop-test .taken) (c .before .before .before .before .pre .1) (l .inv .1 .1), c .byte-at .ok)
-
-loop-less : tie.Need-loop-less Inv-loop μ-loop
-loop-less c = search needs
 
 loop-again : tie.Need-loop-again Inv-loop μ-loop
 loop-again c =
@@ -68,12 +52,12 @@ number-at-spec =
     Inv-loop
     μ-loop
     loop-holds
-    sub-k
+    (λ c. search needs)
     mul-acc
-    add-byte-at
-    byte-at-requires
-    cast-acc
+    (λ c. search needs)
+    (λ c κs. search needs)
+    (λ c. search needs)
     add-acc
-    loop-less
+    (λ c. search needs)
     loop-again
     returns)
