@@ -12,6 +12,8 @@ pub use checks::examine;
 pub use codec::RECORD;
 pub use codec::entry_in;
 pub use codec::read;
+pub use codec::reread;
+pub use codec::rewrite;
 pub use codec::write;
 pub use conflicts::conflict;
 pub use conflicts::lists;
