@@ -221,7 +221,8 @@ module _ {A : Type 0} (same : A → A → Bool) (r : (x y : A) → Reflects (sam
       (λ y m. in-keep (λ y. not (same x y)) l y (h y (inr m)) (simp (refutes (r x y) (λ (q : x ≡ y). nx (subst (λ (a : A). In a xs) (sym q) m))))) in
       let cut : keepIf (λ y. not (anyIn (λ x. same x y) xs)) (others x l) ≡ keepIf (λ y. not (same x y || anyIn (λ x. same x y) xs)) l =
       keep-keep (λ y. not (anyIn (λ x. same x y) xs)) (λ y. not (same x y)) l
-      ∙ keep-same (λ y. not (same x y) && not (anyIn (λ x. same x y) xs)) (λ y. not (same x y || anyIn (λ x. same x y) xs)) l (λ y m. de-morgan (same x y) (anyIn (λ x. same x y) xs)) in
+      ∙ keep-same (λ y. not (same x y) && not (anyIn (λ x. same x y) xs)) (λ y. not (same x y || anyIn (λ x. same x y) xs)) l
+      (λ y m. de-morgan (same x y) (anyIn (λ x. same x y) xs)) in
       omega (arith, rest, ap (total w) cut, without-one w x l d (h x (inl refl)))
     where
       de-morgan : (a b : Bool) → (not a && not b) ≡ not (a || b)
@@ -245,7 +246,8 @@ pigeons (suc n) l d h = by (anyIn (eqb n) l) refl (pigeons n)
         let m : List ℕ = keepIf (λ y. not (eqb n y)) l in
         let less : length m ≤ n =
         rec m (distinct-keep (λ y. not (eqb n y)) l d)
-        (smaller m (λ k i. keep-in (λ y. not (eqb n y)) l k i .0) (λ i. true≢false (sym (eq-eqb n n refl) ∙ reflect-false (eqb n n) .sound (keep-in (λ y. not (eqb n y)) l n i .1)))) in
+        (smaller m (λ k i. keep-in (λ y. not (eqb n y)) l k i .0)
+        (λ i. true≢false (sym (eq-eqb n n refl) ∙ reflect-false (eqb n n) .sound (keep-in (λ y. not (eqb n y)) l n i .1)))) in
         omega (arith, less, length-total l, length-total m, without-one eqb reflect-eq (λ (x : ℕ). 1) n l d (reflect-member n l (reflect-eq n) .sound e))
     by false e rec =
         let less : length l ≤ n = rec l d (smaller l (λ k i. i) (refuted (reflect-member n l (reflect-eq n)) e)) in

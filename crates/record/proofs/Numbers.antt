@@ -63,7 +63,9 @@ module _ {A : Type 0} where
 
   pub sets-append : (xs l : List A) (i : ℕ) (ys : List A) → sets l i (xs ++ ys) ≡ sets (sets l i xs) (i + length xs) ys
   sets-append [] l i ys = rw add-zero
-  sets-append (x ∷ xs) l i ys = sets-append xs (set l i x) (suc i) ys ∙ ap (λ (n : ℕ). sets (sets (set l i x) (suc i) xs) n ys) (suc-add i (length xs) ∙ sym (add-suc i (length xs)))
+  sets-append (x ∷ xs) l i ys =
+      sets-append xs (set l i x) (suc i) ys
+      ∙ ap (λ (n : ℕ). sets (sets (set l i x) (suc i) xs) n ys) (suc-add i (length xs) ∙ sym (add-suc i (length xs)))
 
 pub length-leBytes : (k v : ℕ) → length (leBytes k v) ≡ k
 unfolding leBytes

@@ -2,7 +2,6 @@
 use mathlib.Core.Bool.{Bool, true}
 use mathlib.Core.Path.{_∙_, _≡_, sym}
 use Prim.Native.Nat.{_≤_, ℕ}
-use lib.Pow.{high, low}
 use Rattle.base.proofs.Reflect.{reflect-and, reflect-le}
 use Rattle.base.specs.Reflect.{Reflects}
 use Rattle.record.specs.Labels.{isBetween}

@@ -6,7 +6,7 @@ use native.Mathlib.Nat.{add-assoc, add-zero}
 use native.Mathlib.Numerals.{add-one}
 use native.Mathlib.Omega.{arith}
 use lib.ListN.{drop, drop-of-length-le, getD, length, length-drop, take}
-use lib.Pow.{high, low, pow-add}
+use lib.Pow.{pow-add}
 use mir.Val.{Val}
 use denote.Array.{each}
 use denote.Shadow.{shadow}
@@ -14,7 +14,8 @@ use borrow.Author.Tests.{le-leb}
 use lib.Seq.{drop-cons, drop-drop, getD-append-add, take-add, take-all}
 use Rattle.record.proofs.Jobs.{length-entryBytes}
 use Rattle.record.proofs.Numbers.{length-leBytes}
-use Rattle.record.specs.Codec.{AreBytes, EntriesFit, JobFits, bytesOf, entriesAt, entriesBytes, entryAt, entryBytes, fitsRecord, jobOf, leAt, leBytes, written}
+use Rattle.record.specs.Codec.{AreBytes, EntriesFit, JobFits, bytesOf, entriesAt, entriesBytes, entryAt, entryBytes, fitsRecord, jobOf, leAt}
+use Rattle.record.specs.Codec.{leBytes, written}
 use Rattle.record.proofs.Entry.{the-field}
 use Rattle.record.specs.declared.Entry.{Entry}
 use Rattle.record.specs.declared.Job.{Job}

@@ -8,7 +8,6 @@ use Prim.Native.Nat.{_-_, _<_, _≤_, ℕ}
 use native.Mathlib.Omega.{arith}
 use lib.Dec.{ltb}
 use lib.ListN.{getD}
-use lib.Pow.{high, low}
 use borrow.Author.Tests.{le-leb, ltb-true, ne-eqb, not-true}
 use Rattle.base.proofs.Reflect.{and-true}
 use Rattle.base.proofs.Search.{all-at}

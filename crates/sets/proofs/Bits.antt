@@ -5,7 +5,8 @@ use mathlib.Core.Bool.{Bool, _&&_, _||_, cond, false, not, true, true≢false}
 use mathlib.Core.Logic.{_≢_}
 use mathlib.Core.Path.{_∙_, _≡_, ap, refl, sym}
 use Prim.Native.Nat.{_%_, _*_, _+_, _-_, _/_, _<_, _^_, _≤_, max, min, suc, zero, ℕ}
-use native.Mathlib.Nat.{add-comm, div-div-eq-div-mul, div-eq-of-lt, div-mul-le-self, div-one, le-refl, le-trans, mod-le, mul-assoc, mul-comm, mul-le-mul-right, one-mul, pow-suc, sub-zero, zero-mul}
+use native.Mathlib.Nat.{add-comm, div-div-eq-div-mul, div-eq-of-lt, div-mul-le-self, div-one, le-refl, le-trans, mod-le, mul-assoc, mul-comm}
+use native.Mathlib.Nat.{mul-le-mul-right, one-mul, pow-suc, sub-zero, zero-mul}
 use native.Mathlib.Numerals.{add-one}
 use native.Mathlib.Omega.{arith}
 use lib.Arith.{lt-one}

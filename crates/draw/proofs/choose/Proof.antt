@@ -24,7 +24,13 @@ div-result c = rw (c .before .factorial2 .ensures, c .factorial3 .ensures) (divi
 
 returns-2 : tie.Need-returns-2
 unfolding choose
-returns-2 c = simp (le-ltb _ _ (c .before .before .before .if1 .left), c .before .before .factorial .ensures, c .before .factorial2 .ensures, c .factorial3 .ensures)
+returns-2 c =
+    simp (
+      le-ltb _ _ (c .before .before .before .if1 .left),
+      c .before .before .factorial .ensures,
+      c .before .factorial2 .ensures,
+      c .factorial3 .ensures,
+    )
 
 pub choose-spec : {M : Type 1} → statement M
 choose-spec =

@@ -10,7 +10,8 @@ use Rattle.record.specs.Entries.{usedFrames}
 use Rattle.record.proofs.checks.total.Tie as tie
 
 abbrev Inv-loop : tie.InvT-loop
-Inv-loop job half sum₀ i₀ sum i = (i ≤ 4) × ((half ≤ 4) × ((sum ≤ i * 4294967295) × (sum + sumFrom (usedFrames job) (half + i) (4 - i) ≡ sumFrom (usedFrames job) half 4)))
+Inv-loop job half sum₀ i₀ sum i =
+    (i ≤ 4) × ((half ≤ 4) × ((sum ≤ i * 4294967295) × (sum + sumFrom (usedFrames job) (half + i) (4 - i) ≡ sumFrom (usedFrames job) half 4)))
 
 abbrev μ-loop : tie.MeasureT-loop
 μ-loop job half sum₀ i₀ sum i = 4 - i
@@ -22,7 +23,10 @@ add-sum : tie.Need-add-sum Inv-loop μ-loop
 add-sum c = omega (arith, c .used-frames .ok)
 
 loop-again : tie.Need-loop-again Inv-loop μ-loop
-loop-again c = let l = c .before .before .loop in (omega arith, (l .inv .1 .0, (omega (arith, c .used-frames .ok), rw (c .used-frames .ensures) (sum-next _ _ _ _ (l .i) (l .sum) (c .before .loop-test .taken) (l .inv .1 .1 .1)))))
+loop-again c =
+    let l = c .before .before .loop in
+    let next = sum-next _ _ _ _ (l .i) (l .sum) (c .before .loop-test .taken) (l .inv .1 .1 .1) in
+    (omega arith, (l .inv .1 .0, (omega (arith, c .used-frames .ok), rw (c .used-frames .ensures) next)))
 
 returns : tie.Need-returns Inv-loop μ-loop
 returns c = sum-end _ _ _ _ (c .before .loop .i) _ (c .loop-test .left) (c .before .loop .inv .1 .1 .1)

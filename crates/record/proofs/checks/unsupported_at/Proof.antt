@@ -8,7 +8,14 @@ use Rattle.record.proofs.checks.unsupported_at.Tie as tie
 
 returns : tie.Need-returns
 unfolding unsupportedAt
-returns c = simp (sym (c .before .before .before .before .before .used .ensures) ∙ c .before .before .before .before .if1 .taken, c .supports .ensures, c .before .is-written .ensures, c .before .before .medium-of .ensures, c .before .before .before .label .ensures)
+returns c =
+    simp (
+      sym (c .before .before .before .before .before .used .ensures) ∙ c .before .before .before .before .if1 .taken,
+      c .supports .ensures,
+      c .before .is-written .ensures,
+      c .before .before .medium-of .ensures,
+      c .before .before .before .label .ensures,
+    )
 
 returns-2 : tie.Need-returns-2
 unfolding unsupportedAt

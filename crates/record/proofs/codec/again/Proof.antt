@@ -8,8 +8,10 @@ use Rattle.record.proofs.codec.again.Tie as tie
 returns : tie.Need-returns
 returns c =
     let k = c .before .before .before .before .before .before in
-    let p = k .before .pre in
-    same-bytes _ _ _ _ (p .0) (p .1) (λ i. omega (arith, k .shared-slice-known .given i)) (c .before .before .before .before .read .ensures) (c .before .before .write .ensures .1)
+    let w = c .before .before in
+    same-bytes _ _ _ _ (k .before .pre .0) (k .before .pre .1) (λ i. omega (arith, k .shared-slice-known .given i))
+    (w .before .before .read .ensures)
+    (w .write .ensures .1)
 
 pub again-spec : {M : Type 1} → statement M
 again-spec = tie.close (tie.spec (λ c κs. search needs) (λ c κs. search needs) (λ c. search needs) returns)

@@ -22,11 +22,15 @@ loop-holds : tie.Need-loop-holds Inv-loop μ-loop
 loop-holds c = (omega arith, (leAt-none _ _ _, rw sub-self (lit< tt)))
 
 mul-acc : tie.Need-mul-acc Inv-loop μ-loop
-mul-acc c = let l = c .before .loop in omega (arith, room (l .k) (c .before .before .before .args .count) (l .acc) (c .loop-test .taken) (c .before .before .before .pre .1) (l .inv .1 .1))
+mul-acc c =
+    let l = c .before .loop in
+    omega (arith, room (l .k) (c .before .before .before .args .count) (l .acc) (c .loop-test .taken) (c .before .before .before .pre .1) (l .inv .1 .1))
 
 add-acc : tie.Need-add-acc Inv-loop μ-loop
-add-acc c = let l = c .before .before .loop in
-    omega (arith, room (l .k) (c .before .before .before .before .args .count) (l .acc) (c .before .loop-test .taken) (c .before .before .before .before .pre .1) (l .inv .1 .1), c .byte-at .ok)
+add-acc c =
+    let l = c .before .before .loop in
+    let s = c .before .before .before .before in
+    omega (arith, room (l .k) (s .args .count) (l .acc) (c .before .loop-test .taken) (s .pre .1) (l .inv .1 .1), c .byte-at .ok)
 
 loop-again : tie.Need-loop-again Inv-loop μ-loop
 loop-again c =
@@ -43,7 +47,8 @@ loop-again c =
 returns : tie.Need-returns Inv-loop μ-loop
 returns c =
     let l = c .before .loop in
-    (leAt-all _ _ (l .k) _ _ (c .loop-test .left) (l .inv .1 .0), omega (arith, pow-mono {i = 8 * (c .before .before .before .args .count - l .k)} {j = 8 * c .before .before .before .args .count} (omega arith)))
+    let count = c .before .before .before .args .count in
+    (leAt-all _ _ (l .k) _ _ (c .loop-test .left) (l .inv .1 .0), omega (arith, pow-mono {i = 8 * (count - l .k)} {j = 8 * count} (omega arith)))
 
 pub number-at-spec : {M : Type 1} → statement M
 number-at-spec =

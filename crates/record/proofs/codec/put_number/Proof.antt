@@ -12,7 +12,8 @@ use Rattle.record.specs.Codec.{leBytes}
 use Rattle.record.proofs.codec.put_number.Tie as tie
 
 abbrev Inv-loop : tie.InvT-loop
-Inv-loop out₀ at count value v₀ k₀ out v k = (k ≤ count) × ((length out ≡ length out₀) × (sets out (at + k) (leBytes (count - k) v) ≡ sets out₀ at (leBytes count value)))
+Inv-loop out₀ at count value v₀ k₀ out v k =
+    (k ≤ count) × ((length out ≡ length out₀) × (sets out (at + k) (leBytes (count - k) v) ≡ sets out₀ at (leBytes count value)))
 
 abbrev μ-loop : tie.MeasureT-loop
 μ-loop out₀ at count value v₀ k₀ out v k = count - k

@@ -11,8 +11,8 @@ returns : tie.Need-returns
 returns c =
     let s = c .before .before .before .before .before in
     let n : length (s .args .job .entries) ≡ 8 = search length-mapped in
-    c .read .ensures
-    ∙ same-job (s .args .job) _ _ (record { eight = n; fit = entries-fit _ _ (s .good .0 .1 .1 .1 .1 .1 .1 .0 .1 .1) }) refl (c .before .before .before .write .ensures .1)
+    let fits = entries-fit _ _ (s .good .0 .1 .1 .1 .1 .1 .1 .0 .1 .1) in
+    c .read .ensures ∙ same-job (s .args .job) _ _ (record { eight = n; fit = fits }) refl (c .before .before .before .write .ensures .1)
 
 pub reread-spec : {M : Type 1} → statement M
 reread-spec =

@@ -13,7 +13,10 @@ use Rattle.record.specs.Codec.{bytesOf, entriesBytes, fitsRecord, writte
 use Rattle.record.proofs.codec.write.Tie as tie
 
 abbrev Inv-loop : tie.InvT-loop
-Inv-loop out₀ job i₀ out i = (i ≤ 8) × ((length out ≡ length out₀) × ((100 ≤ length out₀) × (sets out (4 + 12 * i) (entriesBytes (drop i (job .entries))) ≡ sets out₀ 4 (entriesBytes (job .entries)))))
+Inv-loop out₀ job i₀ out i =
+    (i ≤ 8)
+    × ((length out ≡ length out₀)
+    × ((100 ≤ length out₀) × (sets out (4 + 12 * i) (entriesBytes (drop i (job .entries))) ≡ sets out₀ 4 (entriesBytes (job .entries)))))
 
 abbrev μ-loop : tie.MeasureT-loop
 μ-loop out₀ job i₀ out i = 8 - i

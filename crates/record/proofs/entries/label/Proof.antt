@@ -14,7 +14,9 @@ returns c = refl
 
 returns-2 : tie.Need-returns-2
 unfolding labelOf
-returns-2 c = let n : length (c .before .args .t1 .entries) ≡ 8 = search length-mapped in ap (λ (e : Entry). e .label) (entry-past (c .before .args .t1) (c .before .args .i) n (c .if1 .left))
+returns-2 c =
+    let n : length (c .before .args .t1 .entries) ≡ 8 = search length-mapped in
+    ap (λ (e : Entry). e .label) (entry-past (c .before .args .t1) (c .before .args .i) n (c .if1 .left))
 
 pub label-spec : {M : Type 1} → statement M
 label-spec = tie.close (tie.spec (λ c. search needs) (λ c. search needs) returns returns-2)
