@@ -19,9 +19,6 @@ abbrev μ-loop : tie.MeasureT-loop
 loop-holds : tie.Need-loop-holds Inv-loop μ-loop
 loop-holds c = (omega arith, (c .pre, (omega arith, sum-start _ _ _ _ refl)))
 
-add-sum : tie.Need-add-sum Inv-loop μ-loop
-add-sum c = omega (arith, c .used-frames .ok)
-
 loop-again : tie.Need-loop-again Inv-loop μ-loop
 loop-again c =
     let l = c .before .before .loop in
@@ -41,7 +38,7 @@ total-spec =
     (λ c. search needs)
     (λ c κs. search needs)
     (λ c. search needs)
-    add-sum
+    (λ c. omega (arith, c .used-frames .ok))
     (λ c. search needs)
     (λ c. search needs)
     loop-again

@@ -4,9 +4,6 @@ use Rattle.record.proofs.Numbers.{leAt-four}
 use Rattle.record.proofs.codec.four_in.Statement.{statement}
 use Rattle.record.proofs.codec.four_in.Tie as tie
 
-returns : tie.Need-returns
-returns c = simp leAt-four (search needs)
-
 pub four-in-spec : {M : Type 1} → statement M
 four-in-spec =
     tie.close
@@ -28,4 +25,4 @@ four-in-spec =
     (λ c. search needs)
     (λ c. search needs)
     (λ c. search needs)
-    returns)
+    (λ c. simp leAt-four (search needs)))
