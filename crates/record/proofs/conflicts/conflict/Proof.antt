@@ -2,15 +2,15 @@
 use borrow.Author.Needs.{needs}
 use Rattle.base.proofs.Tests.{chain}
 use Rattle.record.proofs.conflicts.conflict.Statement.{statement}
-use Rattle.record.specs.Conflicts.{conflicting}
+use Rattle.record.specs.Conflicts.{conflicting, sharesIn}
 use Rattle.record.proofs.conflicts.conflict.Tie as tie
 
 returns : tie.Need-returns
-unfolding conflicting
+unfolding conflicting sharesIn
 returns c = search chain depth 8
 
 returns-2 : tie.Need-returns-2
-unfolding conflicting
+unfolding conflicting sharesIn
 returns-2 c = search chain depth 8
 
 pub conflict-spec : {M : Type 1} → statement M

@@ -6,7 +6,7 @@ use borrow.Author.Needs.{needs}
 use Rattle.base.proofs.Search.{searches}
 use Rattle.base.specs.Search.{anyBelow}
 use Rattle.record.proofs.conflicts.label_in.Statement.{statement}
-use Rattle.record.specs.Conflicts.{isLabelAt, labelIn}
+use Rattle.record.specs.Conflicts.{isLabelAt}
 use Rattle.record.proofs.conflicts.label_in.Tie as tie
 
 ruleset by = (searches, needs)
@@ -14,27 +14,16 @@ ruleset by = (searches, needs)
 abbrev Inv-loop : tie.InvT-loop
 Inv-loop half job label i₀ i = (half ≤ 4) × ((i ≤ 4) × (anyBelow i (isLabelAt half job label) ≡ false))
 
-abbrev μ-loop : tie.MeasureT-loop
-μ-loop half job label i₀ i = 4 - i
-
-returns : tie.Need-returns Inv-loop μ-loop
-unfolding labelIn
-returns c = search by depth 8
-
-returns-2 : tie.Need-returns-2 Inv-loop μ-loop
-unfolding labelIn
-returns-2 c = search by depth 8
-
 pub label-in-spec : {M : Type 1} → statement M
 label-in-spec =
     tie.close
     (tie.spec
     Inv-loop
-    μ-loop
+    (λ half job label i₀ i. 4 - i)
     (λ c. search by depth 8)
     (λ c κs. search by depth 8)
-    returns
     (λ c. search by depth 8)
     (λ c. search by depth 8)
     (λ c. search by depth 8)
-    returns-2)
+    (λ c. search by depth 8)
+    (λ c. search by depth 8))

@@ -1,9 +1,11 @@
 -- `lists` is `label_in` from where the half begins.
 use borrow.Author.Needs.{needs}
+use Rattle.record.specs.Conflicts.{labelIn}
 use Rattle.record.proofs.conflicts.lists.Statement.{statement}
 use Rattle.record.proofs.conflicts.lists.Tie as tie
 
 returns : tie.Need-returns
+unfolding labelIn
 returns c = simp (← c .before .start .ensures .0) (c .label-in .ensures)
 
 pub lists-spec : {M : Type 1} → statement M

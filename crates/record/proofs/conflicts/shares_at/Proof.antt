@@ -3,11 +3,11 @@ use mathlib.Core.Path.{_∙_, sym}
 use borrow.Author.Needs.{needs}
 use Rattle.base.proofs.Tests.{chain}
 use Rattle.record.proofs.conflicts.shares_at.Statement.{statement}
-use Rattle.record.specs.Conflicts.{sharesAt}
+use Rattle.record.specs.Conflicts.{labelIn, sharesAt}
 use Rattle.record.proofs.conflicts.shares_at.Tie as tie
 
 returns : tie.Need-returns
-unfolding sharesAt
+unfolding sharesAt labelIn
 returns c = simp (sym (c .before .before .before .used .ensures) ∙ c .before .before .if1 .taken, c .label-in .ensures, c .before .label .ensures)
 
 returns-2 : tie.Need-returns-2

@@ -6,7 +6,7 @@ use borrow.Author.Needs.{needs}
 use Rattle.base.proofs.Search.{searches}
 use Rattle.base.specs.Search.{anyBelow}
 use Rattle.record.proofs.conflicts.shares_in.Statement.{statement}
-use Rattle.record.specs.Conflicts.{sharesAt, sharesIn}
+use Rattle.record.specs.Conflicts.{sharesAt}
 use Rattle.record.proofs.conflicts.shares_in.Tie as tie
 
 ruleset by = (searches, needs)
@@ -17,14 +17,6 @@ Inv-loop half a b i₀ i = (half ≤ 4) × ((i ≤ 4) × (anyBelow i (sharesAt h
 abbrev μ-loop : tie.MeasureT-loop
 μ-loop half a b i₀ i = 4 - i
 
-returns : tie.Need-returns Inv-loop μ-loop
-unfolding sharesIn
-returns c = search by depth 8
-
-returns-2 : tie.Need-returns-2 Inv-loop μ-loop
-unfolding sharesIn
-returns-2 c = search by depth 8
-
 pub shares-in-spec : {M : Type 1} → statement M
 shares-in-spec =
     tie.close
@@ -33,8 +25,8 @@ shares-in-spec =
     μ-loop
     (λ c. search by depth 8)
     (λ c κs. search by depth 8)
-    returns
     (λ c. search by depth 8)
     (λ c. search by depth 8)
     (λ c. search by depth 8)
-    returns-2)
+    (λ c. search by depth 8)
+    (λ c. search by depth 8))
