@@ -26,9 +26,6 @@ module _ {A : Type 0} where
   in-any p (y ∷ l) t =
       ⊎-elim (λ h. (y, inl refl, h)) (λ h. let r = in-any p l h in (r .0, inr (r .1), r .2)) (or-true (p y) (anyIn p l) t)
 
-  pub none-in : (p : A → Bool) (l : List A) → anyIn p l ≡ false → (x : A) → In x l → p x ≡ false
-  none-in p l e x m = not-true-false (p x) (λ t. true≢false (sym (any-in p l x m t) ∙ e))
-
   pub in-none : (p : A → Bool) (l : List A) → ((x : A) → In x l → p x ≡ false) → anyIn p l ≡ false
   in-none p l h = not-true-false (anyIn p l) (λ t. let r = in-any p l t in true≢false (sym (r .2) ∙ h (r .0) (r .1)))
 

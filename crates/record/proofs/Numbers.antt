@@ -3,7 +3,6 @@ use mathlib.Core.List.{List, [], _++_, _∷_}
 use mathlib.Core.Path.{_∙_, _≡_, ap, refl, sym}
 use Prim.Native.Nat.{_%_, _*_, _+_, _-_, _/_, _<_, _^_, _≤_, suc, zero, ℕ}
 use native.Mathlib.Nat.{add-assoc, add-suc, add-zero, sub-self, suc-add}
-use native.Mathlib.Numerals.{add-one}
 use native.Mathlib.Omega.{arith}
 use lib.ListN.{getD, length, set}
 use lib.Pow.{pow-add, pow-mono}
@@ -58,9 +57,6 @@ leAt-halves s at = simp add-assoc (omega arith)
 
 -- ---- stores
 module _ {A : Type 0} where
-  pub sets-step : (l : List A) (i : ℕ) (x : A) (xs : List A) → sets (set l i x) (i + 1) xs ≡ sets l i (x ∷ xs)
-  sets-step l i x xs = rw add-one
-
   pub sets-append : (xs l : List A) (i : ℕ) (ys : List A) → sets l i (xs ++ ys) ≡ sets (sets l i xs) (i + length xs) ys
   sets-append [] l i ys = rw add-zero
   sets-append (x ∷ xs) l i ys =
