@@ -1,6 +1,5 @@
 -- `sameList` decides that two lists are equal, element by element; what a slice comparison of the kit's `check`
 -- ensures says that its answer is `sameList`; and parts of lists.
--- Assumes nothing.
 use mathlib.Core.Bool.{Bool, false, true, true≢false}
 use mathlib.Core.List.{List, [], _∷_}
 use mathlib.Core.Path.{_∙_, _≡_, ap, ap₂, refl, sym}

@@ -1,6 +1,5 @@
 -- What the draw computes with stays within its types where the settings are lawful: there is a quorum, no more of them are without the
 -- absent vaults than there are, and a share is at most a thousand thousandths.
--- Assumes nothing.
 use mathlib.Core.Bool.{Bool, cond, false, true}
 use mathlib.Core.Path.{_≡_, refl, subst}
 use Prim.Native.Nat.{_*_, _+_, _-_, _<_, _≤_, ℕ}

@@ -1,5 +1,4 @@
 -- The thousandths are the nearest, a half going up.
--- Assumes nothing.
 use mathlib.Core.Path.{_≡_, refl}
 use Prim.Native.Nat.{_*_, _+_, _<_, ℕ}
 use native.Mathlib.Nat.{div-add-mod', mod-lt}

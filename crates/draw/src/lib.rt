@@ -2,7 +2,7 @@
 ghost use mathlib.Core.Path.{_≡_};
 ghost use Prim.Native.Nat.{_<_, _≤_};
 ghost use Rattle.draw.specs.Binomials.{choose, factorial};
-ghost use Rattle.draw.specs.Draw.{drawOf, thousandths, failing};
+ghost use Rattle.draw.specs.Draw.{drawOf, thousandths};
 use federation::Settings;
 use outcome::Outcome;
 use outcome::Refusal;

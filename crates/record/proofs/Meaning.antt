@@ -1,6 +1,5 @@
 -- Each check decides what specs/Meaning.antt says: the connectives and searches of a check are read off one by one.
 -- At the end, what each answer of `checkOf` means.
--- Assumes nothing.
 use mathlib.Core.Bool.{Bool, cond, false, not, true, true≢false}
 use mathlib.Core.Logic.{_⊎_, inl, inr, ⊎-elim}
 use mathlib.Core.Path.{_≡_, refl, subst, sym}
@@ -8,7 +7,8 @@ use Prim.Native.Nat.{_+_, _-_, _<_, _≤_, ℕ}
 use native.Mathlib.Omega.{arith}
 use lib.Dec.{ltb}
 use borrow.Author.Tests.{lt-ltb, ltb-true}
-use Rattle.base.proofs.Reflect.{reflect-and, reflect-as, reflect-cond, reflect-eq, reflect-false, reflect-if, reflect-le, reflect-lt, reflect-or, reflect-true, refuted, refutes}
+use Rattle.base.proofs.Reflect.{reflect-and, reflect-as, reflect-cond, reflect-eq, reflect-false, reflect-if, reflect-le, reflect-lt, reflect-or}
+use Rattle.base.proofs.Reflect.{reflect-true, refuted, refutes}
 use Rattle.base.proofs.Search.{first-complete, first-end-complete, first-end-sound, first-sound, found-none, reflect-all, reflect-any, unfound}
 use Rattle.base.specs.Reflect.{Reflects}
 use Rattle.base.specs.Search.{firstBelow, sumFrom}
@@ -16,12 +16,14 @@ use Rattle.outcome.specs.declared.Refusal.the-variants.{Malformed, Repeated, Un
 use Rattle.outcome.specs.declared.Verdict.{Verdict}
 use Rattle.outcome.specs.declared.Verdict.the-variants.{Fail, Pass}
 use Rattle.record.proofs.Ranges.{reflect-between}
-use Rattle.record.specs.Checks.{balanced, checkOf, countsFormed, entryFormed, hasLabelOf, inputsFormed, isBlank, isFilled, isWritten, repeatedAt, unsupportedAt, wellFormed}
+use Rattle.record.specs.Checks.{balanced, checkOf, countsFormed, entryFormed, hasLabelOf, inputsFormed, isBlank, isFilled, isWritten, repeatedAt}
+use Rattle.record.specs.Checks.{unsupportedAt, wellFormed}
 use Rattle.record.specs.Conflicts.{conflicting, isLabelAt, isTapeAt, labelIn, makesTape, sharesAt, sharesIn}
 use Rattle.record.specs.Drives.{isDrive, supports}
 use Rattle.record.specs.Entries.{framesOf, isUsed, labelOf, usedFrames}
 use Rattle.record.specs.Labels.{charAt, isAlphanumeric, isLabel, media, mediumOf}
-use Rattle.record.specs.Meaning.{Alphanumeric, Answer, Balanced, Conflicting, Label, LabelIn, MakesTape, RepeatedAt, SharesIn, UnsupportedAt, Used, WellFormed, malformed, passes, repeated, unbalanced, unsupported}
+use Rattle.record.specs.Meaning.{Alphanumeric, Answer, Balanced, Conflicting, Label, LabelIn, MakesTape, RepeatedAt, SharesIn, UnsupportedAt, Used}
+use Rattle.record.specs.Meaning.{WellFormed, malformed, passes, repeated, unbalanced, unsupported}
 use Rattle.record.specs.declared.Job.{Job}
 
 pub reflect-used : (j : Job) (i : ℕ) → Reflects (isUsed j i) (Used j i)
@@ -151,9 +153,19 @@ module _ (j : Job) where
       let at : firstBelow 8 (unsupportedAt j) ≡ e = first-complete 8 fails e u in
       simp (reflect-formed j .complete f, found-none (repeatedAt j) 8 (first-end-complete 8 repeats r), at, lt-ltb e 8 (u .below))
   answers-check v (passes f r u b) =
-      simp (reflect-formed j .complete f, found-none (repeatedAt j) 8 (first-end-complete 8 repeats r), found-none (unsupportedAt j) 8 (first-end-complete 8 fails u), reflect-balanced j .complete b)
+      simp (
+        reflect-formed j .complete f,
+        found-none (repeatedAt j) 8 (first-end-complete 8 repeats r),
+        found-none (unsupportedAt j) 8 (first-end-complete 8 fails u),
+        reflect-balanced j .complete b,
+      )
   answers-check v (unbalanced f r u b) =
-      simp (reflect-formed j .complete f, found-none (repeatedAt j) 8 (first-end-complete 8 repeats r), found-none (unsupportedAt j) 8 (first-end-complete 8 fails u), refutes (reflect-balanced j) b)
+      simp (
+        reflect-formed j .complete f,
+        found-none (repeatedAt j) 8 (first-end-complete 8 repeats r),
+        found-none (unsupportedAt j) 8 (first-end-complete 8 fails u),
+        refutes (reflect-balanced j) b,
+      )
 
 -- ---- conflicts
 pub reflect-label-in : (half : ℕ) (j : Job) (label : ℕ) → Reflects (labelIn half j label) (LabelIn half j label)

@@ -1,10 +1,8 @@
 -- Little-endian numbers: a step of each loop, and the sums that need none.
--- Assumes nothing.
 use mathlib.Core.List.{List, [], _++_, _∷_}
 use mathlib.Core.Path.{_∙_, _≡_, ap, refl, sym}
 use Prim.Native.Nat.{_%_, _*_, _+_, _-_, _/_, _<_, _^_, _≤_, suc, zero, ℕ}
 use native.Mathlib.Nat.{add-assoc, add-suc, add-zero, sub-self, suc-add}
-use native.Mathlib.Numerals.{add-one}
 use native.Mathlib.Omega.{arith}
 use lib.ListN.{getD, length, set}
 use lib.Pow.{pow-add, pow-mono}
@@ -59,12 +57,11 @@ leAt-halves s at = simp add-assoc (omega arith)
 
 -- ---- stores
 module _ {A : Type 0} where
-  pub sets-step : (l : List A) (i : ℕ) (x : A) (xs : List A) → sets (set l i x) (i + 1) xs ≡ sets l i (x ∷ xs)
-  sets-step l i x xs = rw add-one
-
   pub sets-append : (xs l : List A) (i : ℕ) (ys : List A) → sets l i (xs ++ ys) ≡ sets (sets l i xs) (i + length xs) ys
   sets-append [] l i ys = rw add-zero
-  sets-append (x ∷ xs) l i ys = sets-append xs (set l i x) (suc i) ys ∙ ap (λ (n : ℕ). sets (sets (set l i x) (suc i) xs) n ys) (suc-add i (length xs) ∙ sym (add-suc i (length xs)))
+  sets-append (x ∷ xs) l i ys =
+      sets-append xs (set l i x) (suc i) ys
+      ∙ ap (λ (n : ℕ). sets (sets (set l i x) (suc i) xs) n ys) (suc-add i (length xs) ∙ sym (add-suc i (length xs)))
 
 pub length-leBytes : (k v : ℕ) → length (leBytes k v) ≡ k
 unfolding leBytes

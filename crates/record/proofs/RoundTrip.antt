@@ -1,17 +1,22 @@
 -- A record and its job are one another's.
--- Assumes nothing.
-use mathlib.Core.List.{List, [], _++_, _∷_, append-assoc}
+use mathlib.Core.List.{List, [], _++_, _∷_, append-assoc, append-nil, map}
 use mathlib.Core.Path.{_∙_, _≡_, ap, ap₂, refl, sym}
 use Prim.Native.Nat.{_%_, _*_, _+_, _/_, _<_, _^_, _≤_, suc, zero, ℕ}
 use native.Mathlib.Nat.{add-assoc, add-zero}
 use native.Mathlib.Numerals.{add-one}
 use native.Mathlib.Omega.{arith}
-use lib.ListN.{drop, getD, length, length-drop, take}
-use lib.Pow.{high, low, pow-add}
+use lib.ListN.{drop, drop-of-length-le, getD, length, length-drop, take}
+use lib.Pow.{pow-add}
+use mir.Val.{Val}
+use denote.Array.{each}
+use denote.Shadow.{shadow}
+use borrow.Author.Tests.{le-leb}
 use lib.Seq.{drop-cons, drop-drop, getD-append-add, take-add, take-all}
 use Rattle.record.proofs.Jobs.{length-entryBytes}
 use Rattle.record.proofs.Numbers.{length-leBytes}
-use Rattle.record.specs.Codec.{AreBytes, EntriesFit, JobFits, bytesOf, entriesAt, entriesBytes, entryAt, entryBytes, jobOf, leAt, leBytes}
+use Rattle.record.specs.Codec.{AreBytes, EntriesFit, JobFits, bytesOf, entriesAt, entriesBytes, entryAt, entryBytes, fitsRecord, jobOf, leAt}
+use Rattle.record.specs.Codec.{leBytes, written}
+use Rattle.record.proofs.Entry.{the-field}
 use Rattle.record.specs.declared.Entry.{Entry}
 use Rattle.record.specs.declared.Job.{Job}
 
@@ -97,3 +102,23 @@ record-job-record r n b =
     entriesBytes-entriesAt 8 r 4 b (omega arith) ∙ take-all 96 (drop 4 r) (simp length-drop (omega arith)) in
     rw body (sym (drop-cons r 0 0 (omega arith) ∙ ap (λ (l : List ℕ). getD r 0 0 ∷ l) (drop-cons r 1 0 (omega arith)
     ∙ ap (λ (l : List ℕ). getD r 1 0 ∷ l) (drop-cons r 2 0 (omega arith) ∙ ap (λ (l : List ℕ). getD r 2 0 ∷ l) (drop-cons r 3 0 (omega arith))))))
+
+-- ---- as the code asks them
+
+-- the ranges of an array of entries, as the language has them
+pub entries-fit : (es : List Entry) (us : List Val) → shadow (each (the-field .row .Denot) (the-field .row .own) (map (the-field .into) es) us) → EntriesFit es
+unfolding EntriesFit
+entries-fit [] us s = tt
+entries-fit (e ∷ es) [] s = absurd s
+entries-fit (e ∷ es) (u ∷ us) s = (s .0 .1 .1 .0 .1, s .0 .1 .1 .1 .0 .1, entries-fit es us (s .1))
+
+stored : (j : Job) (o out : List ℕ) → length o ≡ 100 → out ≡ written j o → out ≡ bytesOf j
+unfolding written fitsRecord
+stored j o out n e =
+    e ∙ simp (le-leb 100 (length o) (omega arith), drop-of-length-le o {i = 100} (omega arith), append-nil)
+
+pub same-job : (j : Job) (o out : List ℕ) → JobFits j → length o ≡ 100 → out ≡ written j o → jobOf out ≡ j
+same-job j o out h n e = ap jobOf (stored j o out n e ∙ sym (append-nil (bytesOf j))) ∙ job-record-job j [] h
+
+pub same-bytes : (j : Job) (r o out : List ℕ) → length r ≡ 100 → length o ≡ 100 → AreBytes r → j ≡ jobOf r → out ≡ written j o → out ≡ r
+same-bytes j r o out m n b q e = stored j o out n e ∙ ap bytesOf q ∙ record-job-record r m b

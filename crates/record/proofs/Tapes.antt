@@ -1,6 +1,5 @@
 -- A job's tapes as lists say what the searches over its entries say: a label or a tape is found exactly where it is in the
 -- list. A job that passes checks 6 to 9 has distinct labels, and its frames balance.
--- Assumes nothing.
 use mathlib.Core.Bool.{Bool, cond, false, true, true≢false}
 use mathlib.Core.List.{List, [], _++_, _∷_}
 use mathlib.Core.Logic.{_⊎_, inl, inr}
@@ -103,7 +102,8 @@ module _ (j : Job) where
       let s = reflect-label-in half j label .sound e in
       let u = reflect-used j (half + s .which) .complete (s .has .0) in
       subst (λ (x : ℕ). In x (labels (usedFrom j half 4))) (s .has .1)
-      (in-map (λ (t : Entry). t .label) (usedFrom j half 4) (entry (half + s .which)) (at-used half 4 (half + s .which) (omega arith) (omega (arith, s .below)) u))
+      (in-map (λ (t : Entry). t .label) (usedFrom j half 4) (entry (half + s .which))
+      (at-used half 4 (half + s .which) (omega arith) (omega (arith, s .below)) u))
 
   pub listed-label : (half label : ℕ) → In label (labels (usedFrom j half 4)) → labelIn half j label ≡ true
   unfolding labelOf
@@ -111,10 +111,11 @@ module _ (j : Job) where
       let q = map-in (λ (t : Entry). t .label) (usedFrom j half 4) label m in
       let a = used-at half 4 (q .0) (q .1) in
       let p : half + (a .place - half) ≡ a .place = omega (arith, a .from) in
+      let used = reflect-used j (half + (a .place - half)) .sound (ap (isUsed j) p ∙ a .used) in
       reflect-label-in half j label .complete (record {
         which = a .place - half;
         below = omega (arith, a .from, a .until);
-        has = (reflect-used j (half + (a .place - half)) .sound (ap (isUsed j) p ∙ a .used), ap (λ (k : ℕ). entry k .label) p ∙ ap (λ (t : Entry). t .label) (a .is) ∙ sym (q .2));
+        has = (used, ap (λ (k : ℕ). entry k .label) p ∙ ap (λ (t : Entry). t .label) (a .is) ∙ sym (q .2));
       })
 
   pub tape-made : (t : Entry) → makesTape j (t .label) (t .frames) ≡ true → In t (outputTapes j)
@@ -130,10 +131,12 @@ module _ (j : Job) where
   made-tape t m =
       let a = used-at 4 4 t m in
       let p : 4 + (a .place - 4) ≡ a .place = omega (arith, a .from) in
+      let is : entry (4 + (a .place - 4)) ≡ t = ap entry p ∙ a .is in
+      let used = reflect-used j (4 + (a .place - 4)) .sound (ap (isUsed j) p ∙ a .used) in
       reflect-makes j (t .label) (t .frames) .complete (record {
         which = a .place - 4;
         below = omega (arith, a .from, a .until);
-        has = ((reflect-used j (4 + (a .place - 4)) .sound (ap (isUsed j) p ∙ a .used), ap (λ (k : ℕ). entry k .label) p ∙ ap (λ (x : Entry). x .label) (a .is)), ap (λ (k : ℕ). entry k .frames) p ∙ ap (λ (x : Entry). x .frames) (a .is));
+        has = ((used, ap (λ (x : Entry). x .label) is), ap (λ (x : Entry). x .frames) is);
       })
 
   -- ---- a job that repeats no label
@@ -142,7 +145,8 @@ module _ (j : Job) where
   distinct-from none i zero h = tt
   distinct-from none i (suc n) h = by (isUsed j i) refl (distinct-from none (suc i) n (omega arith))
     where
-      by : (b : Bool) → isUsed j i ≡ b → Distinct (labels (usedFrom j (suc i) n)) → Distinct (labels (cond b (entry i ∷ usedFrom j (suc i) n) (usedFrom j (suc i) n)))
+      by : (b : Bool) → isUsed j i ≡ b → Distinct (labels (usedFrom j (suc i) n))
+          → Distinct (labels (cond b (entry i ∷ usedFrom j (suc i) n) (usedFrom j (suc i) n)))
       by false e d = d
       by true e d = (
         (λ (m : In (entry i .label) (labels (usedFrom j (suc i) n))).

@@ -160,3 +160,26 @@ pub fn write(job: Job, out: &mut [u8]) -> bool
     }
     true
 }
+
+// The job's record, read again: it says the same job.
+pub fn reread(job: Job) -> Job
+    ensures { λ r. ⌜ r ≡ job ⌝ }
+{
+    let mut bytes = [0u8; RECORD];
+    write(job, &mut bytes);
+    read(&bytes)
+}
+
+fn again(bytes: &[u8], out: &mut [u8])
+    requires { ⌜ (length (now bytes) ≡ 100) × (length (now out) ≡ 100) ⌝ }
+    ensures { λ _. ⌜ now (out .exit) ≡ now (bytes .entry) ⌝ }
+{
+    write(read(bytes), out);
+}
+
+// The record of the job that the bytes say: it is the same bytes.
+pub fn rewrite(bytes: &[u8; 100], out: &mut [u8; 100])
+    ensures { λ _. ⌜ now (out .exit) ≡ now (bytes .entry) ⌝ }
+{
+    again(bytes, out);
+}

@@ -1,10 +1,8 @@
 // The labels and tapes of a job's two halves, and when two jobs conflict.
 ghost use mathlib.Core.Path.{_≡_};
 ghost use Prim.Native.Nat.{_+_, _≤_};
-ghost use mathlib.Core.Bool.{_&&_};
-ghost use lib.Dec.{eqb};
-ghost use Rattle.record.specs.Entries.{isUsed, labelOf};
-ghost use Rattle.record.specs.Conflicts.{isLabelAt, isTapeAt, halfOf, labelIn, makesTape, sharesAt, sharesIn, conflicting};
+ghost use Rattle.base.specs.Search.{anyBelow};
+ghost use Rattle.record.specs.Conflicts.{isLabelAt, isTapeAt, halfOf, labelIn, makesTape, sharesAt, conflicting};
 use crate::Job;
 use crate::entries;
 
@@ -26,7 +24,7 @@ fn is_label_at(half: usize, job: Job, label: u64, i: usize) -> bool
 
 fn label_in(half: usize, job: Job, label: u64) -> bool
     requires { ⌜ half ≤ 4 ⌝ }
-    ensures { λ r. ⌜ r ≡ labelIn half job label ⌝ }
+    ensures { λ r. ⌜ r ≡ anyBelow 4 (isLabelAt half job label) ⌝ }
 {
     for i in 0..4 {
         if is_label_at(half, job, label, i) {
@@ -88,7 +86,7 @@ fn shares_at(half: usize, a: Job, b: Job, i: usize) -> bool
 
 fn shares_in(half: usize, a: Job, b: Job) -> bool
     requires { ⌜ half ≤ 4 ⌝ }
-    ensures { λ r. ⌜ r ≡ sharesIn half a b ⌝ }
+    ensures { λ r. ⌜ r ≡ anyBelow 4 (sharesAt half a b) ⌝ }
 {
     for i in 0..4 {
         if shares_at(half, a, b, i) {

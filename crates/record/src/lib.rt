@@ -14,6 +14,8 @@ pub use codec::entry_of;
 pub use codec::inputs_of;
 pub use codec::outputs_of;
 pub use codec::read;
+pub use codec::reread;
+pub use codec::rewrite;
 pub use codec::write;
 pub use conflicts::conflict;
 pub use conflicts::lists;

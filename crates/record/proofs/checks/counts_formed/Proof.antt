@@ -1,16 +1,9 @@
 -- Each return is one way through the tests of `countsFormed`.
--- Assumes nothing.
 use borrow.Author.Needs.{needs}
 use Rattle.base.proofs.Tests.{chain}
 use Rattle.record.proofs.checks.counts_formed.Statement.{statement}
 use Rattle.record.specs.Checks.{countsFormed}
 use Rattle.record.proofs.checks.counts_formed.Tie as tie
-
-inputs-formed-requires : tie.Need-inputs-formed-requires
-inputs-formed-requires c κs = search needs
-
-between-requires : tie.Need-between-requires
-between-requires c κs = search needs
 
 returns : tie.Need-returns
 unfolding countsFormed
@@ -21,4 +14,4 @@ unfolding countsFormed
 returns-2 c = search chain depth 8
 
 pub counts-formed-spec : {M : Type 1} → statement M
-counts-formed-spec = tie.close (tie.spec inputs-formed-requires between-requires returns returns-2)
+counts-formed-spec = tie.close (tie.spec (λ c κs. search needs) (λ c κs. search needs) returns returns-2)

@@ -1,17 +1,10 @@
 -- Each return is one way through the tests of `examined`.
--- Assumes nothing.
 use borrow.Author.Needs.{needs}
 use borrow.Author.Tests.{eq-eqb}
 use Rattle.base.proofs.Tests.{chain}
 use Rattle.record.proofs.checks.examine.Statement.{statement}
 use Rattle.record.specs.Checks.{examined}
 use Rattle.record.proofs.checks.examine.Tie as tie
-
-read-requires : tie.Need-read-requires
-read-requires c κs = search needs
-
-check-requires : tie.Need-check-requires
-check-requires c κs = search needs
 
 returns : tie.Need-returns
 unfolding examined
@@ -22,4 +15,4 @@ unfolding examined
 returns-2 c = search chain depth 6
 
 pub examine-spec : {M : Type 1} → statement M
-examine-spec = tie.close (tie.spec read-requires check-requires returns returns-2)
+examine-spec = tie.close (tie.spec (λ c κs. search needs) (λ c κs. search needs) returns returns-2)

@@ -1,20 +1,10 @@
 -- Each return is one way through the tests of `hasLabelOf`.
--- Assumes nothing.
 use mathlib.Core.Path.{_∙_, sym}
 use borrow.Author.Needs.{needs}
 use Rattle.base.proofs.Tests.{chain}
 use Rattle.record.proofs.checks.has_label_of.Statement.{statement}
 use Rattle.record.specs.Checks.{hasLabelOf}
 use Rattle.record.proofs.checks.has_label_of.Tie as tie
-
-used-requires : tie.Need-used-requires
-used-requires c κs = search needs
-
-label-requires : tie.Need-label-requires
-label-requires c κs = search needs
-
-label-requires-2 : tie.Need-label-requires-2
-label-requires-2 c κs = search needs
 
 returns : tie.Need-returns
 unfolding hasLabelOf
@@ -26,4 +16,4 @@ returns-2 c = search chain depth 8
 
 pub has-label-of-spec : {M : Type 1} → statement M
 has-label-of-spec =
-    tie.close (tie.spec used-requires label-requires label-requires-2 returns returns-2)
+    tie.close (tie.spec (λ c κs. search needs) (λ c κs. search needs) (λ c κs. search needs) returns returns-2)

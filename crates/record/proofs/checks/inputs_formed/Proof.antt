@@ -1,5 +1,4 @@
 -- Each return is one way through the tests of `inputsFormed`.
--- Assumes nothing.
 use borrow.Author.Needs.{needs}
 use Rattle.base.proofs.Tests.{chain}
 use Rattle.record.proofs.checks.inputs_formed.Statement.{statement}
@@ -10,9 +9,6 @@ returns : tie.Need-returns
 unfolding inputsFormed
 returns c = search chain depth 8
 
-between-requires : tie.Need-between-requires
-between-requires c κs = search needs
-
 returns-2 : tie.Need-returns-2
 unfolding inputsFormed
 returns-2 c = search chain depth 8
@@ -22,4 +18,4 @@ unfolding inputsFormed
 returns-3 c = search chain depth 8
 
 pub inputs-formed-spec : {M : Type 1} → statement M
-inputs-formed-spec = tie.close (tie.spec returns between-requires returns-2 returns-3)
+inputs-formed-spec = tie.close (tie.spec returns (λ c κs. search needs) returns-2 returns-3)

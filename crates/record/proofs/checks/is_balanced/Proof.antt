@@ -1,17 +1,10 @@
 -- Each return is one way through the tests of `balanced`.
--- Assumes nothing.
 use borrow.Author.Needs.{needs}
 use borrow.Author.Tests.{eq-eqb}
 use Rattle.base.proofs.Tests.{chain}
 use Rattle.record.proofs.checks.is_balanced.Statement.{statement}
 use Rattle.record.specs.Checks.{balanced}
 use Rattle.record.proofs.checks.is_balanced.Tie as tie
-
-total-requires : tie.Need-total-requires
-total-requires c κs = search needs
-
-total-requires-2 : tie.Need-total-requires-2
-total-requires-2 c κs = search needs
 
 returns : tie.Need-returns
 unfolding balanced
@@ -22,4 +15,4 @@ unfolding balanced
 returns-2 c = search chain depth 8
 
 pub is-balanced-spec : {M : Type 1} → statement M
-is-balanced-spec = tie.close (tie.spec total-requires total-requires-2 returns returns-2)
+is-balanced-spec = tie.close (tie.spec (λ c κs. search needs) (λ c κs. search needs) returns returns-2)

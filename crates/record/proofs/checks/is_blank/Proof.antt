@@ -1,17 +1,10 @@
 -- Each return is one way through the tests of `isBlank`.
--- Assumes nothing.
 use mathlib.Core.Path.{_∙_, sym}
 use borrow.Author.Needs.{needs}
 use borrow.Author.Tests.{eq-eqb, ne-eqb}
 use Rattle.record.proofs.checks.is_blank.Statement.{statement}
 use Rattle.record.specs.Checks.{isBlank}
 use Rattle.record.proofs.checks.is_blank.Tie as tie
-
-label-requires : tie.Need-label-requires
-label-requires c κs = search needs
-
-frames-requires : tie.Need-frames-requires
-frames-requires c κs = search needs
 
 returns : tie.Need-returns
 unfolding isBlank
@@ -22,4 +15,4 @@ unfolding isBlank
 returns-2 c = simp (← c .before .label .ensures, ne-eqb _ _ (c .if1 .left))
 
 pub is-blank-spec : {M : Type 1} → statement M
-is-blank-spec = tie.close (tie.spec label-requires frames-requires returns returns-2)
+is-blank-spec = tie.close (tie.spec (λ c κs. search needs) (λ c κs. search needs) returns returns-2)

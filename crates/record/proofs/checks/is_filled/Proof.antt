@@ -1,18 +1,8 @@
 -- Each return is one way through the tests of `isFilled`.
--- Assumes nothing.
 use borrow.Author.Needs.{needs}
 use Rattle.record.proofs.checks.is_filled.Statement.{statement}
 use Rattle.record.specs.Checks.{isFilled}
 use Rattle.record.proofs.checks.is_filled.Tie as tie
-
-label-requires : tie.Need-label-requires
-label-requires c κs = search needs
-
-is-label-requires : tie.Need-is-label-requires
-is-label-requires c κs = search needs
-
-frames-requires : tie.Need-frames-requires
-frames-requires c κs = search needs
 
 returns : tie.Need-returns
 unfolding isFilled
@@ -24,4 +14,4 @@ returns-2 c = simp (← c .before .before .label .ensures, ← c .before .is-lab
 
 pub is-filled-spec : {M : Type 1} → statement M
 is-filled-spec =
-    tie.close (tie.spec label-requires is-label-requires frames-requires returns returns-2)
+    tie.close (tie.spec (λ c κs. search needs) (λ c κs. search needs) (λ c κs. search needs) returns returns-2)

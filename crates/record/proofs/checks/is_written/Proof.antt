@@ -1,5 +1,4 @@
 -- Each return is one way through the tests of `isWritten`.
--- Assumes nothing.
 use Rattle.base.proofs.Tests.{chain}
 use Rattle.record.proofs.checks.is_written.Statement.{statement}
 use Rattle.record.specs.Checks.{isWritten}

@@ -1,16 +1,9 @@
 -- Each return is one way through the tests of `repeatedAt`.
--- Assumes nothing.
 use borrow.Author.Needs.{needs}
 use Rattle.base.proofs.Tests.{chain}
 use Rattle.record.proofs.checks.repeated_at.Statement.{statement}
 use Rattle.record.specs.Checks.{repeatedAt}
 use Rattle.record.proofs.checks.repeated_at.Tie as tie
-
-used-requires : tie.Need-used-requires
-used-requires c κs = search needs
-
-seen-before-requires : tie.Need-seen-before-requires
-seen-before-requires c κs = search needs
 
 returns : tie.Need-returns
 unfolding repeatedAt
@@ -21,4 +14,4 @@ unfolding repeatedAt
 returns-2 c = search chain depth 8
 
 pub repeated-at-spec : {M : Type 1} → statement M
-repeated-at-spec = tie.close (tie.spec used-requires seen-before-requires returns returns-2)
+repeated-at-spec = tie.close (tie.spec (λ c κs. search needs) (λ c κs. search needs) returns returns-2)

@@ -1,19 +1,9 @@
 -- Each return is one way through the tests of `wellFormed`.
--- Assumes nothing.
 use borrow.Author.Needs.{needs}
 use Rattle.base.proofs.Tests.{chain}
 use Rattle.record.proofs.checks.well_formed.Statement.{statement}
 use Rattle.record.specs.Checks.{wellFormed}
 use Rattle.record.proofs.checks.well_formed.Tie as tie
-
-is-drive-requires : tie.Need-is-drive-requires
-is-drive-requires c κs = search needs
-
-counts-formed-requires : tie.Need-counts-formed-requires
-counts-formed-requires c κs = search needs
-
-entries-formed-requires : tie.Need-entries-formed-requires
-entries-formed-requires c κs = search needs
 
 returns : tie.Need-returns
 unfolding wellFormed
@@ -31,9 +21,9 @@ pub well-formed-spec : {M : Type 1} → statement M
 well-formed-spec =
     tie.close
     (tie.spec
-    is-drive-requires
-    counts-formed-requires
-    entries-formed-requires
+    (λ c κs. search needs)
+    (λ c κs. search needs)
+    (λ c κs. search needs)
     returns
     returns-2
     returns-3)

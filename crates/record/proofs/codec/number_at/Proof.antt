@@ -1,5 +1,4 @@
 -- The bytes are taken from the highest down, so what is gathered is always the number of those above k.
--- Assumes nothing.
 use mathlib.Core.Path.{_≡_}
 use Prim.Native.Nat.{_*_, _+_, _-_, _<_, _^_, _≤_, suc}
 use native.Mathlib.Nat.{sub-self}
@@ -22,27 +21,16 @@ abbrev μ-loop : tie.MeasureT-loop
 loop-holds : tie.Need-loop-holds Inv-loop μ-loop
 loop-holds c = (omega arith, (leAt-none _ _ _, rw sub-self (lit< tt)))
 
-sub-k : tie.Need-sub-k Inv-loop μ-loop
-sub-k c = search needs
-
 mul-acc : tie.Need-mul-acc Inv-loop μ-loop
-mul-acc c = let l = c .before .loop in omega (arith, room (l .k) (c .before .before .before .args .count) (l .acc) (c .loop-test .taken) (c .before .before .before .pre .1) (l .inv .1 .1))
-
-add-byte-at : tie.Need-add-byte-at Inv-loop μ-loop
-add-byte-at c = search needs
-
-byte-at-requires : tie.Need-byte-at-requires Inv-loop μ-loop
-byte-at-requires c κs = search needs
-
-cast-acc : tie.Need-cast-acc Inv-loop μ-loop
-cast-acc c = search needs
+mul-acc c =
+    let l = c .before .loop in
+    omega (arith, room (l .k) (c .before .before .before .args .count) (l .acc) (c .loop-test .taken) (c .before .before .before .pre .1) (l .inv .1 .1))
 
 add-acc : tie.Need-add-acc Inv-loop μ-loop
-add-acc c = let l = c .before .before .loop in
-    omega (arith, room (l .k) (c .before .before .before .before .args .count) (l .acc) (c .before .loop-test .taken) (c .before .before .before .before .pre .1) (l .inv .1 .1), c .byte-at .ok)
-
-loop-less : tie.Need-loop-less Inv-loop μ-loop
-loop-less c = search needs
+add-acc c =
+    let l = c .before .before .loop in
+    let s = c .before .before .before .before in
+    omega (arith, room (l .k) (s .args .count) (l .acc) (c .before .loop-test .taken) (s .pre .1) (l .inv .1 .1), c .byte-at .ok)
 
 loop-again : tie.Need-loop-again Inv-loop μ-loop
 loop-again c =
@@ -59,7 +47,8 @@ loop-again c =
 returns : tie.Need-returns Inv-loop μ-loop
 returns c =
     let l = c .before .loop in
-    (leAt-all _ _ (l .k) _ _ (c .loop-test .left) (l .inv .1 .0), omega (arith, pow-mono {i = 8 * (c .before .before .before .args .count - l .k)} {j = 8 * c .before .before .before .args .count} (omega arith)))
+    let count = c .before .before .before .args .count in
+    (leAt-all _ _ (l .k) _ _ (c .loop-test .left) (l .inv .1 .0), omega (arith, pow-mono {i = 8 * (count - l .k)} {j = 8 * count} (omega arith)))
 
 pub number-at-spec : {M : Type 1} → statement M
 number-at-spec =
@@ -68,12 +57,12 @@ number-at-spec =
     Inv-loop
     μ-loop
     loop-holds
-    sub-k
+    (λ c. search needs)
     mul-acc
-    add-byte-at
-    byte-at-requires
-    cast-acc
+    (λ c. search needs)
+    (λ c κs. search needs)
+    (λ c. search needs)
     add-acc
-    loop-less
+    (λ c. search needs)
     loop-again
     returns)

@@ -1,5 +1,4 @@
 -- Each turn stores the lowest byte of what remains, and what is stored with what remains is the whole number.
--- Assumes nothing.
 use mathlib.Core.Path.{_∙_, _≡_, refl}
 use Prim.Native.Nat.{_+_, _-_, _≤_}
 use native.Mathlib.Nat.{add-zero, sub-zero}
@@ -13,7 +12,8 @@ use Rattle.record.specs.Codec.{leBytes}
 use Rattle.record.proofs.codec.put_number.Tie as tie
 
 abbrev Inv-loop : tie.InvT-loop
-Inv-loop out₀ at count value v₀ k₀ out v k = (k ≤ count) × ((length out ≡ length out₀) × (sets out (at + k) (leBytes (count - k) v) ≡ sets out₀ at (leBytes count value)))
+Inv-loop out₀ at count value v₀ k₀ out v k =
+    (k ≤ count) × ((length out ≡ length out₀) × (sets out (at + k) (leBytes (count - k) v) ≡ sets out₀ at (leBytes count value)))
 
 abbrev μ-loop : tie.MeasureT-loop
 μ-loop out₀ at count value v₀ k₀ out v k = count - k
@@ -21,29 +21,11 @@ abbrev μ-loop : tie.MeasureT-loop
 loop-holds : tie.Need-loop-holds Inv-loop μ-loop
 loop-holds c = (omega arith, (refl, rw (add-zero, sub-zero)))
 
-cast-out : tie.Need-cast-out Inv-loop μ-loop
-cast-out c = search needs
-
-add-out : tie.Need-add-out Inv-loop μ-loop
-add-out c = search needs
-
-slice-write-out : tie.Need-slice-write-out Inv-loop μ-loop
-slice-write-out c = search needs
-
-add-k : tie.Need-add-k Inv-loop μ-loop
-add-k c = search needs
-
-loop-less : tie.Need-loop-less Inv-loop μ-loop
-loop-less c = search needs
-
 loop-again : tie.Need-loop-again Inv-loop μ-loop
 loop-again c =
     let l = c .before .loop in
     let a = c .before .before .args in
     (omega arith, (simp length-set (l .inv .1 .0), put-step (l .out) (a .at) (l .k) (a .count) (l .v) (c .loop-test .taken) ∙ l .inv .1 .1))
-
-same-length : tie.Need-same-length Inv-loop μ-loop
-same-length c = search needs
 
 returns : tie.Need-returns Inv-loop μ-loop
 unfolding leBytes
@@ -56,11 +38,11 @@ put-number-spec =
     Inv-loop
     μ-loop
     loop-holds
-    cast-out
-    add-out
-    slice-write-out
-    add-k
-    loop-less
+    (λ c. search needs)
+    (λ c. search needs)
+    (λ c. search needs)
+    (λ c. search needs)
+    (λ c. search needs)
     loop-again
-    same-length
+    (λ c. search needs)
     returns)

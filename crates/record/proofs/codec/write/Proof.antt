@@ -1,5 +1,4 @@
 -- Each turn stores one entry, and what is stored with what remains is the whole record. A buffer too short is not touched.
--- Assumes nothing.
 use mathlib.Core.Path.{_∙_, _≡_, refl, sym}
 use Prim.Native.Nat.{_*_, _+_, _-_, _≤_}
 use native.Mathlib.Omega.{arith}
@@ -14,7 +13,10 @@ use Rattle.record.specs.Codec.{bytesOf, entriesBytes, fitsRecord, writte
 use Rattle.record.proofs.codec.write.Tie as tie
 
 abbrev Inv-loop : tie.InvT-loop
-Inv-loop out₀ job i₀ out i = (i ≤ 8) × ((length out ≡ length out₀) × ((100 ≤ length out₀) × (sets out (4 + 12 * i) (entriesBytes (drop i (job .entries))) ≡ sets out₀ 4 (entriesBytes (job .entries)))))
+Inv-loop out₀ job i₀ out i =
+    (i ≤ 8)
+    × ((length out ≡ length out₀)
+    × ((100 ≤ length out₀) × (sets out (4 + 12 * i) (entriesBytes (drop i (job .entries))) ≡ sets out₀ 4 (entriesBytes (job .entries)))))
 
 abbrev μ-loop : tie.MeasureT-loop
 μ-loop out₀ job i₀ out i = 8 - i
@@ -23,41 +25,8 @@ returns : tie.Need-returns Inv-loop μ-loop
 unfolding written fitsRecord
 returns c = (sym (lt-leb _ _ (c .if1 .taken)), simp (lt-leb _ _ (c .if1 .taken)))
 
-slice-write-out : tie.Need-slice-write-out Inv-loop μ-loop
-slice-write-out c = search needs
-
-slice-write-out-2 : tie.Need-slice-write-out-2 Inv-loop μ-loop
-slice-write-out-2 c = simp length-set (omega arith)
-
-slice-write-out-3 : tie.Need-slice-write-out-3 Inv-loop μ-loop
-slice-write-out-3 c = simp length-set (omega arith)
-
-slice-write-out-4 : tie.Need-slice-write-out-4 Inv-loop μ-loop
-slice-write-out-4 c = simp length-set (omega arith)
-
 loop-holds : tie.Need-loop-holds Inv-loop μ-loop
 loop-holds c = (omega arith, (refl, (simp length-set (c .if1 .left), refl)))
-
-mul-put-entry : tie.Need-mul-put-entry Inv-loop μ-loop
-mul-put-entry c = search needs
-
-add-put-entry : tie.Need-add-put-entry Inv-loop μ-loop
-add-put-entry c = search needs
-
-mul-put-entry-2 : tie.Need-mul-put-entry-2 Inv-loop μ-loop
-mul-put-entry-2 c = search needs
-
-element-copy-out-put-entry : tie.Need-element-copy-out-put-entry Inv-loop μ-loop
-element-copy-out-put-entry c = search needs
-
-put-entry-requires : tie.Need-put-entry-requires Inv-loop μ-loop
-put-entry-requires c κs = search needs
-
-add-i : tie.Need-add-i Inv-loop μ-loop
-add-i c = search needs
-
-loop-less : tie.Need-loop-less Inv-loop μ-loop
-loop-less c = search needs
 
 loop-again : tie.Need-loop-again Inv-loop μ-loop
 loop-again c =
@@ -87,18 +56,18 @@ write-spec =
     Inv-loop
     μ-loop
     returns
-    slice-write-out
-    slice-write-out-2
-    slice-write-out-3
-    slice-write-out-4
+    (λ c. search needs)
+    (λ c. simp length-set (omega arith))
+    (λ c. simp length-set (omega arith))
+    (λ c. simp length-set (omega arith))
     loop-holds
-    mul-put-entry
-    add-put-entry
-    mul-put-entry-2
-    element-copy-out-put-entry
-    put-entry-requires
-    add-i
-    loop-less
+    (λ c. search needs)
+    (λ c. search needs)
+    (λ c. search needs)
+    (λ c. search needs)
+    (λ c κs. search needs)
+    (λ c. search needs)
+    (λ c. search needs)
     loop-again
     same-length
     returns-2)

@@ -1,23 +1,10 @@
 -- Each return is one way through the tests of `isLabelAt`.
--- Assumes nothing.
 use mathlib.Core.Path.{_∙_, sym}
 use borrow.Author.Needs.{needs}
 use Rattle.base.proofs.Tests.{chain}
 use Rattle.record.proofs.conflicts.is_label_at.Statement.{statement}
 use Rattle.record.specs.Conflicts.{isLabelAt}
 use Rattle.record.proofs.conflicts.is_label_at.Tie as tie
-
-add-used : tie.Need-add-used
-add-used c = search needs
-
-used-requires : tie.Need-used-requires
-used-requires c κs = search needs
-
-add-label : tie.Need-add-label
-add-label c = search needs
-
-label-requires : tie.Need-label-requires
-label-requires c κs = search needs
 
 returns : tie.Need-returns
 unfolding isLabelAt
@@ -29,4 +16,4 @@ returns-2 c = search chain depth 8
 
 pub is-label-at-spec : {M : Type 1} → statement M
 is-label-at-spec =
-    tie.close (tie.spec add-used used-requires add-label label-requires returns returns-2)
+    tie.close (tie.spec (λ c. search needs) (λ c κs. search needs) (λ c. search needs) (λ c κs. search needs) returns returns-2)

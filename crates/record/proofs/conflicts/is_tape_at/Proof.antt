@@ -1,20 +1,10 @@
 -- Each return is one way through the tests of `isTapeAt`.
--- Assumes nothing.
 use mathlib.Core.Path.{_∙_, sym}
 use borrow.Author.Needs.{needs}
 use Rattle.base.proofs.Tests.{chain}
 use Rattle.record.proofs.conflicts.is_tape_at.Statement.{statement}
 use Rattle.record.specs.Conflicts.{isTapeAt}
 use Rattle.record.proofs.conflicts.is_tape_at.Tie as tie
-
-is-label-at-requires : tie.Need-is-label-at-requires
-is-label-at-requires c κs = search needs
-
-add-frames : tie.Need-add-frames
-add-frames c = search needs
-
-frames-requires : tie.Need-frames-requires
-frames-requires c κs = search needs
 
 returns : tie.Need-returns
 unfolding isTapeAt
@@ -26,4 +16,4 @@ returns-2 c = search chain depth 8
 
 pub is-tape-at-spec : {M : Type 1} → statement M
 is-tape-at-spec =
-    tie.close (tie.spec is-label-at-requires add-frames frames-requires returns returns-2)
+    tie.close (tie.spec (λ c κs. search needs) (λ c. search needs) (λ c κs. search needs) returns returns-2)

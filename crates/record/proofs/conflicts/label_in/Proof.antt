@@ -1,5 +1,4 @@
 -- The loop's invariant: no number before the present one passes, so it returns at the first that does.
--- Assumes nothing.
 use mathlib.Core.Bool.{false}
 use mathlib.Core.Path.{_≡_}
 use Prim.Native.Nat.{_-_, _≤_}
@@ -7,48 +6,24 @@ use borrow.Author.Needs.{needs}
 use Rattle.base.proofs.Search.{searches}
 use Rattle.base.specs.Search.{anyBelow}
 use Rattle.record.proofs.conflicts.label_in.Statement.{statement}
-use Rattle.record.specs.Conflicts.{isLabelAt, labelIn}
+use Rattle.record.specs.Conflicts.{isLabelAt}
 use Rattle.record.proofs.conflicts.label_in.Tie as tie
+
+ruleset by = (searches, needs)
 
 abbrev Inv-loop : tie.InvT-loop
 Inv-loop half job label i₀ i = (half ≤ 4) × ((i ≤ 4) × (anyBelow i (isLabelAt half job label) ≡ false))
-
-abbrev μ-loop : tie.MeasureT-loop
-μ-loop half job label i₀ i = 4 - i
-
-loop-holds : tie.Need-loop-holds Inv-loop μ-loop
-loop-holds c = search (searches, needs) depth 8
-
-is-label-at-requires : tie.Need-is-label-at-requires Inv-loop μ-loop
-is-label-at-requires c κs = search (searches, needs) depth 8
-
-returns : tie.Need-returns Inv-loop μ-loop
-unfolding labelIn
-returns c = search (searches, needs) depth 8
-
-add-i : tie.Need-add-i Inv-loop μ-loop
-add-i c = search (searches, needs) depth 8
-
-loop-less : tie.Need-loop-less Inv-loop μ-loop
-loop-less c = search (searches, needs) depth 8
-
-loop-again : tie.Need-loop-again Inv-loop μ-loop
-loop-again c = search (searches, needs) depth 8
-
-returns-2 : tie.Need-returns-2 Inv-loop μ-loop
-unfolding labelIn
-returns-2 c = search (searches, needs) depth 8
 
 pub label-in-spec : {M : Type 1} → statement M
 label-in-spec =
     tie.close
     (tie.spec
     Inv-loop
-    μ-loop
-    loop-holds
-    is-label-at-requires
-    returns
-    add-i
-    loop-less
-    loop-again
-    returns-2)
+    (λ half job label i₀ i. 4 - i)
+    (λ c. search by depth 8)
+    (λ c κs. search by depth 8)
+    (λ c. search by depth 8)
+    (λ c. search by depth 8)
+    (λ c. search by depth 8)
+    (λ c. search by depth 8)
+    (λ c. search by depth 8))

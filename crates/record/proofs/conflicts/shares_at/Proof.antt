@@ -1,29 +1,13 @@
 -- Each return is one way through the tests of `sharesAt`.
--- Assumes nothing.
 use mathlib.Core.Path.{_∙_, sym}
 use borrow.Author.Needs.{needs}
 use Rattle.base.proofs.Tests.{chain}
 use Rattle.record.proofs.conflicts.shares_at.Statement.{statement}
-use Rattle.record.specs.Conflicts.{sharesAt}
+use Rattle.record.specs.Conflicts.{labelIn, sharesAt}
 use Rattle.record.proofs.conflicts.shares_at.Tie as tie
 
-add-used : tie.Need-add-used
-add-used c = search needs
-
-used-requires : tie.Need-used-requires
-used-requires c κs = search needs
-
-add-label : tie.Need-add-label
-add-label c = search needs
-
-label-requires : tie.Need-label-requires
-label-requires c κs = search needs
-
-label-in-requires : tie.Need-label-in-requires
-label-in-requires c κs = search needs
-
 returns : tie.Need-returns
-unfolding sharesAt
+unfolding sharesAt labelIn
 returns c = simp (sym (c .before .before .before .used .ensures) ∙ c .before .before .if1 .taken, c .label-in .ensures, c .before .label .ensures)
 
 returns-2 : tie.Need-returns-2
@@ -33,4 +17,4 @@ returns-2 c = search chain depth 8
 pub shares-at-spec : {M : Type 1} → statement M
 shares-at-spec =
     tie.close
-    (tie.spec add-used used-requires add-label label-requires label-in-requires returns returns-2)
+    (tie.spec (λ c. search needs) (λ c κs. search needs) (λ c. search needs) (λ c κs. search needs) (λ c κs. search needs) returns returns-2)

@@ -1,5 +1,4 @@
 -- The loop's invariant: no number before the present one passes, so it returns at the first that does.
--- Assumes nothing.
 use mathlib.Core.Bool.{false}
 use mathlib.Core.Path.{_≡_}
 use Prim.Native.Nat.{_-_, _≤_}
@@ -7,8 +6,10 @@ use borrow.Author.Needs.{needs}
 use Rattle.base.proofs.Search.{searches}
 use Rattle.base.specs.Search.{anyBelow}
 use Rattle.record.proofs.conflicts.shares_in.Statement.{statement}
-use Rattle.record.specs.Conflicts.{sharesAt, sharesIn}
+use Rattle.record.specs.Conflicts.{sharesAt}
 use Rattle.record.proofs.conflicts.shares_in.Tie as tie
+
+ruleset by = (searches, needs)
 
 abbrev Inv-loop : tie.InvT-loop
 Inv-loop half a b i₀ i = (half ≤ 4) × ((i ≤ 4) × (anyBelow i (sharesAt half a b) ≡ false))
@@ -16,39 +17,16 @@ Inv-loop half a b i₀ i = (half ≤ 4) × ((i ≤ 4) × (anyBelow i (sharesAt h
 abbrev μ-loop : tie.MeasureT-loop
 μ-loop half a b i₀ i = 4 - i
 
-loop-holds : tie.Need-loop-holds Inv-loop μ-loop
-loop-holds c = search (searches, needs) depth 8
-
-shares-at-requires : tie.Need-shares-at-requires Inv-loop μ-loop
-shares-at-requires c κs = search (searches, needs) depth 8
-
-returns : tie.Need-returns Inv-loop μ-loop
-unfolding sharesIn
-returns c = search (searches, needs) depth 8
-
-add-i : tie.Need-add-i Inv-loop μ-loop
-add-i c = search (searches, needs) depth 8
-
-loop-less : tie.Need-loop-less Inv-loop μ-loop
-loop-less c = search (searches, needs) depth 8
-
-loop-again : tie.Need-loop-again Inv-loop μ-loop
-loop-again c = search (searches, needs) depth 8
-
-returns-2 : tie.Need-returns-2 Inv-loop μ-loop
-unfolding sharesIn
-returns-2 c = search (searches, needs) depth 8
-
 pub shares-in-spec : {M : Type 1} → statement M
 shares-in-spec =
     tie.close
     (tie.spec
     Inv-loop
     μ-loop
-    loop-holds
-    shares-at-requires
-    returns
-    add-i
-    loop-less
-    loop-again
-    returns-2)
+    (λ c. search by depth 8)
+    (λ c κs. search by depth 8)
+    (λ c. search by depth 8)
+    (λ c. search by depth 8)
+    (λ c. search by depth 8)
+    (λ c. search by depth 8)
+    (λ c. search by depth 8))
