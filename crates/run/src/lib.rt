@@ -87,11 +87,10 @@ pub fn advance(
         if steps::asks_age(kind) {
             let settings = ledger.settings;
             let vaults = ledger.vaults;
-            let order = ledger.order;
             let outcome = steps::age(
                 settings,
                 vaults,
-                &order,
+                &ledger.order,
                 ledger.arrivals,
                 &numbers[..],
                 &sets[..],

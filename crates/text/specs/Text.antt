@@ -30,9 +30,9 @@ lineOf step number value = decimal step ++ (32 ∷ (decimal number ++ (32 ∷ (d
 abbrev pub lineFor : ℕ → Outcome → List ℕ
 lineFor step outcome = lineOf step (numberOf outcome) (valueOf outcome)
 
--- ten digits at most for the step and for the value, four for the number, two spaces and the line's end
+-- six digits at most for the step, four for the number and ten for the value, two spaces and the line's end
 abbrev pub longestLine : ℕ
-longestLine = 27
+longestLine = 23
 
 -- the text was written at the cursor, which moved on by its length
 pub record Put (before : List ℕ) (at : ℕ) (text after : List ℕ) (r : ℕ) : Type 0 where

@@ -45,7 +45,7 @@ pub(crate) fn write_some(out: &mut [u8], at: usize, n: u32) -> usize
 }
 
 // Six digits at most.
-fn write_many(out: &mut [u8], at: usize, n: u32) -> usize
+pub(crate) fn write_many(out: &mut [u8], at: usize, n: u32) -> usize
     requires { ⌜ (n < 1000000) × (at + 6 ≤ length (now out)) ⌝ }
     ensures { λ r. ⌜ Put (now (out .entry)) at (decimal n) (now (out .exit)) r × (r ≤ at + 6) ⌝ }
 {
@@ -68,14 +68,25 @@ fn write_most(out: &mut [u8], at: usize, n: u32) -> usize
     write_two(out, next, n % 100)
 }
 
-// Any number: ten digits at most.
+// Ten digits at most.
+fn write_large(out: &mut [u8], at: usize, n: u32) -> usize
+    requires { ⌜ at + 10 ≤ length (now out) ⌝ }
+    ensures { λ r. ⌜ Put (now (out .entry)) at (decimal n) (now (out .exit)) r × (r ≤ at + 10) ⌝ }
+{
+    if n < 10000 {
+        return write_some(out, at, n);
+    }
+    let next = write_most(out, at, n / 100);
+    write_two(out, next, n % 100)
+}
+
+// Any number. Most have one digit or two, and are written without a call.
 pub(crate) fn write_number(out: &mut [u8], at: usize, n: u32) -> usize
     requires { ⌜ at + 10 ≤ length (now out) ⌝ }
     ensures { λ r. ⌜ Put (now (out .entry)) at (decimal n) (now (out .exit)) r × (r ≤ at + 10) ⌝ }
 {
-    if n < 1000000 {
-        return write_many(out, at, n);
+    if n < 100 {
+        return write_few(out, at, n);
     }
-    let next = write_most(out, at, n / 100);
-    write_two(out, next, n % 100)
+    write_large(out, at, n)
 }

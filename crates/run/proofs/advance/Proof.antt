@@ -67,20 +67,20 @@ add-count : tie.Need-add-count Inv-loop μ-loop
 add-count c = omega arith
 
 age-requires : tie.Need-age-requires Inv-loop μ-loop
-age-requires c κs = let k = c .before .before .before .before .before .before .before .before .before .before .before .before .before .loop .inv .turn .kept in (k .sane .lawful .vaults, ready _ _ _ _ _ _ k)
+age-requires c κs = let k = c .before .before .before .before .before .before .before .before .before .before .before .before .before .before .loop .inv .turn .kept in (k .sane .lawful .vaults, ready _ _ _ _ _ _ k)
 
 write-line-requires : tie.Need-write-line-requires Inv-loop μ-loop
-write-line-requires c κs = omega arith
+write-line-requires c κs = let t = c .before .before .before .before .before .before .before .before .before .before .before .before .before .before .before .before .before .before .loop .inv .turn in (omega (arith, t .few, t .steps), omega arith)
 
 loop-less : tie.Need-loop-less Inv-loop μ-loop
-loop-less c = omega (arith, c .before .before .before .before .before .before .before .before .before .before .before .before .before .before .before .before .before .step-at .ensures .onward, c .before .before .before .before .before .before .before .before .before .before .before .before .before .before .before .before .before .step-at .ensures .inside)
+loop-less c = omega (arith, c .before .before .before .before .before .before .before .before .before .before .before .before .before .before .before .before .before .before .step-at .ensures .onward, c .before .before .before .before .before .before .before .before .before .before .before .before .before .before .before .before .before .before .step-at .ensures .inside)
 
 loop-again : tie.Need-loop-again Inv-loop μ-loop
 loop-again c =
-    let h = c .before .before .before .before .before .before .before .before .before .before .before .before .before .before .before .before .before .before .before .before .loop .inv in
-    let r = c .before .before .before .before .before .before .before .before .before .before .before .before .before .before .before .before .before .step-at .ensures in
+    let h = c .before .before .before .before .before .before .before .before .before .before .before .before .before .before .before .before .before .before .before .before .before .loop .inv in
+    let r = c .before .before .before .before .before .before .before .before .before .before .before .before .before .before .before .before .before .before .step-at .ensures in
     record {
-      turn = turn-age (h .turn) (c .before .before .before .before .before .before .before .before .before .before .before .before .before .before .before .before .before .before .before .loop-test .taken) _ r _ _ _ _ _ (c .before .before .before .before .before .before .before .before .before .before .before .before .before .before .before .before .asks-age .ensures) (c .before .before .before .before .before .before .before .before .before .before .before .before .before .before .before .if2 .taken) (c .before .before .before .before .before .before .age .ensures) (c .before .before .write-line .ensures .0) (c .before .before .write-line .ensures .1) (omega arith) (search needs);
+      turn = turn-age (h .turn) (c .before .before .before .before .before .before .before .before .before .before .before .before .before .before .before .before .before .before .before .before .loop-test .taken) _ r _ _ _ _ _ (c .before .before .before .before .before .before .before .before .before .before .before .before .before .before .before .before .before .asks-age .ensures) (c .before .before .before .before .before .before .before .before .before .before .before .before .before .before .before .before .if2 .taken) (c .before .before .before .before .before .before .age .ensures) (c .before .before .write-line .ensures .0) (c .before .before .write-line .ensures .1) (omega arith) (search needs);
       same-memo = search needs;
       same-journal = search needs;
       same-numbers = search needs;
@@ -93,7 +93,7 @@ decide-requires : tie.Need-decide-requires Inv-loop μ-loop
 decide-requires c κs = (c .before .before .before .before .before .before .before .before .before .before .step-at .ensures .asked, c .before .before .before .before .before .before .before .before .before .before .before .before .before .loop .inv .turn .kept .indexed)
 
 write-line-requires-2 : tie.Need-write-line-requires-2 Inv-loop μ-loop
-write-line-requires-2 c κs = omega arith
+write-line-requires-2 c κs = let t = c .before .before .before .before .before .before .before .before .before .before .before .before .before .before .before .loop .inv .turn in (omega (arith, t .few, t .steps), omega arith)
 
 loop-less-2 : tie.Need-loop-less-2 Inv-loop μ-loop
 loop-less-2 c = omega (arith, c .before .before .before .before .before .before .before .before .before .before .before .before .before .before .before .before .before .step-at .ensures .onward, c .before .before .before .before .before .before .before .before .before .before .before .before .before .before .before .before .before .step-at .ensures .inside)
@@ -165,7 +165,6 @@ advance-spec =
     add-start
     add-count
     (λ c κs. search needs)
-    (λ c. search needs)
     age-requires
     write-line-requires
     loop-less
