@@ -3,7 +3,8 @@ use mathlib.Core.Path.{_≡_, refl}
 use lib.Count.{ones}
 use Rattle.base.specs.Lists.{sameList}
 use Rattle.base.specs.Search.{allBelow, anyBelow, firstBelow, sumFrom}
-use Rattle.record.specs.Checks.{balanced, checkOf, countsFormed, entryFormed, examined, hasLabelOf, inputsFormed, isBlank, isFilled, isWritten, repeatedAt, unsupportedAt, wellFormed}
+use Rattle.record.specs.Checks.{balanced, checkOf, countsFormed, entryFormed, examined, hasLabelOf, inputsFormed, isBlank}
+use Rattle.record.specs.Checks.{isFilled, isWritten, repeatedAt, unsupportedAt, wellFormed}
 use Rattle.record.specs.Codec.{entriesAt, entryAt, jobOf, leAt}
 use Rattle.record.specs.Drives.{isDrive, supports}
 use Rattle.record.specs.Entries.{framesOf, isUsed, labelOf, usedFrames}
@@ -18,5 +19,8 @@ use Rattle.draw.specs.Draw.{drawOf, failing, thousandths}
 use Rattle.cases.specs.Table.{answered, given, table}
 
 pub cases : answered table ≡ given table
-unfolding sameList anyBelow allBelow firstBelow sumFrom inputsFormed countsFormed isFilled isBlank entryFormed wellFormed hasLabelOf repeatedAt isWritten unsupportedAt balanced checkOf examined leAt entryAt entriesAt jobOf isDrive supports labelOf framesOf isUsed usedFrames isBetween charAt isAlphanumeric mediumOf isLabel isLawful thresholdOf equalAt equalIn hasRoom insideOf slotAt booking isSane newLedger applied placing settling proposal newOf proposeDecision proposeOf saneGate choose factorial drawOf failing thousandths ones
+unfolding sameList anyBelow allBelow firstBelow sumFrom inputsFormed countsFormed isFilled isBlank entryFormed wellFormed hasLabelOf repeatedAt
+    isWritten unsupportedAt balanced checkOf examined leAt entryAt entriesAt jobOf isDrive supports labelOf framesOf isUsed usedFrames isBetween
+    charAt isAlphanumeric mediumOf isLabel isLawful thresholdOf equalAt equalIn hasRoom insideOf slotAt booking isSane newLedger applied placing
+    settling proposal newOf proposeDecision proposeOf saneGate choose factorial drawOf failing thousandths ones
 cases = refl

@@ -51,7 +51,8 @@ fn named(name: &[u8], vault: u8, job: u8) {
 }
 
 pub fn propose(l: Ledger, journal: &mut [u8], name: &[u8], job: Job) -> Ledger
-    ensures { λ r. ⌜ (r ≡ proposeOf l (now (journal .entry)) (written job (replicate 100 0)) .ledger) × (now (journal .exit) ≡ journalAfter l (now (journal .entry)) (written job (replicate 100 0))) ⌝ }
+    ensures { λ r. ⌜ r ≡ proposeOf l (now (journal .entry)) (written job (replicate 100 0)) .ledger ⌝ }
+    ensures { λ _. ⌜ now (journal .exit) ≡ journalAfter l (now (journal .entry)) (written job (replicate 100 0)) ⌝ }
 {
     let mut bytes = [0u8; 100];
     record::write(job, &mut bytes);

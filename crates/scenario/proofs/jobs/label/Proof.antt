@@ -33,7 +33,8 @@ loop-again c =
     let n : 8 - (l .k - 1) ≡ suc (8 - l .k) = omega arith in
     let z : 0 + (l .k - 1) ≡ l .k - 1 = omega arith in
     let w = c .wide .ensures in
-    let down = leAt-down (now (c .before .before .before .before .args .s)) 0 (l .k) 8 (l .sum) (c .before .before .loop-test .taken) (l .inv .0) (l .inv .1 .0) in (
+    let s = now (c .before .before .before .before .args .s) in
+    let down = leAt-down s 0 (l .k) 8 (l .sum) (c .before .before .loop-test .taken) (l .inv .0) (l .inv .1 .0) in (
       omega arith,
       (
         rw (w .0) (rw z (rw z at down)),
