@@ -161,7 +161,15 @@ fn certificate(settings: Settings, recorded: u16, signers: u16) -> Verdict
     Verdict::Pass
 }
 
-fn certify(settings: Settings, state: Vault, recorded: u16, acknowledgers: u16, vault: u8, job: usize, signers: u16) -> Decision
+fn certify(
+    settings: Settings,
+    state: Vault,
+    recorded: u16,
+    acknowledgers: u16,
+    vault: u8,
+    job: usize,
+    signers: u16,
+) -> Decision
     ensures { λ r. ⌜ r ≡ committing settings state recorded acknowledgers vault job signers ⌝ }
 {
     let verdict = certificate(settings, recorded, signers);
@@ -184,7 +192,15 @@ pub fn commit(
     ensures { λ r. ⌜ r ≡ gated gate (committing settings state recorded acknowledgers vault job signers) ⌝ }
 {
     match gate {
-        Verdict::Pass => certify(settings, state, recorded, acknowledgers, vault, job, signers),
+        Verdict::Pass => certify(
+            settings,
+            state,
+            recorded,
+            acknowledgers,
+            vault,
+            job,
+            signers,
+        ),
         Verdict::Fail(why) => refuse(why),
     }
 }
@@ -325,16 +341,7 @@ pub fn generations(
     ensures { λ r. ⌜ Aged settings vaults (now (order .entry)) arrivals (now (journal .entry)) booked (now (memo .exit)) job r ⌝ }
 {
     if is_held(settings, vaults, job) {
-        return answer(generations::age(
-            journal,
-            booked,
-            numbers,
-            sets,
-            order,
-            arrivals,
-            memo,
-            job,
-        ));
+        return answer(generations::age(journal, booked, numbers, sets, order, arrivals, memo, job));
     }
     refuse(Refusal::NotHeld)
 }

@@ -29,7 +29,14 @@ fn propose(journal: &[u8], booked: usize, bytes: &[u8]) -> Decision
     decisions::propose(&records, journal, booked, bytes)
 }
 
-fn preflight(state: Vault, journal: &[u8], booked: usize, signers: u16, vault: u8, job: usize) -> Decision
+fn preflight(
+    state: Vault,
+    journal: &[u8],
+    booked: usize,
+    signers: u16,
+    vault: u8,
+    job: usize,
+) -> Decision
     requires { ⌜ (booked ≤ 128) × Booked (now journal) booked job ⌝ }
     ensures { λ r. ⌜ r ≡ preflighting state (now (journal .entry)) booked signers vault job ⌝ }
 {
@@ -50,7 +57,15 @@ fn preflight(state: Vault, journal: &[u8], booked: usize, signers: u16, vault: u
     )
 }
 
-fn generations(settings: Settings, vaults: [Vault; 16], order: &[u8], arrivals: usize, journal: &[u8], booked: usize, job: usize) -> Decision
+fn generations(
+    settings: Settings,
+    vaults: [Vault; 16],
+    order: &[u8],
+    arrivals: usize,
+    journal: &[u8],
+    booked: usize,
+    job: usize,
+) -> Decision
     requires { ⌜ (settings .n ≤ 16) × (arrivals ≤ 128) × (length (now order) ≡ 128) × (booked ≤ 128) × Booked (now journal) booked job ⌝ }
     ensures { λ r. ⌜ r ≡ ageing (isHeld settings vaults job) (ageIn (jobAt (now (journal .entry)) booked) (now (order .entry)) arrivals job) ⌝ }
 {
@@ -115,7 +130,15 @@ impl Ledger {
                 let settings = self.settings;
                 let vaults = self.vaults;
                 let order = self.order;
-                generations(settings, vaults, &order, self.arrivals, journal, self.booked, job as usize).outcome
+                generations(
+                    settings,
+                    vaults,
+                    &order,
+                    self.arrivals,
+                    journal,
+                    self.booked,
+                    job as usize,
+                ).outcome
             }
             Verdict::Fail(why) => Outcome::Refused(why),
         }

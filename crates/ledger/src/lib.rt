@@ -1,8 +1,8 @@
 // The custody ledger: the vaults' sets of jobs, the recorded signatures and acknowledgements, and one operation for each
 // kind of step. Every operation takes any arguments and any journal; its promise is one equation with a definition of
 // specs/Steps.antt, refused steps included. A step is decided from small pieces, and what it changes is applied in one place.
-mod books;
 mod booking;
+mod books;
 pub mod decisions;
 mod indexed;
 mod steps;

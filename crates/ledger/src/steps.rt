@@ -102,7 +102,12 @@ impl Ledger {
         match gate {
             Verdict::Pass => {
                 let j = job as usize;
-                let decision = decisions::cast(gate, self.signatures[j], vault, Change::RecordSignature);
+                let decision = decisions::cast(
+                    gate,
+                    self.signatures[j],
+                    vault,
+                    Change::RecordSignature,
+                );
                 self.carry(decision, vault, job)
             }
             Verdict::Fail(why) => self.turn_back(why),
@@ -117,7 +122,12 @@ impl Ledger {
         match gate {
             Verdict::Pass => {
                 let j = job as usize;
-                let decision = decisions::cast(gate, self.acknowledgements[j], vault, Change::RecordAcknowledgement);
+                let decision = decisions::cast(
+                    gate,
+                    self.acknowledgements[j],
+                    vault,
+                    Change::RecordAcknowledgement,
+                );
                 self.carry(decision, vault, job)
             }
             Verdict::Fail(why) => self.turn_back(why),
@@ -133,7 +143,12 @@ impl Ledger {
             Verdict::Pass => {
                 let j = job as usize;
                 let settings = self.settings;
-                decisions::show(gate, settings, self.signatures[j], self.acknowledgements[j]).outcome
+                decisions::show(
+                    gate,
+                    settings,
+                    self.signatures[j],
+                    self.acknowledgements[j],
+                ).outcome
             }
             Verdict::Fail(why) => Outcome::Refused(why),
         }

@@ -137,7 +137,7 @@ module _ {input : List ℕ} {l₀ : Ledger} {pos₀ count₀ : ℕ} {journal₀ 
   unfolding turn
   left-run l′ journal′ el ej =
       let a : l′ ≡ replyOf l journal (stepAt input pos) .ledger =
-          el ∙ rw (r .asked .vault-is, r .asked .job-is) (sym (reply-ledger l journal command) ∙ ap (λ (c : Command). replyOf l journal c .ledger) stands) in
+      el ∙ rw (r .asked .vault-is, r .asked .job-is) (sym (reply-ledger l journal command) ∙ ap (λ (c : Command). replyOf l journal c .ledger) stands) in
       let b : journal′ ≡ journalBy l journal (stepAt input pos) = ej ∙ sym (left-by l journal input (pos + 1) (s .kind)) ∙ ap (journalBy l journal) stands in
       rw (a, b, r .end-is)
 
@@ -170,7 +170,7 @@ module _ {input : List ℕ} {l₀ : Ledger} {pos₀ count₀ : ℕ} {journal₀ 
       let g : s .kind ≡ Generations = is-age (s .kind) (sym e ∙ y) in
       let j : s .job ≡ getD input (pos + 1) 0 = simp g at (r .asked .job-is) in
       let d : decision ≡ generationsDecision l journal (s .job) =
-          ap (λ (k : Kind). commandDecision l journal (commandIn k input (pos + 1))) g ∙ ap (generationsDecision l journal) (sym j) in
+      ap (λ (k : Kind). commandDecision l journal (commandIn k input (pos + 1))) g ∙ ap (generationsDecision l journal) (sym j) in
       let n : decision .change ≡ Nothing = ap (λ (x : Decision). x .change) d ∙ age-quiet l journal (s .job) in
       on o l journal numbers sets records memo′ out′ at′
       (a .outcome ∙ sym (ap (λ (x : Decision). x .outcome) d ∙ age-outcome l (t .kept .sane) journal (s .job)))

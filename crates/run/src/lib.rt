@@ -128,7 +128,16 @@ pub fn advance(
         if change.is_nothing() {
             continue;
         }
-        steps::store(change, numbers, sets, records, journal, ledger.booked, input, start);
+        steps::store(
+            change,
+            numbers,
+            sets,
+            records,
+            journal,
+            ledger.booked,
+            input,
+            start,
+        );
         ledger = ledger.apply(change, vault, job);
     }
     Progress {

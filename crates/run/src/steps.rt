@@ -274,7 +274,18 @@ pub(crate) fn age(
 {
     let j = job as usize;
     if journal::is_booked(journal, booked, j) {
-        return decisions::generations(settings, vaults, order, arrivals, numbers, sets, journal, booked, memo, j).outcome;
+        return decisions::generations(
+            settings,
+            vaults,
+            order,
+            arrivals,
+            numbers,
+            sets,
+            journal,
+            booked,
+            memo,
+            j,
+        ).outcome;
     }
     Outcome::Refused(Refusal::NotBooked)
 }
@@ -296,7 +307,14 @@ pub(crate) fn store(
     if change.is_book() {
         let bytes = &input[at..at + RECORD];
         journal::put_at(journal, booked, bytes);
-        index::enter(numbers, sets, records, &journal[..], record::read(bytes), booked);
+        index::enter(
+            numbers,
+            sets,
+            records,
+            &journal[..],
+            record::read(bytes),
+            booked,
+        );
         return;
     }
 }

@@ -2,7 +2,6 @@ use mathlib.Core.Path.{refl}
 use borrow.Author.Needs.{needs}
 use Rattle.ledger.proofs.books.is_arrival.Statement.{statement}
 use Rattle.generations.specs.Generations.{isAt}
-
 use Rattle.ledger.proofs.books.is_arrival.Tie as tie
 
 returns : tie.Need-returns

@@ -19,10 +19,11 @@ put-at-requires c κs =
 enter-requires : tie.Need-enter-requires
 enter-requires c κs =
     let s = c .before .before .before .before .before .before .before .before .before .before .before .before .before .before .before .before .before .args in
-    let p = c .before .before .before .before .before .before .before .put-at .ensures ∙ ap (putAt (now (s .journal)) (s .booked)) (part-is (s .at) (now (s .input))) in
-    (has-record (s .change) _ (s .booked) (s .at) (now (s .journal)) (now (s .input)) (c .before .before .before .before .before .before .before .before .before .before .before .is-book .ensures) (c .before .before .before .before .before .before .before .before .before .before .if1 .taken) (c .before .before .before .before .before .before .before .before .before .before .before .before .before .before .before .before .before .pre .0) _ p,
-    says (s .change) _ (s .booked) (s .at) (now (s .journal)) (now (s .input)) (c .before .before .before .before .before .before .before .before .before .before .before .is-book .ensures) (c .before .before .before .before .before .before .before .before .before .before .if1 .taken) (c .before .before .before .before .before .before .before .before .before .before .before .before .before .before .before .before .before .pre .0) _ p _ (c .read .ensures ∙ ap jobOf (part-is (s .at) (now (s .input)))),
-    still-indexed (s .change) _ (s .booked) (s .at) (now (s .journal)) (now (s .input)) (c .before .before .before .before .before .before .before .before .before .before .before .is-book .ensures) (c .before .before .before .before .before .before .before .before .before .before .if1 .taken) (c .before .before .before .before .before .before .before .before .before .before .before .before .before .before .before .before .before .pre .0) _ p _ _ _ (c .before .before .before .before .before .before .before .before .before .before .before .before .before .before .before .before .before .pre .1))
+    let p = c .before .before .before .before .before .before .before .put-at .ensures ∙ ap (putAt (now (s .journal)) (s .booked)) (part-is (s .at) (now (s .input))) in (
+      has-record (s .change) _ (s .booked) (s .at) (now (s .journal)) (now (s .input)) (c .before .before .before .before .before .before .before .before .before .before .before .is-book .ensures) (c .before .before .before .before .before .before .before .before .before .before .if1 .taken) (c .before .before .before .before .before .before .before .before .before .before .before .before .before .before .before .before .before .pre .0) _ p,
+      says (s .change) _ (s .booked) (s .at) (now (s .journal)) (now (s .input)) (c .before .before .before .before .before .before .before .before .before .before .before .is-book .ensures) (c .before .before .before .before .before .before .before .before .before .before .if1 .taken) (c .before .before .before .before .before .before .before .before .before .before .before .before .before .before .before .before .before .pre .0) _ p _ (c .read .ensures ∙ ap jobOf (part-is (s .at) (now (s .input)))),
+      still-indexed (s .change) _ (s .booked) (s .at) (now (s .journal)) (now (s .input)) (c .before .before .before .before .before .before .before .before .before .before .before .is-book .ensures) (c .before .before .before .before .before .before .before .before .before .before .if1 .taken) (c .before .before .before .before .before .before .before .before .before .before .before .before .before .before .before .before .before .pre .0) _ p _ _ _ (c .before .before .before .before .before .before .before .before .before .before .before .before .before .before .before .before .before .pre .1),
+    )
 
 returns : tie.Need-returns
 returns c =
