@@ -3,9 +3,9 @@ use mathlib.Core.Path.{_≡_, refl}
 use lib.Count.{ones}
 use Rattle.base.specs.Lists.{sameList}
 use Rattle.base.specs.Search.{allBelow, anyBelow, firstBelow, sumFrom}
-use Rattle.record.specs.Checks.{balanced, checkOf, countsFormed, entryFormed, examined, hasLabelOf, inputsFormed, isBlank}
-use Rattle.record.specs.Checks.{isFilled, isWritten, repeatedAt, unsupportedAt, wellFormed}
-use Rattle.record.specs.Codec.{entriesAt, entryAt, jobOf, leAt}
+use Rattle.checks.specs.Checks.{balanced, checkOf, countsFormed, entryFormed, examined, hasLabelOf, inputsFormed, isBlank}
+use Rattle.checks.specs.Checks.{isFilled, isWritten, repeatedAt, unsupportedAt, wellFormed}
+use Rattle.codec.specs.Codec.{entriesAt, entryAt, jobOf, leAt}
 use Rattle.record.specs.Drives.{isDrive, supports}
 use Rattle.record.specs.Entries.{framesOf, isUsed, labelOf, usedFrames}
 use Rattle.record.specs.Labels.{charAt, isAlphanumeric, isBetween, isLabel, mediumOf}

@@ -16,8 +16,8 @@ use Rattle.base.specs.Search.{firstBelow}
 use Rattle.sets.proofs.Jobs.{job-beyond}
 use Rattle.sets.specs.Jobs.{jobHas}
 use Rattle.sets.specs.declared.job_set.JobSet.{JobSet}
-use Rattle.record.specs.Codec.{jobOf, recordSize}
-use Rattle.record.specs.Conflicts.{isLabelAt, isTapeAt, makesTape}
+use Rattle.codec.specs.Codec.{jobOf, recordSize}
+use Rattle.conflicts.specs.Conflicts.{isLabelAt, isTapeAt, makesTape}
 use Rattle.record.specs.Entries.{isUsed}
 use Rattle.record.specs.declared.Job.{Job}
 use Rattle.journal.specs.Journal.{isBooked, jobAt, recordAt, slotAt}

@@ -14,7 +14,7 @@ use Rattle.base.specs.Search.{anyBelow, firstBelow}
 use Rattle.outcome.specs.declared.Refusal.the-variants.{InputReserved, NotCreated, OutputReserved, Retired}
 use Rattle.outcome.specs.declared.Verdict.{Verdict}
 use Rattle.outcome.specs.declared.Verdict.the-variants.{Fail, Pass}
-use Rattle.record.specs.Conflicts.{labelIn}
+use Rattle.conflicts.specs.Conflicts.{labelIn}
 use Rattle.record.specs.Entries.{isUsed, labelOf}
 use Rattle.record.specs.declared.Job.{Job}
 use Rattle.sets.proofs.Jobs.{job-union-has, union-words}

@@ -15,7 +15,7 @@ use Rattle.base.proofs.Lists.{reflect-same}
 use Rattle.base.proofs.Reflect.{not-true-false}
 use Rattle.base.proofs.Search.{first-none}
 use Rattle.base.specs.Search.{anyBelow, firstBelow}
-use Rattle.record.specs.Codec.{jobOf, recordSize}
+use Rattle.codec.specs.Codec.{jobOf, recordSize}
 use Rattle.record.specs.Entries.{framesOf, labelOf}
 use Rattle.record.specs.declared.Job.{Job}
 use Rattle.journal.specs.Journal.{capacity, equalAt, equalIn, insideOf, slotAt}

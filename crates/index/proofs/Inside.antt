@@ -5,7 +5,7 @@ use Prim.Native.Nat.{_%_, _*_, _/_, _<_, _≤_, ℕ}
 use native.Mathlib.Omega.{arith}
 use lib.ListN.{getD, length}
 use borrow.Author.Tests.{le-leb, lt-ltb}
-use Rattle.record.specs.Codec.{jobOf, recordSize}
+use Rattle.codec.specs.Codec.{jobOf, recordSize}
 use Rattle.record.specs.Entries.{framesOf, labelOf, noEntry}
 use Rattle.record.specs.declared.Entry.{Entry}
 use Rattle.record.specs.declared.Job.{Job}

@@ -10,7 +10,7 @@ use borrow.Author.Tests.{lt-ltb, ltb-true}
 use Rattle.base.proofs.Reflect.{and-true}
 use Rattle.base.proofs.Search.{any-elim, any-intro}
 use Rattle.base.specs.Search.{anyBelow}
-use Rattle.record.specs.Conflicts.{labelIn, makesTape}
+use Rattle.conflicts.specs.Conflicts.{labelIn, makesTape}
 use Rattle.record.specs.Entries.{framesOf, isUsed, labelOf}
 use Rattle.record.specs.declared.Job.{Job}
 use Rattle.sets.proofs.Jobs.{meets-any}

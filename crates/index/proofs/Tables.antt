@@ -9,7 +9,7 @@ use native.Mathlib.Numerals.{add-one}
 use native.Mathlib.Omega.{arith}
 use lib.ListN.{length}
 use Rattle.base.proofs.Search.{first-le}
-use Rattle.record.specs.Codec.{jobOf, recordSize}
+use Rattle.codec.specs.Codec.{jobOf, recordSize}
 use Rattle.record.specs.Entries.{framesOf, isUsed, labelOf}
 use Rattle.record.specs.declared.Job.{Job}
 use Rattle.journal.proofs.Putting.{put-length, slot-before}

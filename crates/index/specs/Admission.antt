@@ -11,7 +11,7 @@ use Rattle.sets.specs.declared.job_set.JobSet.{JobSet}
 use Rattle.sets.specs.Jobs.{jobHas}
 use Rattle.record.specs.declared.Job.{Job}
 use Rattle.record.specs.Entries.{labelOf, framesOf, isUsed}
-use Rattle.record.specs.Conflicts.{labelIn, makesTape}
+use Rattle.conflicts.specs.Conflicts.{labelIn, makesTape}
 
 module _ (job : ℕ → Job) (booked : ℕ) where
   -- job k is of the set and has the tape as an output

@@ -178,7 +178,7 @@ pub fn admission(
     ensures { λ r. ⌜ r ≡ admission (jobAt (now (journal .entry)) n) n held others (jobAt (now (journal .entry)) n job) ⌝ }
 {
     let part = journal::lookup(journal, n, job);
-    let inputs = record::inputs_of(part) as usize;
-    let outputs = record::outputs_of(part) as usize;
+    let inputs = codec::inputs_of(part) as usize;
+    let outputs = codec::outputs_of(part) as usize;
     admission_by(numbers, sets, inputs, outputs, held, others, job)
 }

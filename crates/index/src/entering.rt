@@ -2,7 +2,7 @@
 ghost use mathlib.Core.Path.{_≡_};
 ghost use Prim.Native.Nat.{_*_, _+_, _<_, _≤_};
 ghost use lib.ListN.{length};
-ghost use Rattle.record.specs.Codec.{recordSize};
+ghost use Rattle.codec.specs.Codec.{recordSize};
 ghost use Rattle.journal.specs.Journal.{capacity};
 ghost use Rattle.index.specs.Entering.{Entries, numbersWith, setsWith};
 ghost use Rattle.index.specs.Index.{Blank, HasRecord, Indexed};
@@ -113,7 +113,7 @@ pub fn build(numbers: &mut [u16], sets: &mut [u64], records: &mut [u16], journal
             sets,
             records,
             journal,
-            record::read(journal::slot(journal, k)),
+            codec::read(journal::slot(journal, k)),
             k,
         );
     }

@@ -4,7 +4,7 @@ ghost use mathlib.Core.Path.{_≡_};
 ghost use Prim.Native.Nat.{_*_, _+_, _-_, _/_, _<_, _≤_};
 ghost use lib.Dec.{eqb};
 ghost use lib.ListN.{getD, length};
-ghost use Rattle.record.specs.Codec.{recordSize};
+ghost use Rattle.codec.specs.Codec.{recordSize};
 ghost use Rattle.index.specs.Places.{Holds, Numbered, Sought, bucketOf, buckets, fits, framesAt, labelAt, slotJob};
 use crate::BUCKETS;
 use crate::HEADS;
@@ -47,7 +47,7 @@ fn entry_at(journal: &[u8], at: usize) -> Entry
     requires { ⌜ recordSize * (at / 8) + recordSize ≤ length (now journal) ⌝ }
     ensures { λ r. ⌜ (r .label ≡ labelAt (slotJob (now (journal .entry))) at) × (r .frames ≡ framesAt (slotJob (now (journal .entry))) at) ⌝ }
 {
-    record::entry_of(journal::slot(journal, at / 8), at % 8)
+    codec::entry_of(journal::slot(journal, at / 8), at % 8)
 }
 
 // The numbers of a place: of its label, and of its tape.

@@ -6,7 +6,7 @@ use Prim.Native.Nat.{_*_, _+_, _<_, _≤_, ℕ}
 use native.Mathlib.Omega.{arith}
 use lib.ListN.{drop, length, length-append, length-drop, length-take, take}
 use lib.Seq.{drop-append-seam, length-take-le, take-append-le, take-append-seam, take-take}
-use Rattle.record.specs.Codec.{recordSize}
+use Rattle.codec.specs.Codec.{recordSize}
 use Rattle.base.proofs.Lists.{take-drop}
 use Rattle.journal.specs.Journal.{putAt, slotAt}
 

@@ -8,7 +8,7 @@ use lib.ListN.{length, take, drop}
 use Rattle.base.specs.Lists.{sameList}
 use Rattle.base.specs.Search.{firstBelow}
 use Rattle.record.specs.declared.Job.{Job}
-use Rattle.record.specs.Codec.{recordSize, jobOf}
+use Rattle.codec.specs.Codec.{recordSize, jobOf}
 
 -- "The book holds at most 128 records, numbered from 0"
 abbrev pub capacity : ℕ

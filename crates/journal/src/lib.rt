@@ -3,10 +3,10 @@ ghost use mathlib.Core.Path.{_≡_};
 ghost use Prim.Native.Nat.{_+_, _*_, _≤_};
 ghost use lib.ListN.{length};
 ghost use Rattle.base.specs.Search.{firstBelow};
-ghost use Rattle.record.specs.Codec.{recordSize};
+ghost use Rattle.codec.specs.Codec.{recordSize};
 ghost use Rattle.journal.specs.Journal.{isBooked, recordAt, jobAt, insideOf, slotAt, equalAt, equalIn, hasRoom, putAt};
+use codec::RECORD;
 use record::Job;
-use record::RECORD;
 
 // How many records a journal books at most.
 pub const CAPACITY: usize = 128;
@@ -39,7 +39,7 @@ pub fn lookup(journal: &[u8], booked: usize, job: usize) -> &[u8]
 pub fn job_at(journal: &[u8], booked: usize, job: usize) -> Job
     ensures { λ r. ⌜ r ≡ jobAt (now (journal .entry)) booked job ⌝ }
 {
-    record::read(lookup(journal, booked, job))
+    codec::read(lookup(journal, booked, job))
 }
 
 // The bytes in place k. A helper for whoever keeps a journal, not a step: the place lies inside. The index reads entries by it, and a test

@@ -94,7 +94,7 @@ pub(crate) fn lent() {
 pub(crate) fn unbooked_equal() {
     let mut journal = [0u8; 200];
     steps::heading(b"unbooked equal");
-    record::write(jobs::copy(), &mut journal);
+    codec::write(jobs::copy(), &mut journal);
     let new = Ledger::new(4, 1, 8).ledger;
     let l = steps::propose(new, &mut journal, b"copy", jobs::copy());
     steps::show(l, &journal, 0);

@@ -72,7 +72,7 @@ fn each(l: Ledger, journal: &[u8; 200]) -> Ledger {
 // The first n bytes of a record with a byte after it are proposed.
 fn cut(l: Ledger, journal: &mut [u8], n: usize, name: &[u8]) -> Ledger {
     let mut bytes = [0u8; 101];
-    record::write(jobs::master(), &mut bytes);
+    codec::write(jobs::master(), &mut bytes);
     let all: &[u8] = &bytes;
     if n <= all.len() {
         return steps::report(name, l.propose(journal, &all[0..n]));

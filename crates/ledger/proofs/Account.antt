@@ -15,10 +15,10 @@ use Rattle.base.specs.Lists.{Distinct, In, anyIn}
 use Rattle.base.specs.Reflect.{Reflects}
 use Rattle.outcome.specs.declared.Verdict.{Verdict}
 use Rattle.outcome.specs.declared.Verdict.the-variants.{Fail, Pass}
-use Rattle.record.proofs.Tapes.{Sound, checked-sound, reflect-tape}
-use Rattle.record.specs.Checks.{checkOf, examined}
-use Rattle.record.specs.Codec.{jobOf, recordSize}
-use Rattle.record.specs.Tapes.{framesIn, inputTapes, labels, outputTapes, sameTape}
+use Rattle.conflicts.proofs.Tapes.{Sound, checked-sound, reflect-tape}
+use Rattle.checks.specs.Checks.{checkOf, examined}
+use Rattle.codec.specs.Codec.{jobOf, recordSize}
+use Rattle.conflicts.specs.Tapes.{framesIn, inputTapes, labels, outputTapes, sameTape}
 use Rattle.record.specs.declared.Entry.{Entry}
 use Rattle.record.specs.declared.Job.{Job}
 use Rattle.ledger.proofs.Gates.{passed-rest}

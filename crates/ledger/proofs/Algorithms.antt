@@ -13,9 +13,9 @@ use Rattle.base.specs.Reflect.{Reflects}
 use Rattle.outcome.specs.declared.Refusal.the-variants.{NotSigned, TooFewSigners}
 use Rattle.outcome.specs.declared.Verdict.{Verdict}
 use Rattle.outcome.specs.declared.Verdict.the-variants.{Fail, Pass}
-use Rattle.record.proofs.Tapes.{checked-sound}
-use Rattle.record.specs.Checks.{checkOf}
-use Rattle.record.specs.Tapes.{outputTapes}
+use Rattle.conflicts.proofs.Tapes.{checked-sound}
+use Rattle.checks.specs.Checks.{checkOf}
+use Rattle.conflicts.specs.Tapes.{outputTapes}
 use Rattle.record.specs.declared.Entry.{Entry}
 use Rattle.record.specs.declared.Job.{Job}
 use Rattle.sets.proofs.Bits.{reflect-subset, subset-has}

@@ -11,7 +11,7 @@ use lib.Pow.{pow-pos}
 use Rattle.base.specs.Lists.{In}
 use Rattle.outcome.specs.Figures.{numberOf}
 use Rattle.outcome.specs.declared.Outcome.{Outcome}
-use Rattle.record.proofs.Numbers.{room}
+use Rattle.codec.proofs.Numbers.{room}
 use Rattle.sets.proofs.Bits.{has-none}
 use Rattle.sets.proofs.Jobs.{has-no-jobs}
 use Rattle.sets.specs.Bits.{hasBit}

@@ -7,8 +7,8 @@ use Prim.Native.Nat.{_*_, _<_, _^_, _≤_, ℕ}
 use native.Mathlib.Omega.{arith}
 use lib.Count.{ones}
 use lib.ListN.{getD, length, length-append, length-set, set}
-use Rattle.record.proofs.Numbers.{room}
-use Rattle.record.specs.Codec.{recordSize}
+use Rattle.codec.proofs.Numbers.{room}
+use Rattle.codec.specs.Codec.{recordSize}
 use Rattle.sets.specs.Bits.{hasBit, withMember}
 use Rattle.sets.specs.Jobs.{jobHas}
 use Rattle.ledger.proofs.Changes.{Shape, held, signedBy}

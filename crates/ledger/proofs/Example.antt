@@ -10,13 +10,13 @@ use Rattle.base.specs.Lists.{sameList}
 use Rattle.base.specs.Search.{allBelow, anyBelow, firstBelow, sumFrom}
 use Rattle.outcome.specs.declared.Outcome.the-variants.{Done, Refused}
 use Rattle.outcome.specs.declared.Refusal.the-variants.{NotCreated, NotSigned, TooFewSigners}
-use Rattle.record.specs.Checks.{balanced, checkOf, countsFormed, entryFormed, examined, hasLabelOf, inputsFormed, isBlank, isFilled, isWritten, repeatedAt, unsupportedAt, wellFormed}
-use Rattle.record.specs.Codec.{entriesAt, entryAt, jobOf, leAt}
-use Rattle.record.specs.Conflicts.{isLabelAt, isTapeAt, labelIn, makesTape}
+use Rattle.checks.specs.Checks.{balanced, checkOf, countsFormed, entryFormed, examined, hasLabelOf, inputsFormed, isBlank, isFilled, isWritten, repeatedAt, unsupportedAt, wellFormed}
+use Rattle.codec.specs.Codec.{entriesAt, entryAt, jobOf, leAt}
+use Rattle.conflicts.specs.Conflicts.{isLabelAt, isTapeAt, labelIn, makesTape}
 use Rattle.record.specs.Drives.{isDrive, supports}
 use Rattle.record.specs.Entries.{framesOf, isUsed, labelOf, usedFrames}
 use Rattle.record.specs.Labels.{charAt, isAlphanumeric, isBetween, isLabel, mediumOf}
-use Rattle.record.specs.Tapes.{sameTape, usedFrom}
+use Rattle.conflicts.specs.Tapes.{sameTape, usedFrom}
 use Rattle.sets.specs.Bits.{hasBit, subsetOf, withBit, withMember, withoutBit}
 use Rattle.sets.specs.Jobs.{jobHas, jobWith, jobWithout}
 use Rattle.index.specs.Admission.{admission, consumedAt, listedBy, listsAt, madeBefore, madeBy, makesAt, notCreatedAt, remadeAt}

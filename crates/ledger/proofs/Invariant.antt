@@ -18,9 +18,9 @@ use Rattle.base.proofs.Reflect.{reflect-eq, refuted, refutes}
 use Rattle.base.specs.Lists.{Distinct, In, anyIn, sameList}
 use Rattle.base.specs.Reflect.{Reflects}
 use Rattle.outcome.specs.declared.Verdict.the-variants.{Pass}
-use Rattle.record.specs.Checks.{examined}
-use Rattle.record.specs.Codec.{jobOf, recordSize}
-use Rattle.record.specs.Tapes.{inputTapes, outputTapes}
+use Rattle.checks.specs.Checks.{examined}
+use Rattle.codec.specs.Codec.{jobOf, recordSize}
+use Rattle.conflicts.specs.Tapes.{inputTapes, outputTapes}
 use Rattle.record.specs.declared.Entry.{Entry}
 use Rattle.record.specs.declared.Job.{Job}
 use Rattle.sets.proofs.Jobs.{job-without-other}

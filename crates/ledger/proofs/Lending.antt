@@ -12,7 +12,7 @@ use lib.ListN.{List·getD-eq-default, drop, getD, length, length-append, length-
 use lib.Seq.{drop-append-le, drop-drop, take-append-le, take-at, take-length, take-nil, take-take}
 use Rattle.base.proofs.Lists.{take-drop}
 use Rattle.base.proofs.Reflect.{refuted}
-use Rattle.record.specs.Codec.{jobOf, recordSize}
+use Rattle.codec.specs.Codec.{jobOf, recordSize}
 use Rattle.journal.proofs.Booked.{reflect-booked}
 use Rattle.ledger.specs.Demand3.{recordsIn}
 use Rattle.journal.specs.Journal.{isBooked, jobAt, putAt, recordAt, slotAt}

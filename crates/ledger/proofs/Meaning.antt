@@ -14,10 +14,10 @@ use Rattle.outcome.specs.declared.Refusal.the-variants.{InputReserved, NotCreat
 use Rattle.outcome.specs.declared.Verdict.{Verdict}
 use Rattle.outcome.specs.declared.Verdict.the-variants.{Fail, Pass}
 use Rattle.record.proofs.Meaning.{reflect-used}
-use Rattle.record.proofs.Tapes.{label-listed, listed-label, made-tape, tape-made}
-use Rattle.record.specs.Conflicts.{labelIn, makesTape}
+use Rattle.conflicts.proofs.Tapes.{label-listed, listed-label, made-tape, tape-made}
+use Rattle.conflicts.specs.Conflicts.{labelIn, makesTape}
 use Rattle.record.specs.Entries.{framesOf, labelOf}
-use Rattle.record.specs.Meaning.{Nowhere}
+use Rattle.checks.specs.Meaning.{Nowhere}
 use Rattle.record.specs.declared.Entry.{Entry}
 use Rattle.record.specs.declared.Job.{Job}
 use Rattle.sets.specs.Jobs.{jobHas}

@@ -12,11 +12,12 @@ use Rattle.base.specs.Lists.{Distinct, In}
 use Rattle.outcome.specs.declared.Verdict.{Verdict}
 use Rattle.outcome.specs.declared.Verdict.the-variants.{Pass}
 use Rattle.record.proofs.Meaning.{reflect-used}
-use Rattle.record.proofs.Tapes.{at-used, checked-sound, used-at}
-use Rattle.record.specs.Checks.{checkOf}
+use Rattle.conflicts.proofs.Tapes.{at-used, checked-sound, used-at}
+use Rattle.checks.specs.Checks.{checkOf}
 use Rattle.record.specs.Entries.{framesOf, labelOf}
-use Rattle.record.specs.Meaning.{Nowhere, Used}
-use Rattle.record.specs.Tapes.{inputTapes, labels, outputTapes}
+use Rattle.checks.specs.Meaning.{Nowhere}
+use Rattle.record.specs.Meaning.{Used}
+use Rattle.conflicts.specs.Tapes.{inputTapes, labels, outputTapes}
 use Rattle.record.specs.declared.Entry.{Entry}
 use Rattle.record.specs.declared.Job.{Job}
 use Rattle.sets.specs.declared.job_set.JobSet.{JobSet}

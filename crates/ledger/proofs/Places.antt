@@ -16,8 +16,8 @@ use Rattle.base.specs.Search.{Every, Least, firstBelow}
 use Rattle.outcome.specs.declared.Refusal.the-variants.{Full, Settings as BadSettings}
 use Rattle.outcome.specs.declared.Verdict.{Verdict}
 use Rattle.outcome.specs.declared.Verdict.the-variants.{Fail, Pass}
-use Rattle.record.specs.Checks.{examined}
-use Rattle.record.specs.Codec.{recordSize}
+use Rattle.checks.specs.Checks.{examined}
+use Rattle.codec.specs.Codec.{recordSize}
 use Rattle.journal.specs.Journal.{capacity, equalAt, equalIn, hasRoom, insideOf, slotAt, slots}
 use Rattle.ledger.proofs.Gates.{passed-test, reflect-sane}
 use Rattle.ledger.specs.Decisions.{gated, placing, proposal, settling}

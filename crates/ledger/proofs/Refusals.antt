@@ -15,9 +15,9 @@ use Rattle.outcome.specs.declared.Refusal.{Refusal}
 use Rattle.outcome.specs.declared.Refusal.the-variants.{Full, InputReserved, Malformed, NoVault, NotBooked, NotCreated, NotHeld, NotSigned, OutputReserved, Repeated, Retired, TooFewSigners, Unbalanced, Unsupported, WrongVault}
 use Rattle.outcome.specs.declared.Verdict.{Verdict}
 use Rattle.outcome.specs.declared.Verdict.the-variants.{Fail, Pass}
-use Rattle.record.specs.Checks.{balanced, checkOf, examined, repeatedAt, unsupportedAt, wellFormed}
-use Rattle.record.specs.Codec.{jobOf, recordSize}
-use Rattle.record.specs.Meaning.{repeated, unsupported}
+use Rattle.checks.specs.Checks.{balanced, checkOf, examined, repeatedAt, unsupportedAt, wellFormed}
+use Rattle.codec.specs.Codec.{jobOf, recordSize}
+use Rattle.checks.specs.Meaning.{repeated, unsupported}
 use Rattle.record.specs.declared.Job.{Job}
 use Rattle.sets.specs.Bits.{hasBit, subsetOf, withMember}
 use Rattle.sets.specs.Jobs.{jobHas}

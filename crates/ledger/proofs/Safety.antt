@@ -9,7 +9,7 @@ use native.Mathlib.Nat.{le-trans}
 use native.Mathlib.Omega.{arith}
 use lib.Count.{ones}
 use Rattle.base.specs.Lists.{In}
-use Rattle.record.specs.Tapes.{inputTapes, outputTapes}
+use Rattle.conflicts.specs.Tapes.{inputTapes, outputTapes}
 use Rattle.record.specs.declared.Entry.{Entry}
 use Rattle.record.specs.declared.Job.{Job}
 use Rattle.sets.proofs.Quorum.{quorums-meet}

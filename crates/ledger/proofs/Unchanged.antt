@@ -10,7 +10,7 @@ use Rattle.outcome.specs.declared.Outcome.the-variants.{Done}
 use Rattle.outcome.specs.declared.Refusal.the-variants.{Full, NotHeld}
 use Rattle.outcome.specs.declared.Verdict.{Verdict}
 use Rattle.outcome.specs.declared.Verdict.the-variants.{Fail, Pass}
-use Rattle.record.specs.Checks.{examined}
+use Rattle.checks.specs.Checks.{examined}
 use Rattle.sets.specs.Jobs.{jobHas}
 use Rattle.journal.specs.Journal.{equalIn, hasRoom, insideOf}
 use Rattle.ledger.specs.Decisions.{ageing, answering, certificate, committing, consent, consenting, gated, placing, preflighting, proposal, receiving, refusing, settling, voting}

@@ -12,8 +12,8 @@ use Rattle.outcome.specs.declared.Outcome.the-variants.{Done, Refused}
 use Rattle.outcome.specs.declared.Refusal.the-variants.{Full}
 use Rattle.outcome.specs.declared.Verdict.{Verdict}
 use Rattle.outcome.specs.declared.Verdict.the-variants.{Fail, Pass}
-use Rattle.record.specs.Checks.{examined}
-use Rattle.record.specs.Codec.{recordSize}
+use Rattle.checks.specs.Checks.{examined}
+use Rattle.codec.specs.Codec.{recordSize}
 use Rattle.journal.specs.Journal.{capacity, equalIn, hasRoom, insideOf, putAt, slots}
 use Rattle.index.proofs.Tables.{records-part}
 use Rattle.index.specs.Index.{Blank, Indexed}

@@ -13,7 +13,7 @@ use Rattle.sets.specs.Bits.{subsetOf, withMember}
 use Rattle.sets.specs.Jobs.{jobHas}
 use Rattle.federation.specs.Federation.{thresholdOf}
 use Rattle.federation.specs.declared.Settings.{Settings}
-use Rattle.record.specs.Checks.{examined}
+use Rattle.checks.specs.Checks.{examined}
 use Rattle.journal.specs.Journal.{equalIn, hasRoom, insideOf}
 use Rattle.ledger.specs.declared.Change.{Change}
 use Rattle.ledger.specs.declared.Change.the-variants.{Book, Hold, Nothing, RecordAcknowledgement, RecordSignature, Sign}

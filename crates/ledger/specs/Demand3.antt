@@ -12,8 +12,8 @@ use lib.ListN.{drop, length, take}
 use Rattle.base.specs.Lists.{Distinct, In, anyIn, keepIf, total}
 use Rattle.outcome.specs.Figures.{numberOf}
 use Rattle.outcome.specs.declared.Outcome.{Outcome}
-use Rattle.record.specs.Codec.{recordSize}
-use Rattle.record.specs.Tapes.{framesIn, inputTapes, labels, outputTapes}
+use Rattle.codec.specs.Codec.{recordSize}
+use Rattle.conflicts.specs.Tapes.{framesIn, inputTapes, labels, outputTapes}
 use Rattle.record.specs.declared.Entry.{Entry}
 use Rattle.record.specs.declared.Job.{Job}
 use Rattle.sets.specs.Bits.{hasBit}

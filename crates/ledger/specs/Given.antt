@@ -3,7 +3,7 @@ use mathlib.Core.List.{List}
 use mathlib.Core.Path.{_≡_}
 use Prim.Native.Nat.{ℕ, _*_, _+_, _<_, _≤_}
 use lib.ListN.{length}
-use Rattle.record.specs.Codec.{recordSize}
+use Rattle.codec.specs.Codec.{recordSize}
 use Rattle.outcome.specs.declared.Verdict.{Verdict}
 use Rattle.outcome.specs.declared.Verdict.the-variants.{Pass}
 use Rattle.federation.specs.declared.Settings.{Settings}

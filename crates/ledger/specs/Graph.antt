@@ -7,8 +7,8 @@ use Prim.Native.Nat.{_<_, ℕ}
 use lib.ListN.{set}
 use Rattle.base.specs.Lists.{Distinct, In}
 use Rattle.outcome.specs.declared.Verdict.the-variants.{Pass}
-use Rattle.record.specs.Checks.{checkOf}
-use Rattle.record.specs.Tapes.{inputTapes, labels, outputTapes, usedFrom}
+use Rattle.checks.specs.Checks.{checkOf}
+use Rattle.conflicts.specs.Tapes.{inputTapes, labels, outputTapes, usedFrom}
 use Rattle.record.specs.declared.Entry.{Entry}
 use Rattle.record.specs.declared.Job.{Job}
 use Rattle.sets.specs.Jobs.{jobHas}

@@ -12,10 +12,11 @@ use Rattle.outcome.specs.declared.Refusal.{Refusal}
 use Rattle.outcome.specs.declared.Refusal.the-variants.{Full, InputReserved, NotCreated, OutputReserved, Retired, Settings as BadSettings}
 use Rattle.outcome.specs.declared.Verdict.{Verdict}
 use Rattle.outcome.specs.declared.Verdict.the-variants.{Fail, Pass}
-use Rattle.record.specs.Checks.{examined}
-use Rattle.record.specs.Codec.{recordSize}
+use Rattle.checks.specs.Checks.{examined}
+use Rattle.codec.specs.Codec.{recordSize}
 use Rattle.record.specs.Entries.{framesOf, labelOf}
-use Rattle.record.specs.Meaning.{Nowhere, Used}
+use Rattle.checks.specs.Meaning.{Nowhere}
+use Rattle.record.specs.Meaning.{Used}
 use Rattle.record.specs.declared.Job.{Job}
 use Rattle.sets.specs.Bits.{hasBit}
 use Rattle.sets.specs.declared.job_set.JobSet.{JobSet}

@@ -4,7 +4,7 @@ use mathlib.Core.List.{List, [], _++_, _∷_}
 use Prim.Native.Nat.{_*_, ℕ}
 use lib.ListN.{drop, length, take}
 use Rattle.outcome.specs.declared.Outcome.{Outcome}
-use Rattle.record.specs.Codec.{recordSize}
+use Rattle.codec.specs.Codec.{recordSize}
 use Rattle.ledger.specs.State.{newLedger}
 use Rattle.ledger.specs.Steps.{carried, commitDecision, faultyAcknowledgeDecision, faultySignDecision, generationsDecision, journalAfter, preflightDecision, proposeDecision, showDecision}
 use Rattle.ledger.specs.declared.Decision.{Decision}

@@ -3,7 +3,7 @@
 ghost use mathlib.Core.Bool.{_&&_, not};
 ghost use mathlib.Core.Path.{_≡_};
 ghost use Prim.Native.Nat.{_<_, _≤_};
-ghost use Rattle.record.specs.Codec.{jobOf};
+ghost use Rattle.codec.specs.Codec.{jobOf};
 ghost use Rattle.sets.specs.Bits.{hasBit};
 ghost use Rattle.sets.specs.Jobs.{jobHas};
 ghost use Rattle.index.specs.Index.{IndexedEntries};
@@ -33,12 +33,12 @@ use crate::Consent;
 use crate::Decision;
 use crate::Signing;
 use crate::Vault;
+use codec::RECORD;
 use federation::Settings;
 use outcome::Outcome;
 use outcome::Refusal;
 use outcome::Verdict;
 use record::Job;
-use record::RECORD;
 use sets::JobSet;
 
 pub fn refuse(why: Refusal) -> Decision
@@ -248,8 +248,8 @@ pub fn propose(records: &[u16], journal: &[u8], booked: usize, bytes: &[u8]) -> 
     if bytes.len() != RECORD {
         return refuse(Refusal::Malformed);
     }
-    let job = record::read(bytes);
-    let verdict = record::check(job);
+    let job = codec::read(bytes);
+    let verdict = checks::check(job);
     match verdict {
         Verdict::Pass => settle(records, journal, booked, bytes, job),
         Verdict::Fail(why) => refuse(why),

@@ -5,9 +5,9 @@ use scenario::steps;
 
 fn booked(journal: &mut [u8]) -> Ledger {
     let mut bytes = [0u8; 100];
-    record::write(jobs::master(), &mut bytes);
+    codec::write(jobs::master(), &mut bytes);
     let l = steps::report(b"1", Ledger::new(4, 1, 8).ledger.propose(journal, &bytes));
-    record::write(jobs::copy(), &mut bytes);
+    codec::write(jobs::copy(), &mut bytes);
     steps::report(b"2", l.propose(journal, &bytes))
 }
 

@@ -19,7 +19,7 @@ use Rattle.outcome.specs.declared.Verdict.{Verdict}
 use Rattle.outcome.specs.declared.Verdict.the-variants.{Fail, Pass}
 use Rattle.federation.proofs.Lawful.{reflect-lawful}
 use Rattle.federation.specs.Federation.{isLawful}
-use Rattle.record.specs.Codec.{jobOf, recordSize}
+use Rattle.codec.specs.Codec.{jobOf, recordSize}
 use Rattle.record.specs.declared.Job.{Job}
 use Rattle.journal.proofs.Putting.{put-length, slot-before}
 use Rattle.journal.specs.Journal.{capacity, equalIn, hasRoom, insideOf, isBooked, jobAt, putAt, slotAt}
@@ -57,7 +57,7 @@ use Rattle.ledger.specs.Vaults.{holding, vaultPreflight}
 use Rattle.ledger.specs.declared.Consent.{Consent}
 use Rattle.ledger.specs.declared.Consent.the-variants.{Already, Denied, Fresh}
 use Rattle.sets.specs.Jobs.{jobHas}
-use Rattle.record.specs.Checks.{examined}
+use Rattle.checks.specs.Checks.{examined}
 use lib.Count.{ones}
 
 -- ---- a sane ledger's decision from its pieces

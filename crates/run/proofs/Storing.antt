@@ -6,7 +6,7 @@ use Prim.Native.Nat.{_*_, _+_, _-_, _<_, _≤_, ℕ}
 use native.Mathlib.Nat.{add-sub-cancel-left}
 use native.Mathlib.Omega.{arith}
 use lib.ListN.{drop, length, length-drop, length-take, take}
-use Rattle.record.specs.Codec.{jobOf, recordSize}
+use Rattle.codec.specs.Codec.{jobOf, recordSize}
 use Rattle.record.specs.declared.Job.{Job}
 use Rattle.journal.proofs.Putting.{put-length, slot-put}
 use Rattle.journal.specs.Journal.{capacity, putAt}

@@ -7,7 +7,7 @@ use Prim.Native.Nat.{_%_, _*_, _+_, _<_, _≤_, ℕ}
 use native.Mathlib.Omega.{arith}
 use lib.ListN.{drop, getD, length, take}
 use Rattle.outcome.specs.declared.Outcome.{Outcome}
-use Rattle.record.specs.Codec.{recordSize}
+use Rattle.codec.specs.Codec.{recordSize}
 use Rattle.journal.specs.Journal.{capacity, isBooked, jobAt}
 use Rattle.generations.specs.Memo.{Memo}
 use Rattle.text.specs.Text.{Put, lineFor}

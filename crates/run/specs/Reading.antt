@@ -12,7 +12,7 @@ use Rattle.ledger.specs.Decisions.{ageing, gated}
 use Rattle.ledger.specs.Holders.{isHeld}
 use Rattle.ledger.specs.declared.Vault.{Vault}
 use Rattle.outcome.specs.declared.Outcome.{Outcome}
-use Rattle.record.specs.Codec.{recordSize}
+use Rattle.codec.specs.Codec.{recordSize}
 use Rattle.runfile.specs.Run.{longest}
 use Rattle.runfile.specs.Steps.{bodySize, commandIn, kindAt, kindOf, nextAt, stepAt}
 use Rattle.runfile.specs.declared.Kind.{Kind}

@@ -3,8 +3,8 @@ ghost use mathlib.Core.Path.{_≡_};
 ghost use lib.ListN.{length, take};
 ghost use Rattle.runfile.specs.Run.{longest};
 ghost use Prim.Native.Nat.{_+_};
+use codec::RECORD;
 use journal::CAPACITY;
-use record::RECORD;
 
 // One byte more than the longest file, to see that there are too many.
 pub const INPUT: usize = 65537;

@@ -2,7 +2,7 @@
 ghost use mathlib.Core.Path.{_≡_};
 ghost use Prim.Native.Nat.{_+_, _<_, _≤_};
 ghost use lib.ListN.{drop, getD, length, take};
-ghost use Rattle.record.specs.Codec.{recordSize};
+ghost use Rattle.codec.specs.Codec.{recordSize};
 ghost use Rattle.index.specs.Index.{Indexed};
 ghost use Rattle.generations.specs.Memo.{Ready};
 ghost use Rattle.ledger.specs.Given.{Writable};
@@ -12,6 +12,7 @@ ghost use Rattle.run.specs.Decided.{bookedOr, decidedBy};
 ghost use Rattle.run.specs.Kept.{Stored};
 ghost use Rattle.run.specs.Reading.{Answered, Asked, Read, asksAgeOf, operationOf, stepOf};
 use crate::header;
+use codec::RECORD;
 use federation::Settings;
 use ledger::Change;
 use ledger::Decision;
@@ -20,7 +21,6 @@ use ledger::decisions;
 use outcome::Outcome;
 use outcome::Refusal;
 use outcome::Verdict;
-use record::RECORD;
 use runfile::Kind;
 
 // An operation, and how long the body of its step is.
@@ -312,7 +312,7 @@ pub(crate) fn store(
             sets,
             records,
             &journal[..],
-            record::read(bytes),
+            codec::read(bytes),
             booked,
         );
         return;

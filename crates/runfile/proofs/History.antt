@@ -10,7 +10,7 @@ use lib.Dec.{leb}
 use lib.ListN.{drop, drop-of-length-le, getD, length, length-take, take, take-append-drop}
 use lib.Seq.{take-length}
 use Rattle.base.proofs.Reflect.{and-true}
-use Rattle.record.specs.Codec.{recordSize}
+use Rattle.codec.specs.Codec.{recordSize}
 use Rattle.ledger.proofs.Demand3.{demand3}
 use Rattle.federation.proofs.Lawful.{reflect-lawful}
 use Rattle.ledger.proofs.Places.{examined-length, proposed}

@@ -7,7 +7,7 @@ use lib.ListN.{getD, length, replicate}
 use Rattle.outcome.specs.declared.Outcome.the-variants.{Refused}
 use Rattle.outcome.specs.declared.Refusal.the-variants.{Settings as BadSettings}
 use Rattle.federation.specs.Federation.{isLawful}
-use Rattle.record.specs.Codec.{recordSize}
+use Rattle.codec.specs.Codec.{recordSize}
 use Rattle.journal.specs.Journal.{capacity}
 use Rattle.ledger.specs.State.{newLedger}
 use Rattle.ledger.specs.declared.Ledger.{Ledger}

@@ -8,7 +8,7 @@ use Rattle.outcome.specs.declared.Outcome.{Outcome}
 use Rattle.outcome.specs.declared.Outcome.the-variants.{Refused}
 use Rattle.outcome.specs.declared.Refusal.the-variants.{Unreadable}
 use Rattle.draw.specs.Draw.{drawOf}
-use Rattle.record.specs.Codec.{recordSize}
+use Rattle.codec.specs.Codec.{recordSize}
 use Rattle.ledger.specs.Worlds.{Request, commit, faultyAcknowledge, faultySign, generations, leftBy, preflight, propose, show, stepOf}
 use Rattle.ledger.specs.declared.Ledger.{Ledger}
 use Rattle.ledger.specs.declared.Reply.{Reply}

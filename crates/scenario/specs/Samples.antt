@@ -1,7 +1,7 @@
 -- The tapes and jobs of the case programs: jobs for drive 7, with so many inputs and outputs.
 use mathlib.Core.List.{List, [], _∷_}
 use Prim.Native.Nat.{ℕ}
-use Rattle.record.specs.Codec.{leAt}
+use Rattle.codec.specs.Codec.{leAt}
 use Rattle.record.specs.declared.Entry.{Entry}
 use Rattle.record.specs.declared.Job.{Job}
 

@@ -2,7 +2,7 @@
 ghost use mathlib.Core.List.{_∷_, []};
 ghost use mathlib.Core.Path.{_≡_};
 ghost use Prim.Native.Nat.{_<_};
-ghost use Rattle.record.specs.Codec.{leAt};
+ghost use Rattle.codec.specs.Codec.{leAt};
 ghost use Rattle.scenario.specs.Samples.{copyJob, jobWith, masterJob, tapeWith, unused};
 use record::Entry;
 use record::Job;

@@ -1,7 +1,7 @@
 // Each kind of step, carried out and printed.
 ghost use mathlib.Core.Path.{_≡_};
 ghost use Rattle.ledger.specs.Steps.{commitOf, faultyAcknowledgeOf, faultySignOf, journalAfter, preflightOf, proposeOf};
-ghost use Rattle.record.specs.Codec.{written};
+ghost use Rattle.codec.specs.Codec.{written};
 ghost use lib.ListN.{replicate};
 use ledger::Ledger;
 use ledger::Reply;
@@ -55,7 +55,7 @@ pub fn propose(l: Ledger, journal: &mut [u8], name: &[u8], job: Job) -> Ledger
     ensures { λ _. ⌜ now (journal .exit) ≡ journalAfter l (now (journal .entry)) (written job (replicate 100 0)) ⌝ }
 {
     let mut bytes = [0u8; 100];
-    record::write(job, &mut bytes);
+    codec::write(job, &mut bytes);
     let reply = l.propose(journal, &bytes);
     io::write_all(STDOUT_FILENO, b"propose.");
     report(name, reply)
@@ -109,6 +109,6 @@ pub fn lookup(l: Ledger, journal: &[u8], job: u8) {
     let part = l.lookup(journal, job);
     figures(
         part.len() as u64,
-        record::frames(record::read(part), 4) as u64,
+        record::frames(codec::read(part), 4) as u64,
     );
 }

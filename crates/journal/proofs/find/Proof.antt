@@ -7,7 +7,7 @@ use lib.ListN.{length}
 use borrow.Author.Needs.{needs}
 use Rattle.base.proofs.Search.{searches}
 use Rattle.base.specs.Search.{anyBelow}
-use Rattle.record.specs.Codec.{recordSize}
+use Rattle.codec.specs.Codec.{recordSize}
 use Rattle.journal.proofs.find.Statement.{statement}
 use Rattle.journal.specs.Journal.{equalAt}
 use Rattle.journal.proofs.find.Tie as tie

@@ -1,7 +1,7 @@
 use Rattle.ledger.proofs.decisions.propose.Statement.{statement}
 use Rattle.ledger.proofs.decisions.propose.Tie as tie
 use Rattle.ledger.specs.Decisions.{proposal}
-use Rattle.record.specs.Checks.{examined}
+use Rattle.checks.specs.Checks.{examined}
 use borrow.Author.Needs.{needs}
 use borrow.Author.Tests.{eq-eqb, ne-eqb}
 

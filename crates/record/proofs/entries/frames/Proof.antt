@@ -2,7 +2,7 @@
 use mathlib.Core.Path.{_≡_, ap, refl}
 use lib.ListN.{length}
 use borrow.Author.Needs.{needs}
-use Rattle.record.proofs.Jobs.{entry-past, length-mapped}
+use Rattle.record.proofs.Eight.{entry-past, length-mapped}
 use Rattle.record.proofs.entries.frames.Statement.{statement}
 use Rattle.record.specs.Entries.{framesOf}
 use Rattle.record.specs.declared.Entry.{Entry}

@@ -1,4 +1,4 @@
-use Rattle.record.specs.Codec.{jobOf}
+use Rattle.codec.specs.Codec.{jobOf}
 use Rattle.journal.specs.Journal.{putAt}
 use Rattle.run.proofs.Storing.{has-record, part-is, record-inside, record-room, record-size, says, still-indexed, stored, unstored}
 use Rattle.run.proofs.steps.store.Statement.{statement}

@@ -5,8 +5,8 @@ use native.Mathlib.Omega.{arith}
 use lib.Dec.{lit<}
 use borrow.Author.Needs.{needs}
 use denote.Ref.{now}
-use Rattle.record.specs.Codec.{leAt}
-use Rattle.record.proofs.Numbers.{leAt-all, leAt-down, leAt-none, more-lt, room}
+use Rattle.codec.specs.Codec.{leAt}
+use Rattle.codec.proofs.Numbers.{leAt-all, leAt-down, leAt-none, more-lt, room}
 use Rattle.scenario.proofs.jobs.label.Statement.{statement}
 use Rattle.scenario.proofs.jobs.label.Tie as tie
 
