@@ -6,11 +6,6 @@ use Rattle.base.specs.Search.{anyBelow}
 use Rattle.record.specs.Entries.{framesOf, isUsed, labelOf}
 use Rattle.record.specs.declared.Job.{Job}
 
--- inputs are the half from entry 0 on, outputs the half from entry 4 on
-abbrev pub halfOf : Bool → ℕ
-halfOf true = 4
-halfOf false = 0
-
 -- entry half + i is used and has the label
 unfoldable pub isLabelAt : ℕ → Job → ℕ → ℕ → Bool
 isLabelAt half j label i = isUsed j (half + i) && eqb (labelOf j (half + i)) label

@@ -1,8 +1,8 @@
-// The labels and tapes of a job's two halves, and when two jobs conflict.
+// When two jobs conflict.
 ghost use mathlib.Core.Path.{_≡_};
 ghost use Prim.Native.Nat.{_+_, _≤_};
 ghost use Rattle.base.specs.Search.{anyBelow};
-ghost use Rattle.conflicts.specs.Conflicts.{isLabelAt, isTapeAt, halfOf, labelIn, makesTape, sharesAt, conflicting};
+ghost use Rattle.conflicts.specs.Conflicts.{isLabelAt, sharesAt, conflicting};
 use record::Job;
 use record::entries;
 
@@ -28,46 +28,6 @@ fn label_in(half: usize, job: Job, label: u64) -> bool
 {
     for i in 0..4 {
         if is_label_at(half, job, label, i) {
-            return true;
-        }
-    }
-    false
-}
-
-// Where a half begins.
-fn start(outputs: bool) -> usize
-    ensures { λ r. ⌜ (r ≡ halfOf outputs) × (r ≤ 4) ⌝ }
-{
-    if outputs {
-        return OUTPUTS;
-    }
-    INPUTS
-}
-
-// Whether the job has the label as an output, or as an input.
-pub fn lists(job: Job, outputs: bool, label: u64) -> bool
-    ensures { λ r. ⌜ r ≡ labelIn (halfOf outputs) job label ⌝ }
-{
-    label_in(start(outputs), job, label)
-}
-
-// Entry 4 + i is used and is the tape.
-fn is_tape_at(job: Job, label: u64, frames: u32, i: usize) -> bool
-    requires { ⌜ i ≤ 4 ⌝ }
-    ensures { λ r. ⌜ r ≡ isTapeAt job label frames i ⌝ }
-{
-    if is_label_at(OUTPUTS, job, label, i) {
-        return entries::frames(job, OUTPUTS + i) == frames;
-    }
-    false
-}
-
-// Whether the job has the tape, label and frames, as an output.
-pub fn makes_tape(job: Job, label: u64, frames: u32) -> bool
-    ensures { λ r. ⌜ r ≡ makesTape job label frames ⌝ }
-{
-    for i in 0..4 {
-        if is_tape_at(job, label, frames, i) {
             return true;
         }
     }

@@ -29,11 +29,6 @@ use Rattle.generations.proofs.Ages.{lt-or-le, none-from}
 use Rattle.generations.specs.Generations.{along, createdAt, creatorOf, generationAt}
 use Rattle.generations.specs.Memo.{FirstAt, Input, inputsOf, isMaker}
 
--- ---- the third byte of a record
-pub slot-inputs : (journal : List ℕ) (k : ℕ) → slotJob journal k .inputs ≡ getD journal (recordSize * k + 2) 0
-unfolding slotJob jobOf slotAt
-slot-inputs journal k = getD-take recordSize (drop (recordSize * k) journal) 2 0 (omega arith) ∙ getD-drop (recordSize * k) journal 2 0
-
 -- ---- a job that is not booked
 module _ (journal : List ℕ) (booked k : ℕ) (past : booked ≤ k) where
   empty : jobAt journal booked k ≡ jobOf []

@@ -8,7 +8,6 @@ ghost use Rattle.journal.specs.Journal.{jobAt};
 ghost use Rattle.index.specs.Places.{slotJob};
 ghost use Rattle.generations.specs.Generations.{ageIn, along, generationAt, isAt};
 ghost use Rattle.generations.specs.Memo.{FirstAt, Input, Memo, Ready, fromInput, inputsOf, isMaker};
-use codec::RECORD;
 use sets::JobSet;
 
 // A byte is below 256.
@@ -27,12 +26,12 @@ fn larger(a: u8, b: u8) -> u8
     a
 }
 
-// How many inputs a booked job has, by the third byte of its record.
+// How many inputs a booked job has, read from its record where it stands.
 fn inputs(journal: &[u8], job: usize) -> usize
     requires { ⌜ recordSize * job + recordSize ≤ length (now journal) ⌝ }
     ensures { λ r. ⌜ r ≡ inputsOf (slotJob (now (journal .entry)) job) ⌝ }
 {
-    let count = wide(journal[RECORD * job + 2]);
+    let count = wide(codec::inputs_of(journal::slot(journal, job)));
     if count < 4 {
         return count;
     }

@@ -1,19 +1,11 @@
--- The journal's places: those inside lie below its length, and a record's bytes copied over a place leave the rest.
+-- A record's bytes copied over a place leave the rest.
 -- Assumes nothing.
 use mathlib.Core.List.{List, _++_, append-nil}
 use mathlib.Core.Path.{_≡_}
-use Prim.Native.Nat.{_*_, _+_, _-_, _≤_, ℕ}
+use Prim.Native.Nat.{_+_, _-_, ℕ}
 use native.Mathlib.Nat.{add-sub-cancel-left}
-use native.Mathlib.Omega.{arith}
 use lib.ListN.{drop, length, take}
 use lib.Seq.{drop-drop, slice-empty, take-length}
-use Rattle.codec.specs.Codec.{recordSize}
-use Rattle.journal.specs.Journal.{insideOf}
-
--- the booked records that lie inside end within the journal
-pub inside-fits : (journal : List ℕ) (booked : ℕ) → recordSize * insideOf journal booked ≤ length journal
-unfolding insideOf
-inside-fits journal booked = omega arith
 
 -- what `bytes::copy` leaves in the part from a on, put back
 pub copied : (xs bytes ys : List ℕ) (a n : ℕ) → length bytes ≡ n

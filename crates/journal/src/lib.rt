@@ -1,12 +1,10 @@
-// The lent journal: its records as parts of it, and the search for a record that is booked already.
+// The lent journal: its records as parts of it, what lies inside, and room for one more.
 ghost use mathlib.Core.Path.{_≡_};
 ghost use Prim.Native.Nat.{_+_, _*_, _≤_};
 ghost use lib.ListN.{length};
-ghost use Rattle.base.specs.Search.{firstBelow};
 ghost use Rattle.codec.specs.Codec.{recordSize};
-ghost use Rattle.journal.specs.Journal.{isBooked, recordAt, jobAt, insideOf, slotAt, equalAt, equalIn, hasRoom, putAt};
+ghost use Rattle.journal.specs.Journal.{isBooked, recordAt, insideOf, slotAt, equalAt, hasRoom, putAt};
 use codec::RECORD;
-use record::Job;
 
 // How many records a journal books at most.
 pub const CAPACITY: usize = 128;
@@ -33,13 +31,6 @@ pub fn lookup(journal: &[u8], booked: usize, job: usize) -> &[u8]
     }
     let at = RECORD * job;
     &journal[at..at + RECORD]
-}
-
-// The job that a booked record says.
-pub fn job_at(journal: &[u8], booked: usize, job: usize) -> Job
-    ensures { λ r. ⌜ r ≡ jobAt (now (journal .entry)) booked job ⌝ }
-{
-    codec::read(lookup(journal, booked, job))
 }
 
 // The bytes in place k. A helper for whoever keeps a journal, not a step: the place lies inside. The index reads entries by it, and a test
@@ -69,25 +60,6 @@ pub fn equal_at(journal: &[u8], bytes: &[u8], k: usize) -> bool
     ensures { λ r. ⌜ r ≡ equalAt (now (journal .entry)) (now (bytes .entry)) k ⌝ }
 {
     check::same(slot(journal, k), bytes)
-}
-
-fn find(journal: &[u8], bytes: &[u8], n: usize) -> usize
-    requires { ⌜ recordSize * n ≤ length (now journal) ⌝ }
-    ensures { λ r. ⌜ r ≡ firstBelow n (equalAt (now (journal .entry)) (now (bytes .entry))) ⌝ }
-{
-    for k in 0..n {
-        if equal_at(journal, bytes, k) {
-            return k;
-        }
-    }
-    n
-}
-
-// The first booked record inside that has these bytes, or how many lie inside.
-pub fn equal_in(journal: &[u8], booked: usize, bytes: &[u8]) -> usize
-    ensures { λ r. ⌜ r ≡ equalIn (now (journal .entry)) booked (now (bytes .entry)) ⌝ }
-{
-    find(journal, bytes, inside(journal, booked))
 }
 
 // Check 10: fewer than 128 records are booked, and one more lies wholly inside.
