@@ -1,7 +1,7 @@
 -- The register's own invariant, and that taking an admissible job keeps it: what it says of tapes, labels and frames is what is defined
 -- along its list. Frames balance because an admissible job's inputs stand, each once, and its frames balance.
 use mathlib.Core.Bool.{not, true≢false}
-use mathlib.Core.List.{List, [], _++_, _∷_, append-assoc}
+use mathlib.Core.List.{List, [], _++_, _∷_, append-assoc, append-nil}
 use mathlib.Core.Logic.{_⊎_, inl, inr, ⊎-elim}
 use mathlib.Core.Path.{_∙_, _≡_, ap, ap₂, refl, subst, sym}
 use Prim.Native.Nat.{_+_, _<_, ℕ}
@@ -22,7 +22,7 @@ use Rattle.conflicts.specs.Tapes.{framesIn, inputTapes, labels, outputTapes, sa
 use Rattle.record.specs.declared.Entry.{Entry}
 use Rattle.record.specs.declared.Job.{Job}
 use Rattle.ledger.proofs.Gates.{passed-rest}
-use Rattle.ledger.specs.Demand3.{OneCreator, accessionedAlong, retire, standingAlong, standingFrom}
+use Rattle.ledger.specs.Demand3.{OneCreator, accessionedAlong, madeAlong, retire, standingAlong, standingFrom}
 use Rattle.ledger.specs.Register.{Register, accessionOf, entering, isAdmissible, passes, tabled, taking, withoutInputs}
 
 -- ---- what admissible means
@@ -66,6 +66,17 @@ accessioned-jobs : (job job′ : ℕ → Job) (ks : List ℕ) → ((k : ℕ) →
 accessioned-jobs job job′ [] e = refl
 accessioned-jobs job job′ (x ∷ ks) e = ap₂ (λ (j : Job) (m : ℕ). accessionOf j + m) (e x (inl refl)) (accessioned-jobs job job′ ks (λ k m. e k (inr m)))
 
+made-snoc : (job : ℕ → Job) (ks : List ℕ) (k : ℕ) → madeAlong job (ks ++ (k ∷ [])) ≡ madeAlong job ks ++ labels (outputTapes (job k))
+made-snoc job [] k = append-nil (labels (outputTapes (job k)))
+made-snoc job (x ∷ ks) k =
+    let made : List ℕ = labels (outputTapes (job x)) in
+    ap (λ (l : List ℕ). made ++ l) (made-snoc job ks k) ∙ sym (append-assoc made (madeAlong job ks) (labels (outputTapes (job k))))
+
+made-jobs : (job job′ : ℕ → Job) (ks : List ℕ) → ((k : ℕ) → In k ks → job′ k ≡ job k) → madeAlong job′ ks ≡ madeAlong job ks
+made-jobs job job′ [] e = refl
+made-jobs job job′ (x ∷ ks) e =
+    ap₂ (λ (j : Job) (l : List ℕ). labels (outputTapes j) ++ l) (e x (inl refl)) (made-jobs job job′ ks (λ k m. e k (inr m)))
+
 -- to take the input tapes away is to take their labels away, where each stands and no label stands twice
 by-label : (j : Job) (st : List Entry) → Distinct (labels st) → ((t : Entry) → In t (inputTapes j) → In t st) → withoutInputs j st ≡ retire j st
 by-label j st d h = keep-same (λ t. not (anyIn (λ s. sameTape s t) (inputTapes j))) (λ t. not (anyIn (eqb (t .label)) (labels (inputTapes j)))) st same
@@ -92,6 +103,7 @@ pub record Books (r : Register) : Type 0 where
   pub creators : (k : ℕ) → In k (r .taken) → (t : Entry) → In t (inputTapes (tabled (r .table) k)) → OneCreator (tabled (r .table)) (r .taken) k t
   pub once : Distinct (labels (r .standing))
   pub along : r .standing ≡ standingAlong (tabled (r .table)) (r .taken)
+  pub marks : r .made ≡ madeAlong (tabled (r .table)) (r .taken)
   pub mints : r .accessioned ≡ accessionedAlong (tabled (r .table)) (r .taken)
   pub frames : framesIn (r .standing) ≡ r .accessioned
 
@@ -203,6 +215,7 @@ module _ (r : Register) (k : ℕ) (b : Books r) (h : k < length (r .table)) (a :
         let q = b .stands-by (p .0) (in-rest (p .0) (p .1)) in
         new-label x o (subst (λ (z : ℕ). In z (r .made)) (sym (p .2)) (b .made-all (q .0) (p .0 .label) (q .1 .0) (labelled (q .0) (p .0) (q .1 .1))))));
     along = ap (λ (l : List Entry). l ++ outputTapes j) (cut ∙ ap (retire j) (b .along)) ∙ sym (standing-snoc (tabled (r .table)) [] (r .taken) k);
+    marks = ap (λ (l : List ℕ). l ++ labels (outputTapes j)) (b .marks) ∙ sym (made-snoc (tabled (r .table)) (r .taken) k);
     mints = omega (arith, b .mints, total-append (λ i. accessionOf (tabled (r .table) i)) (r .taken) (k ∷ []));
     frames = omega (
       arith,
@@ -236,6 +249,7 @@ books-enter r bytes b =
           };
       once = b .once;
       along = b .along ∙ sym (standing-jobs (tabled (r .table)) (tabled (r .table ++ (bytes ∷ []))) [] (r .taken) e);
+      marks = b .marks ∙ sym (made-jobs (tabled (r .table)) (tabled (r .table ++ (bytes ∷ []))) (r .taken) e);
       mints = b .mints ∙ sym (accessioned-jobs (tabled (r .table)) (tabled (r .table ++ (bytes ∷ []))) (r .taken) e);
       frames = b .frames;
     }

@@ -3,7 +3,9 @@
 use mathlib.Core.Bool.{Bool, cond, false, true, true≢false}
 use mathlib.Core.List.{List}
 use mathlib.Core.Path.{_∙_, _≡_, ap, refl, sym}
-use Prim.Native.Nat.{_<_, _^_, ℕ}
+use Prim.Native.Nat.{_<_, _^_, suc, zero, ℕ}
+use native.Mathlib.Omega.{arith}
+use lib.Pow.{pow-pos}
 use lib.Count.{ones}
 use lib.Dec.{leb}
 use borrow.Author.Tests.{le-leb, leb-true}
@@ -39,13 +41,17 @@ use Rattle.ledger.specs.declared.Decision.{Decision}
 use Rattle.ledger.specs.declared.Ledger.{Ledger}
 use Rattle.ledger.specs.declared.Vault.{Vault}
 
+-- any number is a set of as many bits
+below-power : (k : ℕ) → k < 2 ^ k
+below-power zero = pow-pos 0
+below-power (suc k) = omega (arith, below-power k)
+
 -- commit: checks 15 and 16 pass exactly where Algorithm 2's signature is valid
-pub certificate-valid : (s : Settings) (recorded signers : ℕ) → signers < 2 ^ 16
-    → Reflects (passes (certificate s recorded signers)) (Certificate s recorded signers)
+pub certificate-valid : (s : Settings) (recorded signers : ℕ) → Reflects (passes (certificate s recorded signers)) (Certificate s recorded signers)
 unfolding certificate
-certificate-valid s recorded signers h = record {
+certificate-valid s recorded signers = record {
   sound = λ e. by (subsetOf signers recorded) refl (leb (thresholdOf s) (ones signers)) refl e;
-  complete = λ c. simp (reflect-subset 16 signers recorded h .complete (λ i b. c .signed i), le-leb _ _ (c .enough));
+  complete = λ c. simp (reflect-subset signers signers recorded (below-power signers) .complete (λ i b. c .signed i), le-leb _ _ (c .enough));
 }
   where
     by : (a : Bool) → subsetOf signers recorded ≡ a → (b : Bool) → leb (thresholdOf s) (ones signers) ≡ b

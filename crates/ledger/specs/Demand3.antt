@@ -12,6 +12,10 @@ use lib.ListN.{drop, length, take}
 use Rattle.base.specs.Lists.{Distinct, In, anyIn, keepIf, total}
 use Rattle.outcome.specs.Figures.{numberOf}
 use Rattle.outcome.specs.declared.Outcome.{Outcome}
+use Rattle.outcome.specs.declared.Outcome.the-variants.{Refused}
+use Rattle.outcome.specs.declared.Refusal.{Refusal}
+use Rattle.outcome.specs.declared.Verdict.the-variants.{Pass}
+use Rattle.checks.specs.Checks.{examined}
 use Rattle.codec.specs.Codec.{recordSize}
 use Rattle.conflicts.specs.Tapes.{framesIn, inputTapes, labels, outputTapes}
 use Rattle.record.specs.declared.Entry.{Entry}
@@ -21,7 +25,7 @@ use Rattle.sets.specs.Jobs.{jobHas}
 use Rattle.federation.specs.Federation.{Lawful, thresholdOf}
 use Rattle.ledger.specs.Register.{Register, accessionOf, feedAll, log, newRegister, tabled}
 use Rattle.ledger.specs.State.{arrived, acknowledgersOf, signersOf, vaultAt}
-use Rattle.ledger.specs.Worlds.{Event, World, afterAll, outcomes, start}
+use Rattle.ledger.specs.Worlds.{Event, World, after, afterAll, outcomes, replyTo, start}
 use Rattle.ledger.specs.declared.Ledger.{Ledger}
 use Rattle.federation.specs.declared.Settings.{Settings}
 
@@ -60,6 +64,11 @@ standingAlong job ks = standingFrom job [] ks
 abbrev pub accessionedAlong : (ℕ → Job) → List ℕ → ℕ
 accessionedAlong job ks = total (λ k. accessionOf (job k)) ks
 
+-- "their labels are made": the output labels along it
+abbrev pub madeAlong : (ℕ → Job) → List ℕ → List ℕ
+madeAlong job [] = []
+madeAlong job (k ∷ ks) = labels (outputTapes (job k)) ++ madeAlong job ks
+
 -- the job k of the list made the tape, and stands before the job m in it
 pub record MadeBefore (job : ℕ → Job) (ks : List ℕ) (m : ℕ) (t : Entry) (k : ℕ) : Type 0 where
   pub earlier : List ℕ
@@ -74,8 +83,10 @@ pub record OneCreator (job : ℕ → Job) (ks : List ℕ) (m : ℕ) (t : Entry) 
   pub made : MadeBefore job ks m t creator
   pub only : (k : ℕ) → In k ks → In t (outputTapes (job k)) → k ≡ creator
 
--- ---- the statement
-pub record Holds (w : World) (r : Register) : Type 0 where
+-- ---- the statement: of the settings at the start, and of the world and the register at the end
+pub record Holds (s : Settings) (w : World) (r : Register) : Type 0 where
+  -- no step changes the settings
+  pub settings : w .ledger .settings ≡ s
   -- "the register never stops"
   pub running : r .running ≡ true
   -- jobs held and jobs taken, "compared by number and by record"
@@ -84,11 +95,13 @@ pub record Holds (w : World) (r : Register) : Type 0 where
   pub held-taken : (k : ℕ) → Held (w .ledger) k → In k (r .taken)
   pub table : r .table ≡ recordsIn (w .ledger .booked) (w .booked)
   pub records-once : Distinct (r .table)
+  pub checked : (bytes : List ℕ) → In bytes (r .table) → examined bytes ≡ Pass
   pub known : (k : ℕ) → In k (r .taken) → k < length (r .table)
   -- "each job counted once"
   pub once : Distinct (r .taken)
-  -- the tapes standing and the frames accessioned are those that are defined along the arrival order
+  -- the tapes standing, the labels made and the frames accessioned are those that are defined along the arrival order
   pub standing : r .standing ≡ standingAlong (tabled (r .table)) (arrived (w .ledger))
+  pub made : r .made ≡ madeAlong (tabled (r .table)) (arrived (w .ledger))
   pub accessioned : r .accessioned ≡ accessionedAlong (tabled (r .table)) (arrived (w .ledger))
   -- "frames standing equal frames accessioned"
   pub frames : framesIn (r .standing) ≡ r .accessioned
@@ -100,8 +113,16 @@ pub record Holds (w : World) (r : Register) : Type 0 where
 abbrev pub Demand3 : Type 0
 Demand3 =
     (n b faulty : ℕ) → Lawful (record { n = n; b = b; faulty = faulty }) → (es : List Event)
-    → Holds (afterAll (start n b faulty) es) (feedAll newRegister (log (start n b faulty) es))
+    → Holds (record { n = n; b = b; faulty = faulty }) (afterAll (start n b faulty) es) (feedAll newRegister (log (start n b faulty) es))
     × ((o : Outcome) → In o (outcomes (start n b faulty) es) → numberOf o ≡ 1 → ⊥)
+
+-- "Every other input gets the first matching refusal … and changes nothing": wherever a list has led, a refused step leaves the ledger and
+-- the booked bytes as they were
+abbrev pub RefusedUnchanged : Type 0
+RefusedUnchanged =
+    (n b faulty : ℕ) → Lawful (record { n = n; b = b; faulty = faulty }) → (es : List Event) (e : Event) (why : Refusal)
+    → replyTo (afterAll (start n b faulty) es) e .outcome ≡ Refused why
+    → after (afterAll (start n b faulty) es) e ≡ afterAll (start n b faulty) es
 
 -- ---- for readers
 

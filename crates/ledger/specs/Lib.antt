@@ -1,4 +1,5 @@
 pub mod Decisions
+pub mod Demand2
 pub mod Demand3
 pub mod Given
 pub mod Graph
