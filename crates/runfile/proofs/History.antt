@@ -25,6 +25,7 @@ use Rattle.ledger.specs.Worlds.{Event, Request, World, after as afterEvent, aft
 use Rattle.ledger.specs.declared.Decision.{Decision}
 use Rattle.ledger.specs.declared.Ledger.{Ledger}
 use Rattle.runfile.specs.History.{Item, RunKeeps, begun, eventOf, events, itemOf, itemsNext, steps, told, worldOf, worldWith}
+use Rattle.runfile.proofs.Turns.{runs-out}
 use Rattle.runfile.specs.Run.{Run, begins, commandOf, ended, isHeader, lastFrom, longest, opened, opens, runNext, runText, textFrom, textNext, textOf, turn}
 use Rattle.runfile.specs.Steps.{Command, draw, journalBy, listed, replyOf, request, unreadable, wordAt}
 
@@ -126,8 +127,9 @@ run-keeps input o =
     let f = follows (length input - begins input .count) input (begins input) in
     let d = demand3 (getD input 5 0) (getD input 6 0) (wordAt input 7) (opens-lawful input o) (events (steps input)) in
     record {
+      all = runs-out (length input - begins input .count) input (begins input) (omega arith);
       world = f .world;
       text = simp o (f .text);
-      holds = subst (λ (w : World). Holds w (feedAll newRegister (log (begun input) (events (steps input))))) (f .world) (d .0);
+      holds = subst (λ (w : World). Holds (opened input .settings) w (feedAll newRegister (log (begun input) (events (steps input))))) (f .world) (d .0);
       never-one = d .1;
     }

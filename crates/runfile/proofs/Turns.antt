@@ -1,5 +1,5 @@
 -- What a run has still to print, at its start, at its end, and at a step.
-use mathlib.Core.Bool.{cond, false, true}
+use mathlib.Core.Bool.{Bool, cond, false, true}
 use mathlib.Core.List.{List, [], _++_, append-nil}
 use mathlib.Core.Path.{_∙_, _≡_, ap, refl, sym}
 use Prim.Native.Nat.{_+_, _-_, _<_, _≤_, suc, zero, ℕ}
@@ -13,8 +13,10 @@ use Rattle.outcome.specs.declared.Outcome.{Outcome}
 use Rattle.outcome.specs.declared.Outcome.the-variants.{Refused}
 use Rattle.outcome.specs.declared.Refusal.the-variants.{Settings as BadSettings}
 use Rattle.text.specs.Text.{lineFor}
-use Rattle.runfile.specs.Run.{Run, begins, commandOf, headerSize, isHeader, lastFrom, longest, opened, opens, runNext, runText, textFrom, textNext, textOf, turn}
-use Rattle.runfile.specs.Steps.{journalBy, listed, nextAt, replyOf, stepAt}
+use Rattle.runfile.specs.Run.{Run, begins, commandOf, ended, headerSize, isHeader, lastFrom, longest, opened, opens, runNext, runText, textFrom, textNext, textOf, turn}
+use Rattle.runfile.specs.Steps.{endOf, journalBy, kindAt, listed, nextAt, replyOf, stepAt}
+use Rattle.runfile.specs.declared.Kind.{Kind}
+use Rattle.runfile.specs.declared.Kind.the-variants.{Commit, Draw, FaultyAcknowledge, FaultySign, Generations, Preflight, Propose, Show, Unknown}
 
 -- ---- the header
 pub header-long : (input : List ℕ) → isHeader input ≡ true → headerSize ≤ length input
@@ -60,6 +62,28 @@ none-after input r h = by (length input - r .count)
 pub refused-run : (input : List ℕ) → opens input ≡ false → (r : Run) → length input ≤ r .pos → runText input ≡ lineFor 0 (Refused BadSettings) ++ textFrom input r
 unfolding runText
 refused-run input o r h = rw (o, none-left input r h) (sym (append-nil (lineFor 0 (Refused BadSettings))))
+
+-- each step reads at least its kind, or is the last: so a run has no more steps than bytes
+reads-on : (kind : Kind) (pos size n : ℕ) → size ≤ pos + suc n → size ≤ endOf kind pos size + n
+reads-on Propose pos size n h = omega arith
+reads-on Preflight pos size n h = omega arith
+reads-on Commit pos size n h = omega arith
+reads-on FaultySign pos size n h = omega arith
+reads-on FaultyAcknowledge pos size n h = omega arith
+reads-on Show pos size n h = omega arith
+reads-on Draw pos size n h = omega arith
+reads-on Generations pos size n h = omega arith
+reads-on Unknown pos size n h = omega arith
+
+pub runs-out : (n : ℕ) (input : List ℕ) (r : Run) → length input ≤ r .pos + n → ended input (runNext n input r) ≡ true
+unfolding runNext turn
+runs-out zero input r h = le-leb (length input) (r .pos) (omega (arith, h))
+runs-out (suc n) input r h =
+    by (ended input r) refl (runs-out n input (turn input r) (reads-on (kindAt input (r .pos)) (r .pos) (length input) n h))
+  where
+    by : (b : Bool) → ended input r ≡ b → ended input (runNext n input (turn input r)) ≡ true → ended input (cond b r (runNext n input (turn input r))) ≡ true
+    by true e later = e
+    by false e later = later
 
 -- ---- a step
 -- the text of the next step comes first
