@@ -3,9 +3,7 @@
 use mathlib.Core.Bool.{Bool, cond, false, true, true≢false}
 use mathlib.Core.List.{List}
 use mathlib.Core.Path.{_∙_, _≡_, ap, refl, sym}
-use Prim.Native.Nat.{_<_, _^_, suc, zero, ℕ}
-use native.Mathlib.Omega.{arith}
-use lib.Pow.{pow-pos}
+use Prim.Native.Nat.{ℕ}
 use lib.Count.{ones}
 use lib.Dec.{leb}
 use borrow.Author.Tests.{le-leb, leb-true}
@@ -21,6 +19,7 @@ use Rattle.conflicts.specs.Tapes.{outputTapes}
 use Rattle.record.specs.declared.Entry.{Entry}
 use Rattle.record.specs.declared.Job.{Job}
 use Rattle.sets.proofs.Bits.{reflect-subset, subset-has}
+use Rattle.sets.proofs.Size.{below-power}
 use Rattle.sets.specs.Bits.{subsetOf}
 use Rattle.sets.specs.Jobs.{jobHas, jobWithout}
 use Rattle.ledger.proofs.Gates.{enters}
@@ -40,11 +39,6 @@ use Rattle.ledger.specs.declared.Change.the-variants.{Sign}
 use Rattle.ledger.specs.declared.Decision.{Decision}
 use Rattle.ledger.specs.declared.Ledger.{Ledger}
 use Rattle.ledger.specs.declared.Vault.{Vault}
-
--- any number is a set of as many bits
-below-power : (k : ℕ) → k < 2 ^ k
-below-power zero = pow-pos 0
-below-power (suc k) = omega (arith, below-power k)
 
 -- commit: checks 15 and 16 pass exactly where Algorithm 2's signature is valid
 pub certificate-valid : (s : Settings) (recorded signers : ℕ) → Reflects (passes (certificate s recorded signers)) (Certificate s recorded signers)

@@ -7,6 +7,7 @@ pub mod Effects
 pub mod Example
 pub mod Gates
 pub mod Growth
+pub mod Holders
 pub mod Invariant
 pub mod Lending
 pub mod Meaning

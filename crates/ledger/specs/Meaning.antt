@@ -19,6 +19,7 @@ use Rattle.checks.specs.Meaning.{Nowhere}
 use Rattle.record.specs.Meaning.{Used}
 use Rattle.record.specs.declared.Job.{Job}
 use Rattle.sets.specs.Bits.{hasBit}
+use Rattle.sets.specs.Quorum.{AtLeast}
 use Rattle.sets.specs.declared.job_set.JobSet.{JobSet}
 use Rattle.federation.specs.Federation.{Lawful, thresholdOf}
 use Rattle.ledger.specs.Graph.{Consumer, Creator, Maker}
@@ -98,6 +99,15 @@ module _ (job : ℕ → Job) (booked : ℕ) where
         → Admission held others j (Fail (InputReserved e))
     remade : (e : ℕ) → Nowhere (NotCreatedAt held j) → Nowhere (ConsumedAt held j) → Nowhere (ConsumedAt others j) → Least 8 (RemadeAt held others j) e
         → Admission held others j (Fail (OutputReserved e))
+
+-- ---- kind 6, by vaults: n − b of them have signed the job, or have acknowledged it
+abbrev pub Quorum : Settings → ℕ → Type 0
+Quorum s votes = AtLeast (thresholdOf s) votes
+
+pub data Status (s : Settings) (signers acknowledgers : ℕ) : ℕ → Type 0 where
+  uncertified : (Quorum s acknowledgers → ⊥) → (Quorum s signers → ⊥) → Status s signers acknowledgers 0
+  certified : (Quorum s acknowledgers → ⊥) → Quorum s signers → Status s signers acknowledgers 1
+  finished : Quorum s acknowledgers → Status s signers acknowledgers 2
 
 -- ---- checks 15 and 16, by vaults: each named signer has signed, and they are at least n − b. Algorithm 2's "valid threshold signature".
 pub record Certificate (s : Settings) (recorded signers : ℕ) : Type 0 where
