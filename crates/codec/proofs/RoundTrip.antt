@@ -22,12 +22,12 @@ use Rattle.record.specs.declared.Job.{Job}
 
 -- ---- from a job to its record and back
 
-leAt-append : (p s : List ℕ) (at k : ℕ) → leAt (p ++ s) (length p + at) k ≡ leAt s at k
+pub leAt-append : (p s : List ℕ) (at k : ℕ) → leAt (p ++ s) (length p + at) k ≡ leAt s at k
 unfolding leAt
 leAt-append p s at zero = refl
 leAt-append p s at (suc k) = rw (getD-append-add, add-assoc, leAt-append p s (at + 1) k)
 
-leAt-bytes : (k v : ℕ) (s : List ℕ) → v < 2 ^ (8 * k) → leAt (leBytes k v ++ s) 0 k ≡ v
+pub leAt-bytes : (k v : ℕ) (s : List ℕ) → v < 2 ^ (8 * k) → leAt (leBytes k v ++ s) 0 k ≡ v
 unfolding leAt leBytes
 leAt-bytes zero v s h = omega arith
 leAt-bytes (suc k) v s h =
@@ -73,7 +73,7 @@ job-record-job j rest h =
 
 -- ---- from a record to its job and back
 
-leBytes-leAt : (k : ℕ) (s : List ℕ) (at : ℕ) → AreBytes s → at + k ≤ length s → leBytes k (leAt s at k) ≡ take k (drop at s)
+pub leBytes-leAt : (k : ℕ) (s : List ℕ) (at : ℕ) → AreBytes s → at + k ≤ length s → leBytes k (leAt s at k) ≡ take k (drop at s)
 unfolding leAt leBytes
 leBytes-leAt zero s at b h = refl
 leBytes-leAt (suc k) s at b h =
