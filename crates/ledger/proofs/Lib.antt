@@ -1,6 +1,7 @@
 pub mod Account
 pub mod Algorithms
 pub mod Changes
+pub mod Creators
 pub mod Demand2
 pub mod Demand3
 pub mod Effects

@@ -23,6 +23,7 @@ use Rattle.record.specs.declared.Job.{Job}
 use Rattle.sets.specs.Bits.{hasBit}
 use Rattle.sets.specs.Jobs.{jobHas}
 use Rattle.federation.specs.Federation.{Lawful, thresholdOf}
+use Rattle.generations.specs.Generations.{ageIn}
 use Rattle.ledger.specs.Register.{Register, accessionOf, feedAll, log, newRegister, tabled}
 use Rattle.ledger.specs.State.{arrived, acknowledgersOf, signersOf, vaultAt}
 use Rattle.ledger.specs.Worlds.{Event, World, after, afterAll, outcomes, replyTo, start}
@@ -141,3 +142,22 @@ Disjoint =
     (n b faulty : ℕ) → Lawful (record { n = n; b = b; faulty = faulty }) → (es : List Event)
     → (i k : ℕ) → Held (afterAll (start n b faulty) es .ledger) i → Held (afterAll (start n b faulty) es .ledger) k → i ≢ k
     → Apart (bookedJob (afterAll (start n b faulty) es) i) (bookedJob (afterAll (start n b faulty) es) k)
+
+-- the generations of a taken job, by the creators that demand 3 speaks of
+pub record ByCreators (job : ℕ → Job) (ks : List ℕ) (age : ℕ → ℕ) (k : ℕ) : Type 0 where
+  -- "0 for an accession"
+  pub accession : ((t : Entry) → In t (inputTapes (job k)) → ⊥) → age k ≡ 0
+  -- "else one more than the largest among the jobs that created its inputs": one of them is reached, and none has more
+  pub reached : (t : Entry) → In t (inputTapes (job k))
+      → (s : Entry) × (In s (inputTapes (job k)) × ((c : OneCreator job ks k s) × (age k ≡ suc (age (c .creator)))))
+  pub above : (t : Entry) → In t (inputTapes (job k)) → (c : OneCreator job ks k t) → age (c .creator) < age k
+
+-- what kind 8 answers of a job
+abbrev pub ageAt : World → ℕ → ℕ
+ageAt w = ageIn (bookedJob w) (w .ledger .order) (w .ledger .arrivals)
+
+abbrev pub GenerationsByCreators : Type 0
+GenerationsByCreators =
+    (n b faulty : ℕ) → Lawful (record { n = n; b = b; faulty = faulty }) → (es : List Event)
+    → (k : ℕ) → Held (afterAll (start n b faulty) es .ledger) k
+    → ByCreators (bookedJob (afterAll (start n b faulty) es)) (arrived (afterAll (start n b faulty) es .ledger)) (ageAt (afterAll (start n b faulty) es)) k
