@@ -30,9 +30,9 @@ use Rattle.ledger.specs.Graph.{Algorithm1}
 use Rattle.journal.specs.Journal.{jobAt}
 use Rattle.ledger.specs.Meaning.{Certificate, Entered}
 use Rattle.ledger.specs.Register.{isDone, passes}
-use Rattle.ledger.specs.State.{acknowledgersOf, applied, signersOf, vaultAt}
+use Rattle.ledger.specs.State.{acknowledgersOf, signersOf, vaultAt}
 use Rattle.ledger.specs.Decisions.{answering, certificate, committing, consent, consenting, gated, preflighting, receiving, voting}
-use Rattle.ledger.specs.Steps.{carried, commitDecision, commitOf, preflightDecision, preflightOf}
+use Rattle.ledger.specs.Steps.{commitDecision, preflightDecision}
 use Rattle.ledger.specs.Vaults.{admissionAt, consented, signing, vaultPreflight}
 use Rattle.federation.specs.declared.Settings.{Settings}
 use Rattle.ledger.specs.declared.Change.the-variants.{Sign}

@@ -12,8 +12,6 @@ use lib.ListN.{getD, length, take}
 use borrow.Author.Tests.{eqb-true, leb-true}
 use Rattle.base.proofs.Members.{getD-in, in-getD}
 use Rattle.base.specs.Lists.{In}
-use Rattle.outcome.specs.declared.Outcome.{Outcome}
-use Rattle.outcome.specs.declared.Outcome.the-variants.{Done, Refused}
 use Rattle.outcome.specs.declared.Refusal.{Refusal}
 use Rattle.outcome.specs.declared.Refusal.the-variants.{Full, NotHeld, Settings as BadSettings}
 use Rattle.outcome.specs.declared.Verdict.{Verdict}

@@ -1,7 +1,6 @@
 -- Generations along the arrival order are those that demand 3's creators give: each job stands at one position, its creators stand before
 -- it, and no other job before it made the tape, so the search for a creator ends at that one.
-use mathlib.Core.Bool.{true}
-use mathlib.Core.List.{List, [], _++_, _∷_}
+use mathlib.Core.List.{List, [], _∷_}
 use mathlib.Core.Path.{_∙_, _≡_, ap, refl, subst, sym}
 use Prim.Native.Nat.{_<_, _≤_, suc, zero, ℕ}
 use native.Mathlib.Nat.{le-of-suc-le-suc}
@@ -12,7 +11,6 @@ use borrow.Author.Tests.{eq-eqb, eqb-true, lt-ltb}
 use Rattle.base.proofs.Members.{getD-in, in-getD}
 use Rattle.base.proofs.Search.{least-first}
 use Rattle.base.specs.Lists.{Distinct, In}
-use Rattle.base.specs.Search.{firstBelow}
 use Rattle.conflicts.proofs.Tapes.{at-used, made-tape, tape-made, used-at}
 use Rattle.conflicts.specs.Tapes.{inputTapes, outputTapes}
 use Rattle.generations.proofs.Meaning.{generation-means}
@@ -23,7 +21,7 @@ use Rattle.record.specs.declared.Entry.{Entry}
 use Rattle.record.specs.declared.Job.{Job}
 use Rattle.ledger.proofs.Demand3.{along as inv-along, first}
 use Rattle.ledger.proofs.Invariant.{Inv, held-by}
-use Rattle.ledger.specs.Demand3.{ByCreators, GenerationsByCreators, Held, OneCreator, ageAt, bookedJob}
+use Rattle.ledger.specs.Demand3.{ByCreators, GenerationsByCreators, OneCreator, ageAt, bookedJob}
 use Rattle.ledger.specs.Register.{Register, newRegister, tabled}
 use Rattle.ledger.specs.State.{arrived}
 use Rattle.ledger.specs.Worlds.{World, start}

@@ -26,7 +26,7 @@ use Rattle.ledger.specs.Graph.{Algorithm1}
 use Rattle.ledger.specs.Meaning.{Certificate, Entered}
 use Rattle.ledger.specs.Register.{Register, isDone, newRegister, tabled}
 use Rattle.ledger.specs.State.{signersOf, vaultAt}
-use Rattle.ledger.specs.Worlds.{World, commit, lend, preflight, start}
+use Rattle.ledger.specs.Worlds.{World, lend, preflight, start}
 use Rattle.ledger.specs.declared.Decision.{Decision}
 use Rattle.ledger.specs.declared.Ledger.{Ledger}
 

@@ -3,12 +3,11 @@
 use mathlib.Core.Bool.{Bool, Bool·beq, cond, false, true, true≢false}
 use mathlib.Core.List.{List}
 use mathlib.Core.Path.{_∙_, _≡_, refl, sym}
-use Prim.Native.Nat.{_*_, _<_, _^_, _≤_, ℕ}
+use Prim.Native.Nat.{_<_, _≤_, ℕ}
 use native.Mathlib.Omega.{arith}
-use lib.Count.{ones}
 use lib.Dec.{ltb}
 use borrow.Author.Tests.{lt-ltb, ltb-true}
-use Rattle.base.proofs.Reflect.{reflect-and, reflect-as, reflect-le, reflect-lt}
+use Rattle.base.proofs.Reflect.{reflect-and, reflect-as, reflect-le}
 use Rattle.base.specs.Reflect.{Reflects}
 use Rattle.outcome.specs.declared.Outcome.the-variants.{Refused}
 use Rattle.outcome.specs.declared.Refusal.{Refusal}

@@ -1,7 +1,7 @@
 -- Kinds 6 and 8 by vaults: check 18 passes exactly where some correct vault holds the job, as demand 3 has it; and what kind 6 answers is
 -- what the quorums of signatures and acknowledgements make of the job.
 use mathlib.Core.Bool.{Bool, cond, false, true}
-use mathlib.Core.Path.{_≡_, refl, sym}
+use mathlib.Core.Path.{_≡_, refl}
 use Prim.Native.Nat.{ℕ}
 use lib.Count.{ones}
 use lib.Dec.{leb}

@@ -5,11 +5,11 @@ use mathlib.Core.Bool.{Bool, cond, false, true}
 use mathlib.Core.List.{List, [], _++_, _∷_, append-assoc}
 use mathlib.Core.Path.{_∙_, _≡_, ap, ap₂, refl, sym}
 use Prim.Native.Nat.{_*_, _+_, _<_, _≤_, suc, zero, ℕ}
-use native.Mathlib.Nat.{le-of-suc-le-suc, not-suc-le-zero, suc-add, zero-add}
+use native.Mathlib.Nat.{le-of-suc-le-suc, not-suc-le-zero}
 use native.Mathlib.Numerals.{add-one}
 use native.Mathlib.Omega.{arith}
 use lib.ListN.{List·getD-eq-default, drop, getD, length, length-append, length-drop, length-take, take}
-use lib.Seq.{drop-append-le, drop-drop, take-append-le, take-at, take-length, take-nil, take-take}
+use lib.Seq.{drop-append-le, drop-drop, take-append-le, take-at, take-length, take-take}
 use Rattle.base.proofs.Lists.{take-drop}
 use Rattle.base.proofs.Reflect.{refuted}
 use Rattle.codec.specs.Codec.{jobOf, recordSize}

@@ -2,7 +2,7 @@
 use mathlib.Core.Bool.{Bool, _&&_, cond, false, true, true≢false}
 use mathlib.Core.List.{List}
 use mathlib.Core.Logic.{_⊎_, inl, inr, ⊎-elim}
-use mathlib.Core.Path.{_∙_, _≡_, refl, sym}
+use mathlib.Core.Path.{_≡_, refl}
 use Prim.Native.Nat.{_*_, _+_, _<_, _≤_, ℕ}
 use native.Mathlib.Omega.{arith}
 use lib.Dec.{ltb}
@@ -12,8 +12,8 @@ use Rattle.base.proofs.Lists.{reflect-same}
 use Rattle.base.proofs.Reflect.{and-true, not-true-false, refuted, refutes}
 use Rattle.base.proofs.Search.{first-complete, first-end-complete, first-end-sound, first-sound, found-none, unfound}
 use Rattle.base.specs.Reflect.{Reflects}
-use Rattle.base.specs.Search.{Every, Least, firstBelow}
-use Rattle.outcome.specs.declared.Refusal.the-variants.{Full, Settings as BadSettings}
+use Rattle.base.specs.Search.{Least}
+use Rattle.outcome.specs.declared.Refusal.the-variants.{Settings as BadSettings}
 use Rattle.outcome.specs.declared.Verdict.{Verdict}
 use Rattle.outcome.specs.declared.Verdict.the-variants.{Fail, Pass}
 use Rattle.checks.specs.Checks.{examined}
@@ -21,7 +21,7 @@ use Rattle.codec.specs.Codec.{recordSize}
 use Rattle.journal.specs.Journal.{capacity, equalAt, equalIn, hasRoom, insideOf, slotAt, slots}
 use Rattle.ledger.proofs.Gates.{passed-test, reflect-sane}
 use Rattle.ledger.specs.Decisions.{gated, placing, proposal, settling}
-use Rattle.ledger.specs.Meaning.{FullAt, KnownAt, NewAt, Proposed, Sane, Unknown, failed, full, insane, known, new}
+use Rattle.ledger.specs.Meaning.{KnownAt, NewAt, Proposed, Sane, Unknown, failed, full, insane, known, new}
 use Rattle.ledger.specs.State.{isSane}
 use Rattle.ledger.specs.Steps.{proposeDecision, saneGate}
 use Rattle.ledger.specs.declared.Decision.{Decision}

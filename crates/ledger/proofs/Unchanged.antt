@@ -2,7 +2,7 @@
 -- changes, so it leaves the ledger and the journal as they were.
 use mathlib.Core.Bool.{Bool, cond, false, true, true≢false}
 use mathlib.Core.List.{List}
-use mathlib.Core.Path.{_∙_, _≡_, refl, sym}
+use mathlib.Core.Path.{_≡_, refl}
 use Prim.Native.Nat.{ℕ}
 use lib.Count.{ones}
 use lib.Dec.{ltb}
@@ -12,16 +12,14 @@ use Rattle.outcome.specs.declared.Verdict.{Verdict}
 use Rattle.outcome.specs.declared.Verdict.the-variants.{Fail, Pass}
 use Rattle.checks.specs.Checks.{examined}
 use Rattle.sets.specs.Jobs.{jobHas}
-use Rattle.journal.specs.Journal.{equalIn, hasRoom, insideOf}
-use Rattle.ledger.specs.Decisions.{ageing, answering, certificate, committing, consent, consenting, gated, placing, preflighting, proposal, receiving, refusing, settling, voting}
-use Rattle.ledger.specs.Holders.{isHeld}
+use Rattle.ledger.specs.Decisions.{ageing, answering, certificate, committing, consent, consenting, gated, placing, preflighting, proposal, receiving, refusing, settling}
 use Rattle.ledger.specs.Register.{isDone}
-use Rattle.ledger.specs.State.{acknowledgersOf, applied, signersOf, vaultAt}
-use Rattle.ledger.specs.Steps.{bookedGate, commitDecision, faultyAcknowledgeDecision, faultySignDecision, generationsDecision, journalAfter, journalWith, preflightDecision, proposeDecision, saneGate, showDecision, vaultGate}
-use Rattle.ledger.specs.Vaults.{admissionAt, consented, holding, vaultPreflight}
+use Rattle.ledger.specs.State.{applied}
+use Rattle.ledger.specs.Steps.{bookedGate, commitDecision, faultyAcknowledgeDecision, faultySignDecision, generationsDecision, journalAfter, preflightDecision, proposeDecision, saneGate, showDecision, vaultGate}
+use Rattle.ledger.specs.Vaults.{vaultPreflight}
 use Rattle.ledger.specs.Worlds.{Request, commit, decisionOf, faultyAcknowledge, faultySign, generations, leftBy, preflight, propose, show, stepOf}
 use Rattle.ledger.specs.declared.Change.{Change}
-use Rattle.ledger.specs.declared.Change.the-variants.{Book, Hold, Nothing}
+use Rattle.ledger.specs.declared.Change.the-variants.{Book, Nothing}
 use Rattle.ledger.specs.declared.Consent.{Consent}
 use Rattle.ledger.specs.declared.Consent.the-variants.{Already, Denied, Fresh}
 use Rattle.ledger.specs.declared.Decision.{Decision}

@@ -16,7 +16,7 @@ use Rattle.checks.specs.Checks.{examined}
 use Rattle.codec.specs.Codec.{recordSize}
 use Rattle.journal.specs.Journal.{capacity, equalIn, hasRoom, insideOf, putAt, slots}
 use Rattle.index.proofs.Tables.{records-part}
-use Rattle.index.specs.Index.{Blank, Indexed}
+use Rattle.index.specs.Index.{Indexed}
 use Rattle.ledger.proofs.Places.{examined-length}
 use Rattle.ledger.specs.Decisions.{gated, isBook, placing, proposal, settling}
 use Rattle.ledger.specs.Given.{Searchable, Writable}

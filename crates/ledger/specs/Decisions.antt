@@ -20,7 +20,6 @@ use Rattle.ledger.specs.declared.Change.the-variants.{Book, Hold, Nothin
 use Rattle.ledger.specs.declared.Consent.{Consent}
 use Rattle.ledger.specs.declared.Consent.the-variants.{Already, Denied, Fresh}
 use Rattle.ledger.specs.declared.Decision.{Decision}
-use Rattle.ledger.specs.declared.Signing.{Signing}
 use Rattle.ledger.specs.declared.Vault.{Vault}
 use Rattle.ledger.specs.Vaults.{admissionAt, holding, vaultPreflight}
 

@@ -21,7 +21,7 @@ use Rattle.ledger.specs.Meaning.{Proposed, failed, full, insane, known, new}
 use Rattle.ledger.specs.Register.{feedAll, log, newRegister}
 use Rattle.ledger.specs.State.{newLedger}
 use Rattle.ledger.specs.Steps.{journalAfter, journalWith, proposeDecision}
-use Rattle.ledger.specs.Worlds.{Event, Request, World, after as afterEvent, afterAll, commit, faultyAcknowledge, faultySign, generations, leftBy, lend, lent, overlay, preflight, propose, show, start, stepOf}
+use Rattle.ledger.specs.Worlds.{Request, World, after as afterEvent, afterAll, commit, faultyAcknowledge, faultySign, generations, leftBy, lend, lent, overlay, preflight, propose, show, start, stepOf}
 use Rattle.ledger.specs.declared.Decision.{Decision}
 use Rattle.ledger.specs.declared.Ledger.{Ledger}
 use Rattle.runfile.specs.History.{Item, RunKeeps, begun, eventOf, events, itemOf, itemsNext, steps, told, worldOf, worldWith}

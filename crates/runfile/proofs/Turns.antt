@@ -14,7 +14,7 @@ use Rattle.outcome.specs.declared.Outcome.the-variants.{Refused}
 use Rattle.outcome.specs.declared.Refusal.the-variants.{Settings as BadSettings}
 use Rattle.text.specs.Text.{lineFor}
 use Rattle.runfile.specs.Run.{Run, begins, commandOf, ended, headerSize, isHeader, lastFrom, longest, opened, opens, runNext, runText, textFrom, textNext, textOf, turn}
-use Rattle.runfile.specs.Steps.{endOf, journalBy, kindAt, listed, nextAt, replyOf, stepAt}
+use Rattle.runfile.specs.Steps.{endOf, kindAt, listed, replyOf}
 use Rattle.runfile.specs.declared.Kind.{Kind}
 use Rattle.runfile.specs.declared.Kind.the-variants.{Commit, Draw, FaultyAcknowledge, FaultySign, Generations, Preflight, Propose, Show, Unknown}
 

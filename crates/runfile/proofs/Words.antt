@@ -1,7 +1,7 @@
 -- The 16 bits of a run file are two bytes, the low one first, as the numbers of a record are: what is written so reads back, and what is
 -- read was written so.
 use mathlib.Core.List.{List, _++_}
-use mathlib.Core.Path.{_∙_, _≡_, ap, refl, sym}
+use mathlib.Core.Path.{_∙_, _≡_, ap, sym}
 use Prim.Native.Nat.{_+_, _<_, _^_, _≤_, ℕ}
 use native.Mathlib.Nat.{add-zero}
 use native.Mathlib.Omega.{arith}

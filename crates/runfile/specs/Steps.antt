@@ -1,5 +1,5 @@
 -- The steps of a run file: "each a kind byte and its body; vault, job and u are one byte".
-use mathlib.Core.Bool.{Bool, cond}
+use mathlib.Core.Bool.{cond}
 use mathlib.Core.List.{List, []}
 use Prim.Native.Nat.{_*_, _+_, ℕ}
 use lib.Dec.{eqb, ltb}
