@@ -169,7 +169,7 @@ module _ (j : Job) where
 abbrev pub accessionFrames : Job → ℕ
 accessionFrames j = cond (eqb (j .kind) 0) (framesIn (outputTapes j)) 0
 
-pub record Sound (j : Job) : Type 0 where
+pub record WellFormed (j : Job) : Type 0 where
   pub distinct : Distinct (labels (inputTapes j ++ outputTapes j))
   pub balance : framesIn (inputTapes j) + accessionFrames j ≡ framesIn (outputTapes j)
   -- some tape is made
@@ -185,16 +185,16 @@ balanced-by j (inl h) b = rw (eq-eqb (j .kind) 0 (h .0), no-inputs j (h .1)) (om
 balanced-by j (inr h) b =
     rw (ne-eqb (j .kind) 0 (λ q. absurd (omega (arith, h .0, q)))) (omega (arith, used-frames j 0 4, used-frames j 4 4, b (h .0)))
 
-answered-sound : (j : Job) (v : Verdict) → v ≡ Pass → Answer j v → Sound j
-answered-sound j v e (passes f r u b) = record {
+answered-well-formed : (j : Job) (v : Verdict) → v ≡ Pass → Answer j v → WellFormed j
+answered-well-formed j v e (passes f r u b) = record {
   distinct = subst (λ (l : List Entry). Distinct (labels l)) (used-append j 0 4 4) (distinct-from j r 0 8 (le-refl 8));
   balance = balanced-by j (f .inputs) b;
   made = at-used j 4 4 4 (le-refl 4) (omega arith) (reflect-used j 4 .complete (inr (le-refl 4, f .outputs .0)));
 }
-answered-sound j v e (malformed f) = let z : _≡_ {A = ℕ} 0 1 = cc in absurd (omega arith)
-answered-sound j v e (repeated i f r) = let z : _≡_ {A = ℕ} 0 1 = cc in absurd (omega arith)
-answered-sound j v e (unsupported i f r u) = let z : _≡_ {A = ℕ} 0 1 = cc in absurd (omega arith)
-answered-sound j v e (unbalanced f r u b) = let z : _≡_ {A = ℕ} 0 1 = cc in absurd (omega arith)
+answered-well-formed j v e (malformed f) = let z : _≡_ {A = ℕ} 0 1 = cc in absurd (omega arith)
+answered-well-formed j v e (repeated i f r) = let z : _≡_ {A = ℕ} 0 1 = cc in absurd (omega arith)
+answered-well-formed j v e (unsupported i f r u) = let z : _≡_ {A = ℕ} 0 1 = cc in absurd (omega arith)
+answered-well-formed j v e (unbalanced f r u b) = let z : _≡_ {A = ℕ} 0 1 = cc in absurd (omega arith)
 
-pub checked-sound : (j : Job) → checkOf j ≡ Pass → Sound j
-checked-sound j e = answered-sound j (checkOf j) e (check-answers j)
+pub checked-well-formed : (j : Job) → checkOf j ≡ Pass → WellFormed j
+checked-well-formed j e = answered-well-formed j (checkOf j) e (check-answers j)

@@ -87,14 +87,14 @@ last-or-below p m l = eq-or-lt-of-le (le-of-suc-le-suc l)
 module _ (job : ℕ → Job) (m : ℕ) (numbers : List ℕ) (t : Numbered job m numbers) (lm : m < places) (used : usedAt job m ≡ true)
     (label tape b : ℕ) (ll : label ≤ m) (lt : tape ≤ m) (lb : b < buckets)
     (el : label ≡ numberAt job false m) (et : tape ≡ numberAt job true m) (eb : b ≡ bucketOf (labelAt job m)) where
-  abbrev after : List ℕ
-  after = numbersWith numbers m label tape b
+  abbrev entered : List ℕ
+  entered = numbersWith numbers m label tape b
 
-  named-now : (exact : Bool) → getD after (numbersAt exact + m) 0 ≡ numberAt job exact m
+  named-now : (exact : Bool) → getD entered (numbersAt exact + m) 0 ≡ numberAt job exact m
   named-now true = with-tape numbers (t .size) m label tape b lm lb ∙ et
   named-now false = let z : 0 + m ≡ m = omega arith in rw z (with-label numbers (t .size) m label tape b lm lb ∙ el)
 
-  named-before : (exact : Bool) (p : ℕ) → p < m → getD after (numbersAt exact + p) 0 ≡ getD numbers (numbersAt exact + p) 0
+  named-before : (exact : Bool) (p : ℕ) → p < m → getD entered (numbersAt exact + p) 0 ≡ getD numbers (numbersAt exact + p) 0
   named-before true p l =
       with-other numbers (t .size) m label tape b lm lb (places + p) (λ e. omega arith) (λ e. omega arith) (λ e. omega arith) (λ e. omega arith)
   named-before false p l = with-other numbers (t .size) m label tape b lm lb (0 + p) (λ e. omega arith) (λ e. omega arith) (λ e. omega arith) (λ e. omega arith)
@@ -107,10 +107,10 @@ module _ (job : ℕ → Job) (m : ℕ) (numbers : List ℕ) (t : Numbered job m 
   unfolding inBucket
   in-other c ne = simp (used, ne-eqb (bucketOf (labelAt job m)) c (λ e. ne (sym e ∙ sym eb)))
 
-  small-next : (i : ℕ) → i < linksAt → getD after i 0 < places
+  small-next : (i : ℕ) → i < linksAt → getD entered i 0 < places
   small-next i l = by (eqb i m) (eqb i (places + m)) refl refl
     where
-      by : (u v : Bool) → eqb i m ≡ u → eqb i (places + m) ≡ v → getD after i 0 < places
+      by : (u v : Bool) → eqb i m ≡ u → eqb i (places + m) ≡ v → getD entered i 0 < places
       by true v eu ev =
           let q = eqb-true i m eu in rw q (omega (arith, with-label numbers (t .size) m label tape b lm lb))
       by false true eu ev =
@@ -120,7 +120,7 @@ module _ (job : ℕ → Job) (m : ℕ) (numbers : List ℕ) (t : Numbered job m 
           with-other numbers (t .size) m label tape b lm lb i (eqb-false i m eu) (eqb-false i (places + m) ev) (λ e. omega arith) (λ e. omega arith) in
           omega (arith, t .small i l, kept)
 
-  pub numbered-next : Numbered job (suc m) after
+  pub numbered-next : Numbered job (suc m) entered
   numbered-next = record {
     size = with-size numbers (t .size) m label tape b lm lb;
     small = small-next;
@@ -137,7 +137,7 @@ module _ (job : ℕ → Job) (m : ℕ) (numbers : List ℕ) (t : Numbered job m 
     headed = λ c l. by c l (eqb c b) refl;
   }
     where
-      by : (c : ℕ) → c < buckets → (u : Bool) → eqb c b ≡ u → getD after (headsAt + c) 0 ≡ lastBelow (suc m) (inBucket job c)
+      by : (c : ℕ) → c < buckets → (u : Bool) → eqb c b ≡ u → getD entered (headsAt + c) 0 ≡ lastBelow (suc m) (inBucket job c)
       by c l true e =
           let q = eqb-true c b e in
           rw q (with-head numbers (t .size) m label tape b lm lb ∙ sym (last-yes (inBucket job b) m in-own))

@@ -15,7 +15,7 @@ use Rattle.base.specs.Lists.{Distinct, In, anyIn}
 use Rattle.base.specs.Reflect.{Reflects}
 use Rattle.outcome.specs.declared.Verdict.{Verdict}
 use Rattle.outcome.specs.declared.Verdict.the-variants.{Fail, Pass}
-use Rattle.conflicts.proofs.Tapes.{Sound, checked-sound, reflect-tape}
+use Rattle.conflicts.proofs.Tapes.{WellFormed, checked-well-formed, reflect-tape}
 use Rattle.checks.specs.Checks.{checkOf, examined}
 use Rattle.codec.specs.Codec.{jobOf, recordSize}
 use Rattle.conflicts.specs.Tapes.{framesIn, inputTapes, labels, outputTapes, sameTape}
@@ -115,16 +115,16 @@ module _ (r : Register) (k : ℕ) (b : Books r) (h : k < length (r .table)) (a :
   abbrev rest : List Entry
   rest = withoutInputs j (r .standing)
 
-  sound : Sound j
-  sound = checked-sound j (examined-checked (getD (r .table) k []) (a .fits))
+  well-formed : WellFormed j
+  well-formed = checked-well-formed j (examined-checked (getD (r .table) k []) (a .fits))
 
   outputs-once : Distinct (labels (outputTapes j))
   outputs-once =
       distinct-right (labels (inputTapes j)) (labels (outputTapes j))
-      (subst (λ (l : List ℕ). Distinct l) (map-append (λ (t : Entry). t .label) (inputTapes j) (outputTapes j)) (sound .distinct))
+      (subst (λ (l : List ℕ). Distinct l) (map-append (λ (t : Entry). t .label) (inputTapes j) (outputTapes j)) (well-formed .distinct))
 
   inputs-once : Distinct (inputTapes j)
-  inputs-once = distinct-left (inputTapes j) (outputTapes j) (distinct-map (λ (t : Entry). t .label) (inputTapes j ++ outputTapes j) (sound .distinct))
+  inputs-once = distinct-left (inputTapes j) (outputTapes j) (distinct-map (λ (t : Entry). t .label) (inputTapes j ++ outputTapes j) (well-formed .distinct))
 
   in-rest : (t : Entry) → In t rest → In t (r .standing)
   in-rest t m = keep-in (λ t. not (anyIn (λ s. sameTape s t) (inputTapes j))) (r .standing) t m .0
@@ -221,7 +221,7 @@ module _ (r : Register) (k : ℕ) (b : Books r) (h : k < length (r .table)) (a :
       arith,
       total-append (λ (t : Entry). t .frames) rest (outputTapes j),
       without-total sameTape reflect-tape (λ (t : Entry). t .frames) (inputTapes j) (r .standing) (distinct-map (λ (t : Entry). t .label) (r .standing) (b .once)) inputs-once (a .standing),
-      sound .balance,
+      well-formed .balance,
       b .frames,
     );
   }

@@ -13,7 +13,7 @@ use Rattle.base.specs.Reflect.{Reflects}
 use Rattle.outcome.specs.declared.Refusal.the-variants.{NotSigned, TooFewSigners}
 use Rattle.outcome.specs.declared.Verdict.{Verdict}
 use Rattle.outcome.specs.declared.Verdict.the-variants.{Fail, Pass}
-use Rattle.conflicts.proofs.Tapes.{checked-sound}
+use Rattle.conflicts.proofs.Tapes.{checked-well-formed}
 use Rattle.checks.specs.Checks.{checkOf}
 use Rattle.conflicts.specs.Tapes.{outputTapes}
 use Rattle.record.specs.declared.Entry.{Entry}
@@ -99,7 +99,7 @@ module _ (l : Ledger) (journal : List ℕ) (v k : ℕ) (in-place : Entered l jou
   pub held-refused : checkOf (jobs k) ≡ Pass → jobHas (vault .held) k ≡ true → jobHas (vault .signed) k ≡ false
       → isDone (preflightDecision l journal v k .outcome) ≡ false
   held-refused h m s = not-true-false _ (λ e.
-      let made = in-map (λ (t : Entry). t .label) (outputTapes (jobs k)) _ (checked-sound (jobs k) h .made) in
+      let made = in-map (λ (t : Entry). t .label) (outputTapes (jobs k)) _ (checked-well-formed (jobs k) h .made) in
       signs-algorithm h s e .admissible .fresh _ made (record { which = k; below = in-place .known .below; member = m; lists = made }))
 
   received : isDone (receiving vault (acknowledgersOf l k) v k .outcome) ≡ true

@@ -57,7 +57,7 @@ pub record Shape (l : Ledger) (bs : List ℕ) : Type 0 where
   pub records : length bs ≡ recordSize * l .booked
   pub room : l .booked ≤ 128
   pub signers-below : (k : ℕ) → signersOf l k < 2 ^ l .settings .n
-  pub holders-below : (k : ℕ) → acknowledgersOf l k < 2 ^ l .settings .n
+  pub acknowledgers-below : (k : ℕ) → acknowledgersOf l k < 2 ^ l .settings .n
 
 pub shape-sane : {l : Ledger} {bs : List ℕ} → Shape l bs → Sane l
 shape-sane s = record { lawful = s .lawful; booked = s .room; arrivals = s .arrivals }

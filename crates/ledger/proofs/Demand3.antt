@@ -105,7 +105,7 @@ module _ (n b faulty : ℕ) where
       records = refl;
       room = omega arith;
       signers-below = none-below;
-      holders-below = none-below;
+      acknowledgers-below = none-below;
     };
     safe = record {
       booked-held = λ v k t. absurd (no-jobs (λ x. x .held) refl v k t);
@@ -147,7 +147,7 @@ module _ {w : World} {r : Register} (i : Inv w r) where
   finished-certified : (k : ℕ) → thresholdOf (w .ledger .settings) ≤ ones (acknowledgersOf (w .ledger) k) → thresholdOf (w .ledger .settings) ≤ ones (signersOf (w .ledger) k)
   unfolding ackedAt
   finished-certified k a =
-      let m = meeting (i .shape .lawful) (acknowledgersOf (w .ledger) k) (acknowledgersOf (w .ledger) k) (i .shape .holders-below k) (i .shape .holders-below k) a a in
+      let m = meeting (i .shape .lawful) (acknowledgersOf (w .ledger) k) (acknowledgersOf (w .ledger) k) (i .shape .acknowledgers-below k) (i .shape .acknowledgers-below k) a a in
       i .safe .certified (m .vault) k (i .safe .honest (m .vault) k (m .correct) (m .first))
 
   quorum : (k : ℕ) → Held (w .ledger) k → thresholdOf (w .ledger .settings) ≤ ones (signersOf (w .ledger) k)

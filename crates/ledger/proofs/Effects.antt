@@ -82,9 +82,9 @@ module _ (l : Ledger) (v k : ℕ) where
   unfolding acknowledged withVault
   kept-vaults = hold-arrives .vaults
 
-  kept-holders : held l v k .acknowledgements ≡ set (l .acknowledgements) k (withMember 16 (getD (l .acknowledgements) k 0) v)
+  kept-acknowledgers : held l v k .acknowledgements ≡ set (l .acknowledgements) k (withMember 16 (getD (l .acknowledgements) k 0) v)
   unfolding acknowledged withVault acknowledgersOf
-  kept-holders = hold-arrives .acknowledgements
+  kept-acknowledgers = hold-arrives .acknowledgements
 
   kept-signatures : held l v k .signatures ≡ l .signatures
   unfolding acknowledged withVault
@@ -129,12 +129,12 @@ module _ (l : Ledger) (v k : ℕ) where
   pub hold-acked : k < length (l .acknowledgements) → v < 16 → Grown (λ m u. ackedAt l u m) (λ m u. ackedAt (held l v k) u m) k v
   unfolding ackedAt acknowledgersOf
   hold-acked hk hv =
-      subst (λ (xs : List ℕ). Grown (λ m. hasBit (getD (l .acknowledgements) m 0)) (λ m. hasBit (getD xs m 0)) k v) (sym kept-holders)
+      subst (λ (xs : List ℕ). Grown (λ m. hasBit (getD (l .acknowledgements) m 0)) (λ m. hasBit (getD xs m 0)) k v) (sym kept-acknowledgers)
       (column-grown (l .acknowledgements) k v hk hv)
 
   pub hold-below : (n : ℕ) → v < n → n ≤ 16 → ((m : ℕ) → acknowledgersOf l m < 2 ^ n) → (m : ℕ) → acknowledgersOf (held l v k) m < 2 ^ n
   unfolding acknowledgersOf
-  hold-below n hv hn h m = subst (λ (xs : List ℕ). getD xs m 0 < 2 ^ n) (sym kept-holders) (column-below (l .acknowledgements) k v n hv hn h m)
+  hold-below n hv hn h m = subst (λ (xs : List ℕ). getD xs m 0 < 2 ^ n) (sym kept-acknowledgers) (column-below (l .acknowledgements) k v n hv hn h m)
 
   -- the order grows where the job had not arrived
   pub hold-again : hasArrived (l .order) (l .arrivals) k ≡ true → arrived (held l v k) ≡ arrived l
@@ -159,7 +159,7 @@ module _ {l : Ledger} {bs : List ℕ} (v k : ℕ) (s : Shape l bs) (hv : v < l .
     records = s .records;
     room = s .room;
     signers-below = sign-below l v k (l .settings .n) hv (s .lawful .vaults) (s .signers-below);
-    holders-below = s .holders-below;
+    acknowledgers-below = s .acknowledgers-below;
   }
 
   pub shape-countersign : Shape (countersigned l v k) bs
@@ -174,7 +174,7 @@ module _ {l : Ledger} {bs : List ℕ} (v k : ℕ) (s : Shape l bs) (hv : v < l .
     records = s .records;
     room = s .room;
     signers-below = counter-below l v k (l .settings .n) hv (s .lawful .vaults) (s .signers-below);
-    holders-below = s .holders-below;
+    acknowledgers-below = s .acknowledgers-below;
   }
 
   pub shape-acknowledge : Shape (acknowledged l v k) bs
@@ -189,7 +189,7 @@ module _ {l : Ledger} {bs : List ℕ} (v k : ℕ) (s : Shape l bs) (hv : v < l .
     records = s .records;
     room = s .room;
     signers-below = s .signers-below;
-    holders-below = ack-below l v k (l .settings .n) hv (s .lawful .vaults) (s .holders-below);
+    acknowledgers-below = ack-below l v k (l .settings .n) hv (s .lawful .vaults) (s .acknowledgers-below);
   }
 
   pub shape-hold : Shape (held l v k) bs
@@ -200,7 +200,7 @@ module _ {l : Ledger} {bs : List ℕ} (v k : ℕ) (s : Shape l bs) (hv : v < l .
         lawful = subst Lawful (sym (hold-settings l v k)) (s .lawful);
         vaults = ap length (kept-vaults l v k) ∙ length-set (l .vaults) v _ ∙ s .vaults;
         signatures = ap length (kept-signatures l v k) ∙ s .signatures;
-        acknowledgements = ap length (kept-holders l v k) ∙ length-set (l .acknowledgements) k _ ∙ s .acknowledgements;
+        acknowledgements = ap length (kept-acknowledgers l v k) ∙ length-set (l .acknowledgements) k _ ∙ s .acknowledgements;
         order = hold-order l v k ∙ s .order;
         arrivals = hold-arrivals l v k (s .arrivals);
         records = s .records ∙ ap (λ (m : ℕ). recordSize * m) (sym (hold-booked l v k));
@@ -208,8 +208,8 @@ module _ {l : Ledger} {bs : List ℕ} (v k : ℕ) (s : Shape l bs) (hv : v < l .
         signers-below = λ m.
             subst (λ (f : ℕ → ℕ). f m < 2 ^ held l v k .settings .n) (sym (hold-signers l v k))
             (subst (λ (x : ℕ). signersOf l m < 2 ^ x) (sym e) (s .signers-below m));
-        holders-below = λ m.
-            subst (λ (x : ℕ). acknowledgersOf (held l v k) m < 2 ^ x) (sym e) (hold-below l v k n hv (s .lawful .vaults) (s .holders-below) m);
+        acknowledgers-below = λ m.
+            subst (λ (x : ℕ). acknowledgersOf (held l v k) m < 2 ^ x) (sym e) (hold-below l v k n hv (s .lawful .vaults) (s .acknowledgers-below) m);
       }
 
 pub shape-book : {l : Ledger} {bs : List ℕ} (bytes : List ℕ) → Shape l bs → l .booked < 128 → length bytes ≡ recordSize → Shape (booking l) (bs ++ bytes)
@@ -224,5 +224,5 @@ shape-book {l} {bs} bytes s h e = record {
   records = omega (arith, length-append bs bytes, s .records);
   room = omega arith;
   signers-below = s .signers-below;
-  holders-below = s .holders-below;
+  acknowledgers-below = s .acknowledgers-below;
 }

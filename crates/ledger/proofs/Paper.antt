@@ -12,7 +12,7 @@ use Rattle.base.specs.Lists.{Distinct, In}
 use Rattle.outcome.specs.declared.Verdict.{Verdict}
 use Rattle.outcome.specs.declared.Verdict.the-variants.{Pass}
 use Rattle.record.proofs.Meaning.{reflect-used}
-use Rattle.conflicts.proofs.Tapes.{at-used, checked-sound, used-at}
+use Rattle.conflicts.proofs.Tapes.{at-used, checked-well-formed, used-at}
 use Rattle.checks.specs.Checks.{checkOf}
 use Rattle.record.specs.Entries.{framesOf, labelOf}
 use Rattle.checks.specs.Meaning.{Nowhere}
@@ -81,7 +81,7 @@ module _ (job : ℕ → Job) (booked : ℕ) (held others : JobSet) (j : Job) whe
   -- checks 11 to 14 pass exactly where Algorithm 1 signs
   pub admission-signs : checkOf j ≡ Pass → admission job booked held others j ≡ Pass → Algorithm1 job booked held others j
   admission-signs h e =
-      let s = checked-sound j h in
+      let s = checked-well-formed j h in
       let u = admission-unblocked e in
       let d : Distinct (labels (inputTapes j) ++ labels (outputTapes j)) =
       subst (λ (l : List ℕ). Distinct l) (map-append (λ (t : Entry). t .label) (inputTapes j) (outputTapes j)) (s .distinct) in
