@@ -1,7 +1,7 @@
 #!/usr/bin/env bash
 # Applies each deliberate fault to a copy of this crate and checks that
-# generated run files expose it; and that those of faults/unexposable, which
-# no run file can expose, are not.
+# generated run files expose it; that those of faults/unexposable, which no
+# run file can expose, are not; and that FAULTS.md lists them all.
 #
 # usage: faults.sh [SEEDS]    (the seeds below SEEDS are tried; default 600)
 set -euo pipefail
@@ -76,7 +76,9 @@ while IFS='|' read -r patch how; do
     *": seed "*) ;;
     *) how="WRONG: $how" bad=1 ;;
     esac
-    printf '%-36s %s\n' "${name#unexposable/}" "$how"
+    name="${name#unexposable/}"
+    grep -qF "\`$name\`:" "$here/FAULTS.md" || how="WRONG: not in FAULTS.md" bad=1
+    printf '%-36s %s\n' "$name" "$how"
 done < <(
     cat "$work/found.0" "$work/found.1" >"$work/found"
     grep -v '^unexposable' "$work/found" | sort

@@ -13,10 +13,8 @@ mod text;
 
 use federation::Federation;
 use ledger::Ledger;
+use reference::step::kind;
 use text::{Answer, Lines};
-
-/// The longest run file.
-pub const LONGEST: usize = 65_536;
 
 /// Leaves in `out` the text that is printed for the run file.
 pub fn run(input: &[u8], out: &mut Vec<u8>) {
@@ -44,20 +42,24 @@ fn take_steps<'a>(mut ledger: Ledger<'a>, mut rest: &'a [u8], out: &mut Vec<u8>)
 #[inline(always)]
 fn step<'a>(ledger: &mut Ledger<'a>, rest: &'a [u8]) -> Option<(Answer, &'a [u8])> {
     Some(match *rest {
-        [1, ref body @ ..] => {
+        [kind::PROPOSE, ref body @ ..] => {
             let (record, rest) = body.split_first_chunk()?;
             (ledger.propose(record), rest)
         }
-        [2, vault, job, ref rest @ ..] => (ledger.preflight(vault, job), rest),
-        [3, vault, job, low, high, ref rest @ ..] => {
+        [kind::PREFLIGHT, vault, job, ref rest @ ..] => (ledger.preflight(vault, job), rest),
+        [kind::COMMIT, vault, job, low, high, ref rest @ ..] => {
             let signers = u16::from_le_bytes([low, high]);
             (ledger.commit(vault, job, signers), rest)
         }
-        [4, vault, job, ref rest @ ..] => (ledger.faulty_signature(vault, job), rest),
-        [5, vault, job, ref rest @ ..] => (ledger.faulty_acknowledgement(vault, job), rest),
-        [6, job, ref rest @ ..] => (ledger.show(job), rest),
-        [7, absent, ref rest @ ..] => (ledger.draw(absent), rest),
-        [8, job, ref rest @ ..] => (ledger.generations(job), rest),
+        [kind::FAULTY_SIGNATURE, vault, job, ref rest @ ..] => {
+            (ledger.faulty_signature(vault, job), rest)
+        }
+        [kind::FAULTY_ACKNOWLEDGEMENT, vault, job, ref rest @ ..] => {
+            (ledger.faulty_acknowledgement(vault, job), rest)
+        }
+        [kind::SHOW, job, ref rest @ ..] => (ledger.show(job), rest),
+        [kind::DRAW, absent, ref rest @ ..] => (ledger.draw(absent), rest),
+        [kind::GENERATIONS, job, ref rest @ ..] => (ledger.generations(job), rest),
         _ => return None,
     })
 }

@@ -5,13 +5,17 @@ mod late;
 mod mixed;
 mod mixed_preflights;
 mod repeats;
-mod scramble;
 mod shared_labels;
 mod tapes;
 mod writer;
 
 pub use growing::growing;
+use reference::settings::HEADER_BYTES;
+use reference::step::step_length;
 use writer::Run;
+
+/// Orders are random, but the same in every run.
+const SEED: u64 = 0;
 
 pub struct File {
     pub name: String,
@@ -30,9 +34,9 @@ impl File {
     /// The file without the steps from the one of this number on, which is counted from 0.
     pub fn cut(mut self, steps: usize) -> File {
         self.intended.truncate(steps);
-        let mut end = 9;
+        let mut end = HEADER_BYTES;
         for _ in &self.intended {
-            end += step_size(self.bytes[end]);
+            end += step_length(self.bytes[end]).expect("a known kind");
         }
         self.bytes.truncate(end);
         self
@@ -41,16 +45,6 @@ impl File {
     /// How many steps are meant to get the refusal.
     pub fn refused(&self, refusal: u8) -> usize {
         self.intended.iter().filter(|&&r| r == refusal).count()
-    }
-}
-
-/// How many bytes a step of the kind has.
-fn step_size(kind: u8) -> usize {
-    match kind {
-        1 => 101,
-        3 => 5,
-        2 | 4 | 5 => 3,
-        _ => 2,
     }
 }
 

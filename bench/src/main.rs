@@ -9,9 +9,9 @@ mod scratch;
 
 use bench::fast;
 use bench::files::{growth, measured, File};
-use bench::proved;
 use measure::{interleave, sample, Effort, Pair};
 use process::Programs;
+use proved::Buffer;
 use report::Row;
 use scratch::Scratch;
 use std::env;
@@ -87,21 +87,16 @@ fn measure_growth(programs: &Programs, file: File, quick: bool) -> Row {
 /// The text and the times of both programs in this process.
 fn run_in_process(file: &File, effort: Effort) -> (Vec<u8>, Pair) {
     let input = &file.bytes[..];
-    let mut proved_out = vec![0; proved::TEXT];
-    let mut proved_length = 0;
+    let mut proved = Buffer::default();
     let mut fast_out = Vec::new();
     let mut runs = (0, 0);
     let pair = interleave(
         effort,
-        || {
-            sample(&mut runs.0, || {
-                proved_length = proved::run(input, &mut proved_out)
-            })
-        },
+        || sample(&mut runs.0, || drop(proved.text(input))),
         || sample(&mut runs.1, || fast::run(input, &mut fast_out)),
     );
     assert!(
-        proved_out[..proved_length] == fast_out[..],
+        proved.text(input) == Ok(&fast_out[..]),
         "the texts of {} differ in process",
         file.name
     );

@@ -2,11 +2,13 @@
 //! executable: `compare EXECUTABLE [COUNT [FIRST_SEED]]`.
 
 mod case;
-mod edges;
-mod proved;
+mod process;
+mod room;
 mod tally;
 
 use case::Case;
+use proved::Buffer;
+use reference::edges;
 use reference::register::Register;
 use reference::run::{lines, print, Line};
 use std::panic::catch_unwind;
@@ -38,7 +40,7 @@ fn main() -> ExitCode {
 
 fn compare(executable: &str, count: u64, first: u64) -> Result<(), String> {
     let whole = reference::whole_run();
-    proved::short_of_room(&whole, reference::whole_text().as_bytes())?;
+    room::check(&whole, reference::whole_text().as_bytes())?;
 
     near_each_edge(executable)?;
 
@@ -62,19 +64,19 @@ fn compare(executable: &str, count: u64, first: u64) -> Result<(), String> {
     Ok(())
 }
 
-/// The reference and the proved program, both ways, against texts that are worked out in `edges`.
+/// The reference and the proved program, both ways, against texts that are worked out by hand.
 fn near_each_edge(executable: &str) -> Result<(), String> {
     let edges = edges::all();
-    let mut out = vec![0; proved::LONGEST_TEXT];
+    let mut out = Buffer::default();
     for edge in &edges {
         let wrong = |who: &str| format!("DIFFERENCE: {}: {who} prints something else", edge.name);
         if reference::run(&edge.file) != edge.text.as_bytes() {
             return Err(wrong("the reference"));
         }
-        if proved::text(&edge.file, &mut out)? != edge.text.as_bytes() {
+        if out.text(&edge.file)? != edge.text.as_bytes() {
             return Err(wrong("the proved library"));
         }
-        if proved::whole_process(executable, &edge.file)? != edge.text.as_bytes() {
+        if process::text(executable, &edge.file)? != edge.text.as_bytes() {
             return Err(wrong("the proved program"));
         }
     }
@@ -86,7 +88,7 @@ fn near_each_edge(executable: &str) -> Result<(), String> {
 }
 
 /// Compares on one case; the reference's lines if both agree.
-type Comparison<'a> = dyn Fn(&Case, &mut [u8]) -> Result<Vec<Line>, String> + Sync + 'a;
+type Comparison<'a> = dyn Fn(&Case, &mut Buffer) -> Result<Vec<Line>, String> + Sync + 'a;
 
 /// Where in the list the cases differ, and how.
 type Difference = (usize, String);
@@ -123,7 +125,7 @@ fn share(
     first_wrong: &AtomicUsize,
     comparison: &Comparison,
 ) -> Result<Tally, Difference> {
-    let mut out = vec![0; proved::LONGEST_TEXT];
+    let mut out = Buffer::default();
     let mut tally = Tally::default();
     for i in (thread..cases.len()).step_by(THREADS) {
         if i > first_wrong.load(Ordering::Relaxed) {
@@ -140,10 +142,10 @@ fn share(
     Ok(tally)
 }
 
-fn in_process(case: &Case, out: &mut [u8]) -> Result<Vec<Line>, String> {
+fn in_process(case: &Case, out: &mut Buffer) -> Result<Vec<Line>, String> {
     let file = case.file();
     let lines = reference_lines(case, &file)?;
-    let found = proved::text(&file, out).map_err(|why| report(case, &why))?;
+    let found = out.text(&file).map_err(|why| report(case, &why))?;
     agree(case, &print(&lines), found)?;
     Ok(lines)
 }
@@ -151,7 +153,7 @@ fn in_process(case: &Case, out: &mut [u8]) -> Result<Vec<Line>, String> {
 fn as_process(executable: &str, case: &Case) -> Result<Vec<Line>, String> {
     let file = case.file();
     let lines = reference_lines(case, &file)?;
-    let found = proved::whole_process(executable, &file).map_err(|why| report(case, &why))?;
+    let found = process::text(executable, &file).map_err(|why| report(case, &why))?;
     agree(case, &print(&lines), &found)?;
     Ok(lines)
 }

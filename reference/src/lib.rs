@@ -3,9 +3,11 @@
 //! to be compared with the proved program.
 
 pub mod draw;
+pub mod edges;
 pub mod engine;
 #[cfg(feature = "generator")]
 pub mod generate;
+pub mod random;
 pub mod record;
 pub mod refusal;
 pub mod register;
@@ -15,6 +17,7 @@ pub mod step;
 pub mod vault;
 pub mod watch;
 pub mod whole;
+pub mod write;
 
 pub use run::run;
 pub use whole::{whole_run, whole_text};

@@ -2,13 +2,17 @@
 
 use crate::refusal::{first_offender, plain, Refusal};
 
-pub const RECORD_BYTES: usize = 100;
-pub const ENTRY_BYTES: usize = 12;
+pub const RECORD_BYTES: usize = HEAD_BYTES + ENTRIES * ENTRY_BYTES;
+/// Kind, drive, number of inputs, number of outputs.
+pub const HEAD_BYTES: usize = 4;
+pub const LABEL_BYTES: usize = 8;
+pub const ENTRY_BYTES: usize = LABEL_BYTES + 4;
 /// Inputs lie in entries 0 to 3, outputs in 4 to 7.
+pub const ENTRIES: usize = 2 * FIRST_OUTPUT;
 pub const FIRST_OUTPUT: usize = 4;
 
 pub type Bytes = [u8; RECORD_BYTES];
-pub type Label = [u8; 8];
+pub type Label = [u8; LABEL_BYTES];
 
 /// A tape is a label and its frames.
 #[derive(Clone, Copy, PartialEq, Eq, PartialOrd, Ord, Debug)]
@@ -82,9 +86,9 @@ pub fn parse(bytes: &Bytes) -> Option<Record> {
     let outputs = bytes[3] as usize;
     let inputs_right = match kind {
         Kind::Accession => inputs == 0,
-        Kind::Migration => (1..=4).contains(&inputs),
+        Kind::Migration => (1..=FIRST_OUTPUT).contains(&inputs),
     };
-    if !(5..=9).contains(&drive) || !inputs_right || !(1..=4).contains(&outputs) {
+    if !(5..=9).contains(&drive) || !inputs_right || !(1..=FIRST_OUTPUT).contains(&outputs) {
         return None;
     }
     Some(Record {
@@ -96,11 +100,16 @@ pub fn parse(bytes: &Bytes) -> Option<Record> {
     })
 }
 
+/// Where an entry begins in its record.
+pub fn entry_start(number: usize) -> usize {
+    HEAD_BYTES + number * ENTRY_BYTES
+}
+
 /// The used entries of a half of four; nothing if one of the four is wrong.
 fn parse_half(bytes: &Bytes, first: usize, used: usize) -> Option<Vec<Entry>> {
     let mut entries = Vec::new();
-    for number in first..first + 4 {
-        let start = 4 + number * ENTRY_BYTES;
+    for number in first..first + FIRST_OUTPUT {
+        let start = entry_start(number);
         let entry = &bytes[start..start + ENTRY_BYTES];
         if number < first + used {
             entries.push(Entry {
@@ -115,8 +124,8 @@ fn parse_half(bytes: &Bytes, first: usize, used: usize) -> Option<Vec<Entry>> {
 }
 
 fn parse_tape(entry: &[u8]) -> Option<Tape> {
-    let label: Label = entry[..8].try_into().unwrap();
-    let frames = u32::from_le_bytes(entry[8..].try_into().unwrap());
+    let label: Label = entry[..LABEL_BYTES].try_into().unwrap();
+    let frames = u32::from_le_bytes(entry[LABEL_BYTES..].try_into().unwrap());
     if !label_well_formed(&label) || frames == 0 {
         return None;
     }

@@ -1,5 +1,8 @@
 //! "Turned back": a refusal is a number and, for some, an entry.
 
+/// The table's refusals are numbered from 1 to this.
+pub const REFUSALS: u64 = 18;
+
 #[derive(Clone, Copy, PartialEq, Eq, Debug)]
 pub struct Refusal {
     pub number: u64,

@@ -7,6 +7,9 @@ use crate::settings::{read_header, HEADER_BYTES};
 use crate::step::{decode, Step};
 use crate::watch;
 
+/// The program wants this room for a line: 6 digits for the step, 4 for the refusal, 10 for the value, two spaces and the end.
+pub const LONGEST_LINE: usize = 23;
+
 /// "step number from 1, 0 or the refusal, a value".
 #[derive(Clone, Copy, PartialEq, Eq, Debug)]
 pub struct Line {

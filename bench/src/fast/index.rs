@@ -3,6 +3,7 @@ use super::ledger::Vault;
 use super::record::{Entry, Job};
 use super::table::Table;
 use super::text::Answer;
+use reference::record::FIRST_OUTPUT;
 
 /// A set of jobs, bit k for job k.
 pub type Jobs = u128;
@@ -24,9 +25,9 @@ pub struct Index {
 /// A job's tapes by their numbers in the index.
 #[derive(Clone, Copy)]
 pub struct Tapes {
-    input_labels: [u16; 4],
-    input_tapes: [u16; 4],
-    output_labels: [u16; 4],
+    input_labels: [u16; FIRST_OUTPUT],
+    input_tapes: [u16; FIRST_OUTPUT],
+    output_labels: [u16; FIRST_OUTPUT],
     inputs: u8,
     outputs: u8,
 }
@@ -59,9 +60,9 @@ impl Index {
     pub fn book(&mut self, job: &Job, number: u8) -> Tapes {
         let bit = 1 << number;
         let mut tapes = Tapes {
-            input_labels: [0; 4],
-            input_tapes: [0; 4],
-            output_labels: [0; 4],
+            input_labels: [0; FIRST_OUTPUT],
+            input_tapes: [0; FIRST_OUTPUT],
+            output_labels: [0; FIRST_OUTPUT],
             inputs: job.inputs().len() as u8,
             outputs: job.outputs().len() as u8,
         };
@@ -122,7 +123,7 @@ impl Index {
         }
         let made = |&label: &u16| self.users(label).outputs & known != 0;
         let remade = tapes.output_labels().iter().position(made)?;
-        Some(Answer::refused(14, 4 + remade))
+        Some(Answer::refused(14, FIRST_OUTPUT + remade))
     }
 
     /// Check 12 or 13, one of which fails.

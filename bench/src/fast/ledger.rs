@@ -5,9 +5,11 @@ use super::index::{Index, Jobs, Tapes};
 use super::record::{self, Record};
 use super::repeats::{Place, Repeats};
 use super::text::Answer;
+use reference::engine::BOOK_RECORDS;
+use reference::settings::MOST_VAULTS;
 
-/// How many records the journal holds.
-const CAPACITY: usize = 128;
+// A set of jobs has a bit for each.
+const _: () = assert!(BOOK_RECORDS <= Jobs::BITS as usize);
 
 /// What a correct vault keeps.
 #[derive(Clone, Copy, Default)]
@@ -44,7 +46,7 @@ struct Booked {
 pub struct Ledger<'a> {
     federation: Federation,
     jobs: Vec<Booked>,
-    vaults: [Vault; 16],
+    vaults: [Vault; MOST_VAULTS as usize],
     /// The jobs that some correct vault holds.
     arrived: Jobs,
     index: Index,
@@ -56,7 +58,7 @@ impl<'a> Ledger<'a> {
         Ledger {
             federation,
             jobs: Vec::new(),
-            vaults: [Vault::default(); 16],
+            vaults: [Vault::default(); MOST_VAULTS as usize],
             arrived: 0,
             index: Index::new(),
             repeats: Repeats::new(),
@@ -73,7 +75,7 @@ impl<'a> Ledger<'a> {
             Ok(job) => job,
             Err(refusal) => return refusal,
         };
-        if self.jobs.len() == CAPACITY {
+        if self.jobs.len() == BOOK_RECORDS {
             return Answer::refused(10, 0);
         }
         let number = self.jobs.len() as u8;

@@ -1,7 +1,7 @@
 //! Job records and checks 6 to 9.
 use super::text::Answer;
-
-pub type Record = [u8; 100];
+pub use reference::record::Bytes as Record;
+use reference::record::{ENTRIES, ENTRY_BYTES, FIRST_OUTPUT, LABEL_BYTES};
 
 #[derive(Clone, Copy, Default)]
 pub struct Entry {
@@ -12,7 +12,7 @@ pub struct Entry {
 
 /// A record that has been read: its used entries, inputs first, in their places.
 pub struct Job {
-    entries: [Entry; 8],
+    entries: [Entry; ENTRIES],
     drive: u8,
     inputs: usize,
     outputs: usize,
@@ -43,7 +43,7 @@ impl Job {
     }
 
     pub fn outputs(&self) -> &[Entry] {
-        &self.entries[4..4 + self.outputs]
+        &self.entries[FIRST_OUTPUT..FIRST_OUTPUT + self.outputs]
     }
 
     /// None where the record is malformed.
@@ -58,12 +58,12 @@ impl Job {
             return None;
         }
         let mut job = Job {
-            entries: [Entry::default(); 8],
+            entries: [Entry::default(); ENTRIES],
             drive,
             inputs: usize::from(inputs),
             outputs: usize::from(outputs),
         };
-        for (i, bytes) in entries.chunks_exact(12).enumerate() {
+        for (i, bytes) in entries.chunks_exact(ENTRY_BYTES).enumerate() {
             let entry = read_entry(bytes);
             let used = job.is_used(i);
             if used != is_proper(entry) || (!used && (entry.label != 0 || entry.frames != 0)) {
@@ -75,11 +75,11 @@ impl Job {
     }
 
     fn is_used(&self, i: usize) -> bool {
-        i < self.inputs || (4 <= i && i < 4 + self.outputs)
+        i < self.inputs || (FIRST_OUTPUT..FIRST_OUTPUT + self.outputs).contains(&i)
     }
 
     fn used(&self) -> impl Iterator<Item = usize> {
-        (0..self.inputs).chain(4..4 + self.outputs)
+        (0..self.inputs).chain(FIRST_OUTPUT..FIRST_OUTPUT + self.outputs)
     }
 
     /// Check 7. An unused entry has no label that a used one could have.
@@ -92,7 +92,7 @@ impl Job {
     fn foreign_medium(&self) -> Option<usize> {
         let drive = usize::from(self.drive - 5);
         self.used().find(|&i| {
-            let written = 4 <= i && self.inputs > 0;
+            let written = FIRST_OUTPUT <= i && self.inputs > 0;
             let media = if written { WRITES[drive] } else { READS[drive] };
             media >> (medium(self.entries[i].label) - b'5') & 1 == 0
         })
@@ -105,7 +105,7 @@ impl Job {
 }
 
 fn read_entry(bytes: &[u8]) -> Entry {
-    let (label, frames) = bytes.split_at(8);
+    let (label, frames) = bytes.split_at(LABEL_BYTES);
     Entry {
         label: u64::from_le_bytes(label.try_into().expect("eight bytes")),
         frames: u32::from_le_bytes(frames.try_into().expect("four bytes")),

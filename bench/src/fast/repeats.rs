@@ -1,9 +1,11 @@
 //! Finds a booked record again by its hash.
 use super::record::Record;
 use super::table::mix;
+use reference::engine::BOOK_RECORDS;
+use reference::record::RECORD_BYTES;
 
-/// Twice the journal's capacity.
-const SLOTS: usize = 256;
+/// Half of the slots stay free.
+const SLOTS: usize = 2 * BOOK_RECORDS;
 
 pub struct Repeats<'a> {
     /// One more than the number of the job that lies here, 0 where none does.
@@ -52,7 +54,7 @@ fn hash(record: &Record) -> u64 {
         let bytes = record[at..at + 8].try_into().expect("eight bytes");
         u64::from_le_bytes(bytes)
     };
-    let (mut one, mut other) = (word(92), 0);
+    let (mut one, mut other) = (word(RECORD_BYTES - 8), 0);
     for at in [0, 32, 64] {
         one = mix(one ^ word(at), word(at + 8));
         other = mix(other ^ word(at + 16), word(at + 24));

@@ -1,4 +1,6 @@
 //! A small table by open addressing: keys get the numbers from 0 in the order in which they are first seen.
+use reference::engine::BOOK_RECORDS;
+use reference::record::ENTRIES;
 
 pub trait Key: Copy + Eq {
     fn hash(self) -> u64;
@@ -24,8 +26,8 @@ impl Key for (u64, u32) {
     }
 }
 
-/// A full journal has 1,024 entries, so half of the slots stay free.
-const SLOTS: usize = 2048;
+/// Half of the slots stay free where every entry of a full journal is used.
+const SLOTS: usize = 2 * BOOK_RECORDS * ENTRIES;
 
 pub struct Table<K> {
     /// One more than the number of the key that lies here, 0 where none does.

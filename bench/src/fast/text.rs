@@ -1,5 +1,8 @@
 //! The lines that are printed. A line is put together in two words and stored at once: the step's number is kept in digits,
 //! and what follows it on the line is made at compile time.
+use reference::record::ENTRIES;
+use reference::refusal::REFUSALS;
+use reference::run::LONGEST_LINE;
 
 /// What a step answers, as the end of its line: a space, 0 or the refusal, a space, the value and the end of the line.
 #[derive(Clone, Copy)]
@@ -8,7 +11,9 @@ pub struct Answer(u64);
 /// No value exceeds the thousandths of a draw.
 const VALUES: usize = 1001;
 static DONE: [u64; VALUES] = done_endings();
-static REFUSED: [[u64; 8]; 19] = refused_endings();
+/// By refusal, of which none is 0, and entry.
+type Endings = [[u64; ENTRIES]; REFUSALS as usize + 1];
+static REFUSED: Endings = refused_endings();
 
 impl Answer {
     #[inline(always)]
@@ -50,11 +55,12 @@ const fn done_endings() -> [u64; VALUES] {
     endings
 }
 
-const fn refused_endings() -> [[u64; 8]; 19] {
-    let mut endings = [[0; 8]; 19];
+const fn refused_endings() -> Endings {
+    let mut endings = [[0; ENTRIES]; REFUSALS as usize + 1];
     let mut cell = 0;
-    while cell < 19 * 8 {
-        endings[cell / 8][cell % 8] = ending(cell / 8, cell % 8);
+    while cell < ENTRIES * endings.len() {
+        let (refusal, entry) = (cell / ENTRIES, cell % ENTRIES);
+        endings[refusal][entry] = ending(refusal, entry);
         cell += 1;
     }
     endings
@@ -69,9 +75,9 @@ pub struct Lines<'a> {
 }
 
 impl<'a> Lines<'a> {
-    /// Makes room for the lines of this many bytes of steps: a step has two bytes or more, a line at most 14.
+    /// Makes room for the lines of this many bytes of steps: a step has two bytes or more.
     pub fn new(out: &'a mut Vec<u8>, steps: usize) -> Lines<'a> {
-        out.reserve((steps / 2 + 1) * 14 + 16);
+        out.reserve((steps / 2 + 1) * LONGEST_LINE + 16);
         Lines {
             out,
             digits: u64::from(b'0'),

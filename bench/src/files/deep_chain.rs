@@ -1,11 +1,15 @@
 //! A master copied 127 times, from oldest tape to newest, and the generations of every copy over and over.
-use super::scramble::Scramble;
-use super::tapes::{accession, migration, Reels, Tape};
+use super::tapes::Reels;
 use super::writer::Run;
-use super::File;
+use super::{File, SEED};
+use reference::engine::BOOK_RECORDS;
+use reference::random::Random;
+use reference::record::Tape;
+use reference::step::kind;
+use reference::write::{accession, migration};
 
-const JOBS: u8 = 128;
-const FRAMES: u32 = 1000;
+const JOBS: u8 = BOOK_RECORDS as u8;
+const FRAMES: u64 = 1000;
 
 pub fn file() -> File {
     let mut run = Run::new(4, 1, 0);
@@ -15,9 +19,9 @@ pub fn file() -> File {
     }
     run.prepared();
     let mut jobs: Vec<u8> = (0..JOBS).collect();
-    Scramble::new().shuffle(&mut jobs);
+    Random::new(SEED).shuffle(&mut jobs);
     for &job in jobs.iter().cycle() {
-        if run.room() < 2 {
+        if !run.has_room(kind::GENERATIONS) {
             break;
         }
         run.generations(job, 0);

@@ -1,8 +1,10 @@
 //! Preflights that are refused as late as may be, with few or many jobs booked, all but the first held where it is refused.
 use super::late::book_pair;
-use super::tapes::{accession, migration, Reels};
+use super::tapes::{with_frames, Reels};
 use super::writer::Run;
 use super::File;
+use reference::step::kind;
+use reference::write::{accession, migration};
 
 /// `booked` is 1 or an even number up to 128.
 pub fn growing(booked: usize) -> File {
@@ -13,7 +15,7 @@ pub fn growing(booked: usize) -> File {
         last_output(&mut run, booked);
     }
     run.prepared();
-    while run.room() >= 3 {
+    while run.has_room(kind::PREFLIGHT) {
         run.preflight(0, 0, 14);
     }
     run.named(&format!("growing({booked})"))
@@ -31,7 +33,7 @@ fn last_output(run: &mut Run, booked: usize) {
     let tapes = reels.four(5);
     let mut outputs = reels.copies(&tapes[..3], 6);
     outputs[2].frames -= 1;
-    outputs.push(tapes[3].with_frames(1));
+    outputs.push(with_frames(tapes[3], 1));
     run.book(&migration(6, &tapes[..3], &outputs));
     let pairs: Vec<(u8, u8)> = (0..booked / 2 - 1)
         .map(|_| book_pair(run, &mut reels))

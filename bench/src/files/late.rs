@@ -1,8 +1,11 @@
 //! Preflights that are refused as late as may be, at one vault that holds nearly the whole journal: migrations of four tapes
 //! onto four, whose inputs were made by the last accessions and whose last output the last job has reserved.
-use super::tapes::{accession, migration, Record, Reels, Tape};
+use super::tapes::Reels;
 use super::writer::Run;
 use super::File;
+use reference::record::{Bytes, Tape};
+use reference::step::kind;
+use reference::write::{accession, migration};
 
 const TARGETS: usize = 8;
 const PAIRS: usize = 55;
@@ -33,7 +36,7 @@ pub fn file() -> File {
     run.preflight(0, last, 0);
     run.prepared();
     for target in (0..TARGETS as u8).cycle() {
-        if run.room() < 3 {
+        if !run.has_room(kind::PREFLIGHT) {
             break;
         }
         run.preflight(0, target, 14);
@@ -41,7 +44,7 @@ pub fn file() -> File {
     run.named("preflights_late")
 }
 
-fn target_record(reels: &mut Reels, sources: &[[Tape; 4]], target: usize, rival: Tape) -> Record {
+fn target_record(reels: &mut Reels, sources: &[[Tape; 4]], target: usize, rival: Tape) -> Bytes {
     let inputs: Vec<Tape> = (0..4)
         .map(|i| sources[(target + i) % sources.len()][i])
         .collect();

@@ -1,11 +1,15 @@
 //! All kinds of step, as a federation with two faulty vaults might take them: jobs from proposal to acknowledgement,
 //! with the mistakes and the repetitions of a careless network.
-use super::scramble::Scramble;
-use super::tapes::{accession, migration, Record, Reels, Tape};
-use super::writer::{set_of, Run};
-use super::File;
+use super::tapes::{with_frames, Reels};
+use super::writer::Run;
+use super::{File, SEED};
+use reference::engine::BOOK_RECORDS;
+use reference::random::Random;
+use reference::record::{Bytes, Tape};
+use reference::step::kind;
+use reference::write::{accession, migration, set_of};
 
-const JOBS: u8 = 128;
+const JOBS: u8 = BOOK_RECORDS as u8;
 /// Correct vaults that sign; with the faulty vaults 14 and 15 they are eleven.
 const SIGNERS: std::ops::Range<u8> = 0..9;
 
@@ -30,18 +34,18 @@ pub fn file() -> File {
     let surplus = accession(7, &reels.four(5));
     run.propose(&surplus, 10);
     run.prepared();
-    let mut scramble = Scramble::new();
+    let mut random = Random::new(SEED);
     for action in (0..10).cycle() {
-        if run.room() < 101 {
+        if !run.has_room(kind::PROPOSE) {
             break;
         }
-        repeat(&mut run, &mut scramble, &records, action);
+        repeat(&mut run, &mut random, &records, action);
     }
     run.named("mixed")
 }
 
 /// A job from its proposal until it is finished.
-fn follow(run: &mut Run, record: &Record) {
+fn follow(run: &mut Run, record: &Bytes) {
     let job = run.book(record);
     let signers = set_of(SIGNERS) | set_of(14..16);
     run.show(job, 0);
@@ -68,7 +72,7 @@ fn mistakes(run: &mut Run, reels: &mut Reels, job: u8) {
     malformed(run, tape, copy);
     run.propose(&migration(6, &[tape], &[tape]), 7);
     run.propose(&migration(9, &[tape], &[copy]), 8);
-    run.propose(&migration(6, &[tape], &[copy.with_frames(999)]), 9);
+    run.propose(&migration(6, &[tape], &[with_frames(copy, 999)]), 9);
     run.preflight(16, job, 3);
     run.preflight(0, job + 1, 4);
     run.preflight(14, job, 5);
@@ -87,16 +91,16 @@ fn mistakes(run: &mut Run, reels: &mut Reels, job: u8) {
 }
 
 fn malformed(run: &mut Run, tape: Tape, copy: Tape) {
-    run.propose(&migration(6, &[tape], &[copy.with_frames(0)]), 6);
+    run.propose(&migration(6, &[tape], &[with_frames(copy, 0)]), 6);
     let mut five = migration(6, &[tape], &[copy]);
     five[2] = 5;
     run.propose(&five, 6);
 }
 
 /// One of ten steps after all jobs are finished.
-fn repeat(run: &mut Run, scramble: &mut Scramble, records: &[Record], action: u8) {
-    let job = scramble.below(records.len()) as u8;
-    let vault = scramble.below(9) as u8;
+fn repeat(run: &mut Run, random: &mut Random, records: &[Bytes], action: u8) {
+    let job = random.below(records.len() as u64) as u8;
+    let vault = random.below(9) as u8;
     match action {
         0 | 1 => run.preflight(vault, job, 0),
         2 => run.commit(vault, job, set_of(SIGNERS) | set_of(14..16), 0),
@@ -106,7 +110,7 @@ fn repeat(run: &mut Run, scramble: &mut Scramble, records: &[Record], action: u8
         6 => run.draw(vault, 0),
         7 => run.generations(job, 0),
         8 => run.preflight(9, job, if job % 2 == 1 { 12 } else { 14 }),
-        _ if scramble.below(8) == 0 => run.propose(&records[usize::from(job)], 0),
+        _ if random.below(8) == 0 => run.propose(&records[usize::from(job)], 0),
         _ => run.commit(vault, job, set_of(0..16), 15),
     }
 }

@@ -1,9 +1,12 @@
 //! Preflights all over a settled federation, in turn accepted again and refused by each of checks 11 to 14. All vaults hold
 //! and have signed the same jobs, so a job's answer is the same at each.
-use super::scramble::Scramble;
-use super::tapes::{accession, migration, Record, Reels, Tape};
+use super::tapes::Reels;
 use super::writer::Run;
-use super::File;
+use super::{File, SEED};
+use reference::random::Random;
+use reference::record::{Bytes, Tape};
+use reference::step::kind;
+use reference::write::{accession, migration};
 
 const ACCESSIONS: usize = 16;
 const MIGRATIONS: usize = 12;
@@ -26,10 +29,10 @@ struct Shelves {
 }
 
 pub fn file() -> File {
-    let mut scramble = Scramble::new();
+    let mut random = Random::new(SEED);
     let mut run = Run::new(16, 5, 0);
     let mut records = records();
-    scramble.shuffle(&mut records);
+    random.shuffle(&mut records);
     let jobs: Vec<(Fate, u8)> = records
         .iter()
         .map(|(fate, record)| (*fate, run.book(record)))
@@ -38,15 +41,16 @@ pub fn file() -> File {
     run.prepared();
     let turns = [0, 11, 12, 13, 14].map(|refusal| (refusal, answered(&jobs, refusal)));
     for (refusal, jobs) in turns.iter().cycle() {
-        if run.room() < 3 {
+        if !run.has_room(kind::PREFLIGHT) {
             break;
         }
-        run.preflight(scramble.below(16) as u8, scramble.pick(jobs), *refusal);
+        let vault = random.below(16) as u8;
+        run.preflight(vault, *random.pick(jobs), *refusal);
     }
     run.named("preflights_mixed")
 }
 
-fn records() -> Vec<(Fate, Record)> {
+fn records() -> Vec<(Fate, Bytes)> {
     let mut reels = Reels::new();
     let mut records = Vec::new();
     let mut tapes = Vec::new();
@@ -77,7 +81,7 @@ fn records() -> Vec<(Fate, Record)> {
 }
 
 /// A migration of four tapes onto four, of which one is refused.
-fn rival(reels: &mut Reels, shelves: &Shelves, refusal: u8, i: usize) -> Record {
+fn rival(reels: &mut Reels, shelves: &Shelves, refusal: u8, i: usize) -> Bytes {
     let mut inputs: Vec<Tape> = (0..4)
         .map(|k| shelves.standing[(i + k) % shelves.standing.len()])
         .collect();

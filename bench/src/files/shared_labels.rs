@@ -1,8 +1,10 @@
 //! Sixteen quarrels of eight jobs each over the same labels: accessions of one label, migrations of one tape.
-use super::scramble::Scramble;
-use super::tapes::{accession, migration, Reels};
-use super::writer::{set_of, Run};
-use super::File;
+use super::tapes::{with_frames, Reels};
+use super::writer::Run;
+use super::{File, SEED};
+use reference::random::Random;
+use reference::step::kind;
+use reference::write::{accession, migration, set_of};
 
 /// The vaults that sign the winning migration; the others sign its rival.
 const SIGNERS: std::ops::Range<u8> = 0..11;
@@ -33,12 +35,12 @@ pub fn file() -> File {
         quarrels.push(quarrel);
     }
     run.prepared();
-    let mut scramble = Scramble::new();
+    let mut random = Random::new(SEED);
     for action in (0..12).cycle() {
-        if run.room() < 5 {
+        if !run.has_room(kind::COMMIT) {
             break;
         }
-        let (quarrel, vault) = (scramble.pick(&quarrels), scramble.below(16) as u8);
+        let (quarrel, vault) = (*random.pick(&quarrels), random.below(16) as u8);
         again(&mut run, quarrel, vault, action);
     }
     run.named("shared_labels")
@@ -46,9 +48,9 @@ pub fn file() -> File {
 
 fn book(run: &mut Run, reels: &mut Reels) -> Quarrel {
     let [first, second, third, fourth] = reels.four(5);
-    let other = first.with_frames(7);
+    let other = with_frames(first, 7);
     let copies = reels.copies(&[first], 6);
-    let rivals = [[other, third], [fourth, second.with_frames(8)]];
+    let rivals = [[other, third], [fourth, with_frames(second, 8)]];
     let mut migrate = |run: &mut Run| run.book(&migration(6, &[first], &reels.copies(&[first], 6)));
     Quarrel {
         accession: run.book(&accession(7, &[first, second])),
@@ -56,11 +58,11 @@ fn book(run: &mut Run, reels: &mut Reels) -> Quarrel {
         migration: run.book(&migration(6, &[first], &copies)),
         minority: migrate(run),
         late: migrate(run),
-        orphan: run.book(&migration(6, &[other], &[third.with_frames(7)])),
+        orphan: run.book(&migration(6, &[other], &[with_frames(third, 7)])),
         remake: run.book(&migration(
             6,
             &[second],
-            &[copies[0].with_frames(second.frames)],
+            &[with_frames(copies[0], second.frames)],
         )),
     }
 }

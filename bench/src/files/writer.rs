@@ -1,9 +1,10 @@
 //! Writes a run file, and with each step the refusal that it is meant to get.
-use super::tapes::Record;
 use super::File;
+use reference::record::Bytes;
+use reference::settings::LONGEST_FILE;
+use reference::step::{step_length, Step};
+use reference::write::{self, header, set_of};
 use std::ops::Range;
-
-const LONGEST: usize = 65_536;
 
 pub struct Run {
     bytes: Vec<u8>,
@@ -12,16 +13,10 @@ pub struct Run {
     booked: u8,
 }
 
-/// The set of the vaults in a range.
-pub fn set_of(vaults: Range<u8>) -> u16 {
-    vaults.fold(0, |set, vault| set | 1 << vault)
-}
-
 impl Run {
     pub fn new(n: u8, b: u8, faulty: u16) -> Run {
-        let [low, high] = faulty.to_le_bytes();
         Run {
-            bytes: vec![b'V', b'L', b'T', 1, 0, n, b, low, high],
+            bytes: header(n, b, faulty),
             intended: Vec::new(),
             preparation: 0,
             booked: 0,
@@ -29,7 +24,7 @@ impl Run {
     }
 
     pub fn named(self, name: &str) -> File {
-        assert!(self.bytes.len() <= LONGEST, "{name} is too long");
+        assert!(self.bytes.len() <= LONGEST_FILE, "{name} is too long");
         File {
             name: name.to_string(),
             bytes: self.bytes,
@@ -43,55 +38,55 @@ impl Run {
         self.preparation = self.intended.len();
     }
 
-    /// How many more bytes the file may have.
-    pub fn room(&self) -> usize {
-        LONGEST - self.bytes.len()
+    /// Whether the file may have one more step of the kind.
+    pub fn has_room(&self, kind: u8) -> bool {
+        let length = step_length(kind).expect("a known kind");
+        self.bytes.len() + length <= LONGEST_FILE
     }
 
-    fn step(&mut self, intended: u8, bytes: &[u8]) {
-        self.bytes.extend_from_slice(bytes);
+    fn step(&mut self, intended: u8, step: Step) {
+        self.bytes.extend(step.encode());
         self.intended.push(intended);
     }
 
     /// Proposes a new record and answers its number.
-    pub fn book(&mut self, record: &Record) -> u8 {
+    pub fn book(&mut self, record: &Bytes) -> u8 {
         self.propose(record, 0);
         self.booked += 1;
         self.booked - 1
     }
 
     /// Proposes a record that is booked, or refused.
-    pub fn propose(&mut self, record: &Record, intended: u8) {
-        self.step(intended, &[&[1], &record[..]].concat());
+    pub fn propose(&mut self, record: &Bytes, intended: u8) {
+        self.step(intended, write::propose(*record));
     }
 
     pub fn preflight(&mut self, vault: u8, job: u8, intended: u8) {
-        self.step(intended, &[2, vault, job]);
+        self.step(intended, write::preflight(vault, job));
     }
 
     pub fn commit(&mut self, vault: u8, job: u8, signers: u16, intended: u8) {
-        let [low, high] = signers.to_le_bytes();
-        self.step(intended, &[3, vault, job, low, high]);
+        self.step(intended, write::commit(vault, job, signers));
     }
 
     pub fn faulty_signature(&mut self, vault: u8, job: u8, intended: u8) {
-        self.step(intended, &[4, vault, job]);
+        self.step(intended, write::faulty_signature(vault, job));
     }
 
     pub fn faulty_acknowledgement(&mut self, vault: u8, job: u8, intended: u8) {
-        self.step(intended, &[5, vault, job]);
+        self.step(intended, write::faulty_acknowledgement(vault, job));
     }
 
     pub fn show(&mut self, job: u8, intended: u8) {
-        self.step(intended, &[6, job]);
+        self.step(intended, write::show(job));
     }
 
     pub fn draw(&mut self, absent: u8, intended: u8) {
-        self.step(intended, &[7, absent]);
+        self.step(intended, write::draw(absent));
     }
 
     pub fn generations(&mut self, job: u8, intended: u8) {
-        self.step(intended, &[8, job]);
+        self.step(intended, write::generations(job));
     }
 
     /// Preflights at the vaults.

@@ -1,7 +1,6 @@
 -- Laws of membership: of lists joined, mapped, kept in part, and of distinct elements. A test over a list decides the
 -- claim over its elements. Distinct elements that all stand in another list add up to no more than it, so distinct
 -- numbers below a bound are no more than the bound.
--- Assumes nothing.
 use mathlib.Core.Bool.{Bool, _&&_, _||_, cond, false, not, true, true≢false}
 use mathlib.Core.List.{List, [], _++_, _∷_, map}
 use mathlib.Core.Logic.{_⊎_, inl, inr, ⊎-elim}
@@ -26,9 +25,6 @@ module _ {A : Type 0} where
   in-any p [] t = absurd (true≢false (sym t))
   in-any p (y ∷ l) t =
       ⊎-elim (λ h. (y, inl refl, h)) (λ h. let r = in-any p l h in (r .0, inr (r .1), r .2)) (or-true (p y) (anyIn p l) t)
-
-  pub none-in : (p : A → Bool) (l : List A) → anyIn p l ≡ false → (x : A) → In x l → p x ≡ false
-  none-in p l e x m = not-true-false (p x) (λ t. true≢false (sym (any-in p l x m t) ∙ e))
 
   pub in-none : (p : A → Bool) (l : List A) → ((x : A) → In x l → p x ≡ false) → anyIn p l ≡ false
   in-none p l h = not-true-false (anyIn p l) (λ t. let r = in-any p l t in true≢false (sym (r .2) ∙ h (r .0) (r .1)))
@@ -222,7 +218,8 @@ module _ {A : Type 0} (same : A → A → Bool) (r : (x y : A) → Reflects (sam
       (λ y m. in-keep (λ y. not (same x y)) l y (h y (inr m)) (simp (refutes (r x y) (λ (q : x ≡ y). nx (subst (λ (a : A). In a xs) (sym q) m))))) in
       let cut : keepIf (λ y. not (anyIn (λ x. same x y) xs)) (others x l) ≡ keepIf (λ y. not (same x y || anyIn (λ x. same x y) xs)) l =
       keep-keep (λ y. not (anyIn (λ x. same x y) xs)) (λ y. not (same x y)) l
-      ∙ keep-same (λ y. not (same x y) && not (anyIn (λ x. same x y) xs)) (λ y. not (same x y || anyIn (λ x. same x y) xs)) l (λ y m. de-morgan (same x y) (anyIn (λ x. same x y) xs)) in
+      ∙ keep-same (λ y. not (same x y) && not (anyIn (λ x. same x y) xs)) (λ y. not (same x y || anyIn (λ x. same x y) xs)) l
+      (λ y m. de-morgan (same x y) (anyIn (λ x. same x y) xs)) in
       omega (arith, rest, ap (total w) cut, without-one w x l d (h x (inl refl)))
     where
       de-morgan : (a b : Bool) → (not a && not b) ≡ not (a || b)
@@ -246,7 +243,8 @@ pigeons (suc n) l d h = by (anyIn (eqb n) l) refl (pigeons n)
         let m : List ℕ = keepIf (λ y. not (eqb n y)) l in
         let less : length m ≤ n =
         rec m (distinct-keep (λ y. not (eqb n y)) l d)
-        (smaller m (λ k i. keep-in (λ y. not (eqb n y)) l k i .0) (λ i. true≢false (sym (eq-eqb n n refl) ∙ reflect-false (eqb n n) .sound (keep-in (λ y. not (eqb n y)) l n i .1)))) in
+        (smaller m (λ k i. keep-in (λ y. not (eqb n y)) l k i .0)
+        (λ i. true≢false (sym (eq-eqb n n refl) ∙ reflect-false (eqb n n) .sound (keep-in (λ y. not (eqb n y)) l n i .1)))) in
         omega (arith, less, length-total l, length-total m, without-one eqb reflect-eq (λ (x : ℕ). 1) n l d (reflect-member n l (reflect-eq n) .sound e))
     by false e rec =
         let less : length l ≤ n = rec l d (smaller l (λ k i. i) (refuted (reflect-member n l (reflect-eq n)) e)) in

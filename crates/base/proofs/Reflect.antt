@@ -1,6 +1,5 @@
 -- How tests that decide claims are put together: each connective of Bool decides that of claims, and each search
 -- decides that some, every or the least number has the claim. A twin of a check is proved by composing these.
--- Assumes nothing.
 use mathlib.Core.Bool.{Bool, _&&_, _||_, cond, false, not, true, true≢false}
 use mathlib.Core.Logic.{_⊎_, inl, inr, ⊎-elim}
 use mathlib.Core.Path.{_∙_, _≡_, refl, sym}

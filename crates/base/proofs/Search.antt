@@ -1,7 +1,6 @@
 -- What the searches say, and rules by which a loop that counts up computes one.
 -- A loop tests a callee's flag r, which is p i, and returns at the first that decides; its invariant says that none
 -- below i has. Each rule takes the flag as the code has it, so `search (searches, needs)` closes every need.
--- Assumes nothing.
 use mathlib.Core.Bool.{Bool, _||_, false, true, true≢false}
 use mathlib.Core.Logic.{_⊎_, inl, inr, ⊎-elim}
 use mathlib.Core.Path.{_∙_, _≡_, ap, refl, sym}

@@ -1,6 +1,5 @@
 -- Rulesets that close the returns of code that goes by tests. A numeric test that stands directly in an `if`
 -- is turned into the Bool that a definition goes by; a callee's flag is handed over by what the callee ensures.
--- Assumes nothing.
 use mathlib.Core.Bool.{Bool, _&&_, _||_, cond, false, true}
 use mathlib.Core.Path.{_∙_, _≡_, sym}
 use borrow.Author.Tests.{eq-eqb, le-leb, le-ltb, lt-leb, lt-ltb, ne-eqb}

@@ -1,22 +1,26 @@
 -- Each row of the table of C1 to C10 is answered as document 01 says: by computation.
--- Assumes nothing.
 use mathlib.Core.Path.{_≡_, refl}
 use lib.Count.{ones}
 use Rattle.base.specs.Lists.{sameList}
 use Rattle.base.specs.Search.{allBelow, anyBelow, firstBelow, sumFrom}
-use Rattle.record.specs.Checks.{balanced, checkOf, countsFormed, entryFormed, examined, hasLabelOf, inputsFormed, isBlank, isFilled, isWritten, repeatedAt, unsupportedAt, wellFormed}
-use Rattle.record.specs.Codec.{entriesAt, entryAt, jobOf, leAt}
+use Rattle.checks.specs.Checks.{balanced, checkOf, countsFormed, entryFormed, examined, hasLabelOf, inputsFormed, isBlank}
+use Rattle.checks.specs.Checks.{isFilled, isWritten, repeatedAt, unsupportedAt, wellFormed}
+use Rattle.codec.specs.Codec.{entriesAt, entryAt, jobOf, leAt}
 use Rattle.record.specs.Drives.{isDrive, supports}
 use Rattle.record.specs.Entries.{framesOf, isUsed, labelOf, usedFrames}
 use Rattle.record.specs.Labels.{charAt, isAlphanumeric, isBetween, isLabel, mediumOf}
-use Rattle.ledger.specs.Federation.{isLawful, thresholdOf}
-use Rattle.ledger.specs.Journal.{equalAt, equalIn, hasRoom, insideOf, slotAt}
-use Rattle.ledger.specs.State.{booking, isSane, newLedger}
-use Rattle.ledger.specs.Steps.{newOf, newPlace, placeOf, proposeOf}
+use Rattle.federation.specs.Federation.{isLawful, thresholdOf}
+use Rattle.journal.specs.Journal.{equalAt, equalIn, hasRoom, insideOf, slotAt}
+use Rattle.ledger.specs.State.{applied, booking, isSane, newLedger}
+use Rattle.ledger.specs.Decisions.{placing, proposal, settling}
+use Rattle.ledger.specs.Steps.{newOf, proposeDecision, proposeOf, saneGate}
 use Rattle.draw.specs.Binomials.{choose, factorial}
 use Rattle.draw.specs.Draw.{drawOf, failing, thousandths}
 use Rattle.cases.specs.Table.{answered, given, table}
 
 pub cases : answered table ≡ given table
-unfolding sameList anyBelow allBelow firstBelow sumFrom inputsFormed countsFormed isFilled isBlank entryFormed wellFormed hasLabelOf repeatedAt isWritten unsupportedAt balanced checkOf examined leAt entryAt entriesAt jobOf isDrive supports labelOf framesOf isUsed usedFrames isBetween charAt isAlphanumeric mediumOf isLabel isLawful thresholdOf equalAt equalIn hasRoom insideOf slotAt booking isSane newLedger newOf newPlace placeOf proposeOf choose factorial drawOf failing thousandths ones
+unfolding sameList anyBelow allBelow firstBelow sumFrom inputsFormed countsFormed isFilled isBlank entryFormed wellFormed hasLabelOf repeatedAt
+    isWritten unsupportedAt balanced checkOf examined leAt entryAt entriesAt jobOf isDrive supports labelOf framesOf isUsed usedFrames isBetween
+    charAt isAlphanumeric mediumOf isLabel isLawful thresholdOf equalAt equalIn hasRoom insideOf slotAt booking isSane newLedger applied placing
+    settling proposal newOf proposeDecision proposeOf saneGate choose factorial drawOf failing thousandths ones
 cases = refl

@@ -1,24 +1,24 @@
 -- What the draw computes with stays within its types where the settings are lawful: there is a quorum, no more of them are without the
 -- absent vaults than there are, and a share is at most a thousand thousandths.
--- Assumes nothing.
 use mathlib.Core.Bool.{Bool, cond, false, true}
-use mathlib.Core.Path.{_≡_, refl, subst}
+use mathlib.Core.Path.{_≡_, ap, refl, subst}
 use Prim.Native.Nat.{_*_, _+_, _-_, _<_, _≤_, ℕ}
 use native.Mathlib.Nat.{mul-le-mul-right}
 use native.Mathlib.Omega.{arith}
 use lib.Dec.{leb}
-use borrow.Author.Tests.{leb-false, leb-true}
+use borrow.Author.Tests.{le-leb, leb-false, leb-true, lt-leb}
+use Rattle.base.proofs.Reflect.{refuted, refutes}
 use Rattle.outcome.specs.Figures.{valueOf}
+use Rattle.outcome.specs.declared.Outcome.{Outcome}
 use Rattle.outcome.specs.declared.Outcome.the-variants.{Done, Refused}
 use Rattle.outcome.specs.declared.Refusal.the-variants.{Settings as BadSettings, TooManyAbsent}
-use Rattle.ledger.proofs.Gates.{reflect-lawful}
-use Rattle.ledger.specs.Federation.{isLawful, thresholdOf}
-use Rattle.ledger.specs.Meaning.{Lawful}
-use Rattle.ledger.specs.declared.Settings.{Settings}
+use Rattle.federation.proofs.Lawful.{reflect-lawful}
+use Rattle.federation.specs.Federation.{Lawful, isLawful, thresholdOf}
+use Rattle.federation.specs.declared.Settings.{Settings}
 use Rattle.draw.proofs.Quotients.{choose-bound, choose-grows, choose-positive}
-use Rattle.draw.proofs.Rounding.{nearest}
+use Rattle.draw.proofs.Rounding.{nearest, nearest-once}
 use Rattle.draw.specs.Binomials.{choose}
-use Rattle.draw.specs.Draw.{drawOf, failing, thousandths}
+use Rattle.draw.specs.Draw.{Drawn, absent, chance, drawOf, failing, thousandths, unlawful}
 
 pub share-most : (part whole : ℕ) → 0 < whole → part ≤ whole → thousandths part whole ≤ 1000
 share-most part whole h l = by (leb 1001 (thousandths part whole)) refl
@@ -60,3 +60,27 @@ draw-small s u = by (isLawful s) refl (leb u (s .n)) refl
     by true e true l = share-most (failing s u) (choose (s .n) (thresholdOf s)) (some-quorum s u e (leb-true u (s .n) l)) (omega arith)
     by true e false l = omega arith
     by false e b l = omega arith
+
+-- ---- the draw as a whole
+module _ (s : Settings) (u : ℕ) where
+  abbrev quorums : ℕ
+  quorums = choose (s .n) (thresholdOf s)
+
+  pub draw-means : Drawn s u (drawOf s u)
+  unfolding drawOf
+  draw-means = by (isLawful s) refl (leb u (s .n)) refl
+    where
+      by : (a : Bool) → isLawful s ≡ a → (b : Bool) → leb u (s .n) ≡ b
+          → Drawn s u (cond a (cond b (Done (thousandths (failing s u) quorums)) (Refused TooManyAbsent)) (Refused BadSettings))
+      by true e true l =
+          chance _ (reflect-lawful s .sound e) (leb-true u (s .n) l) (nearest (failing s u) quorums (some-quorum s u e (leb-true u (s .n) l)))
+      by true e false l = absent (reflect-lawful s .sound e) (leb-false u (s .n) l)
+      by false e b l = unlawful (refuted (reflect-lawful s) e)
+
+  pub means-draw : (o : Outcome) → Drawn s u o → o ≡ drawOf s u
+  unfolding drawOf
+  means-draw o (unlawful n) = simp (refutes (reflect-lawful s) n)
+  means-draw o (absent h l) = simp (reflect-lawful s .complete h, lt-leb u (s .n) l)
+  means-draw o (chance r h l x) =
+      let e = reflect-lawful s .complete h in
+      simp (e, le-leb u (s .n) l) (ap Done (nearest-once (failing s u) quorums r _ x (nearest (failing s u) quorums (some-quorum s u e l))))

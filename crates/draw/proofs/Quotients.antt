@@ -1,9 +1,9 @@
 -- Factorials up to 16 fit 45 bits, and so do the products that a binomial divides by; the binomials of n grow with n.
--- Assumes nothing.
 use mathlib.Core.Bool.{Bool, cond, false, true}
 use mathlib.Core.Path.{_≡_, ap, refl, sym}
 use Prim.Native.Nat.{_*_, _+_, _-_, _/_, _<_, _≤_, suc, zero, ℕ}
-use native.Mathlib.Nat.{add-suc, add-zero, div-le-self, le-div-iff-mul-le, le-of-eq, le-refl, le-trans, mul-assoc, mul-le-mul-left, mul-le-mul-right, mul-one, mul-pos, one-mul, suc-add, zero-add}
+use native.Mathlib.Nat.{add-suc, add-zero, div-le-self, le-div-iff-mul-le, le-of-eq, le-refl, le-trans, mul-assoc, mul-le-mul-left, mul-le-mul-right}
+use native.Mathlib.Nat.{mul-one, mul-pos, one-mul, suc-add, zero-add}
 use native.Mathlib.Numerals.{add-one}
 use native.Mathlib.Omega.{arith}
 use lib.Dec.{eqb, leb, ltb}
@@ -55,7 +55,9 @@ choose-bound n k h = by (ltb n k)
 -- there is a set of k among n
 pub choose-positive : (n k : ℕ) → k ≤ n → 0 < choose n k
 unfolding choose
-choose-positive n k h = rw (le-ltb n k h) (le-div-iff-mul-le (divisor-positive k (n - k)) .1 (omega (arith, divisor-bound n k h, one-mul (factorial k * factorial (n - k)))))
+choose-positive n k h =
+    rw (le-ltb n k h)
+    (le-div-iff-mul-le (divisor-positive k (n - k)) .1 (omega (arith, divisor-bound n k h, one-mul (factorial k * factorial (n - k)))))
 
 -- one more to choose from leaves no fewer sets, up to 16 by computation
 step-table : allBelow 16 (λ n. allBelow 17 (λ k. leb (choose n k) (choose (suc n) k))) ≡ true
@@ -65,7 +67,9 @@ step-table = refl
 step : (n k : ℕ) → n < 16 → k ≤ 16 → choose n k ≤ choose (suc n) k
 step n k h l =
     leb-true (choose n k) (choose (suc n) k)
-    (all-at (λ k. leb (choose n k) (choose (suc n) k)) 17 (all-at (λ n. allBelow 17 (λ k. leb (choose n k) (choose (suc n) k))) 16 step-table n h) k (omega (arith, l)))
+    (all-at (λ k. leb (choose n k) (choose (suc n) k)) 17
+    (all-at (λ n. allBelow 17 (λ k. leb (choose n k) (choose (suc n) k))) 16 step-table n h)
+    k (omega (arith, l)))
 
 pub choose-grows : (d n k : ℕ) → d + n ≤ 16 → k ≤ 16 → choose n k ≤ choose (d + n) k
 choose-grows zero n k h l = rw (zero-add n) (le-refl (choose n k))

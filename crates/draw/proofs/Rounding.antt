@@ -1,12 +1,14 @@
 -- The thousandths are the nearest, a half going up.
--- Assumes nothing.
+use mathlib.Core.Bool.{Bool, false, true}
 use mathlib.Core.Path.{_≡_, refl}
-use Prim.Native.Nat.{_*_, _+_, _<_, ℕ}
-use native.Mathlib.Nat.{div-add-mod', mod-lt}
+use Prim.Native.Nat.{_*_, _+_, _<_, _≤_, ℕ}
+use native.Mathlib.Nat.{div-add-mod', mod-lt, mul-le-mul-right}
 use native.Mathlib.Omega.{arith}
 use lib.Count.{ones}
-use Rattle.ledger.specs.Federation.{isLawful, thresholdOf}
-use Rattle.ledger.specs.declared.Settings.{Settings}
+use lib.Dec.{leb}
+use borrow.Author.Tests.{leb-false, leb-true}
+use Rattle.federation.specs.Federation.{isLawful, thresholdOf}
+use Rattle.federation.specs.declared.Settings.{Settings}
 use Rattle.outcome.specs.declared.Outcome.the-variants.{Done, Refused}
 use Rattle.outcome.specs.declared.Refusal.the-variants.{TooManyAbsent}
 use Rattle.draw.specs.Binomials.{choose, factorial}
@@ -19,6 +21,17 @@ nearest part whole h =
     let e = div-add-mod' (2000 * part + whole) (2 * whole) in
     let m = mod-lt (2000 * part + whole) d in
     record { not-above = omega (arith, e); not-below = omega (arith, e, m) }
+
+-- there is only one
+not-more : (part whole r m : ℕ) → Nearest part whole r → Nearest part whole m → r ≤ m
+not-more part whole r m x y = by (leb (m + 1) r) refl
+  where
+    by : (b : Bool) → leb (m + 1) r ≡ b → r ≤ m
+    by true e = absurd (omega (arith, x .not-above, y .not-below, mul-le-mul-right (2 * whole) (leb-true (m + 1) r e)))
+    by false e = omega (arith, leb-false (m + 1) r e)
+
+pub nearest-once : (part whole r m : ℕ) → Nearest part whole r → Nearest part whole m → r ≡ m
+nearest-once part whole r m x y = omega (arith, not-more part whole r m x y, not-more part whole m r y x)
 
 -- ---- worked values: every quorum failing, and refusal 17
 abbrev four : Settings

@@ -6,8 +6,8 @@ use lib.Dec.{leb}
 use Rattle.outcome.specs.declared.Outcome.{Outcome}
 use Rattle.outcome.specs.declared.Outcome.the-variants.{Done, Refused}
 use Rattle.outcome.specs.declared.Refusal.the-variants.{Settings as BadSettings, TooManyAbsent}
-use Rattle.ledger.specs.Federation.{isLawful, thresholdOf}
-use Rattle.ledger.specs.declared.Settings.{Settings}
+use Rattle.federation.specs.Federation.{Lawful, isLawful, thresholdOf}
+use Rattle.federation.specs.declared.Settings.{Settings}
 use Rattle.draw.specs.Binomials.{choose}
 
 -- a share in thousandths, halves rounded up
@@ -30,3 +30,9 @@ drawOf s u =
 pub record Nearest (part whole r : ℕ) : Type 0 where
   pub not-above : r * (2 * whole) ≤ 2000 * part + whole
   pub not-below : 2000 * part + whole < (r + 1) * (2 * whole)
+
+-- what each answer of kind 7 means
+pub data Drawn (s : Settings) (u : ℕ) : Outcome → Type 0 where
+  unlawful : (Lawful s → ⊥) → Drawn s u (Refused BadSettings)
+  absent : Lawful s → s .n < u → Drawn s u (Refused TooManyAbsent)
+  chance : (r : ℕ) → Lawful s → u ≤ s .n → Nearest (failing s u) (choose (s .n) (thresholdOf s)) r → Drawn s u (Done r)

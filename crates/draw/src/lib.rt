@@ -2,8 +2,8 @@
 ghost use mathlib.Core.Path.{_≡_};
 ghost use Prim.Native.Nat.{_<_, _≤_};
 ghost use Rattle.draw.specs.Binomials.{choose, factorial};
-ghost use Rattle.draw.specs.Draw.{drawOf, thousandths, failing};
-use ledger::Settings;
+ghost use Rattle.draw.specs.Draw.{drawOf, thousandths};
+use federation::Settings;
 use outcome::Outcome;
 use outcome::Refusal;
 

@@ -1,6 +1,4 @@
--- Checks 11 to 14 by the index are those of the vaults: a slot's set meets a set of jobs exactly where a booked job of that set matches, and
--- the entries that a check does not look at never offend.
--- Assumes nothing.
+-- Checks 11 to 14 by the index are those of the vaults.
 use mathlib.Core.Bool.{Bool, _&&_, _||_, cond, false, not, true, true≢false}
 use mathlib.Core.List.{List}
 use mathlib.Core.Logic.{inl, inr, ⊎-elim}
@@ -10,70 +8,24 @@ use native.Mathlib.Nat.{not-suc-le-zero, zero-add}
 use native.Mathlib.Omega.{arith}
 use lib.Dec.{leb, ltb}
 use borrow.Author.Tests.{le-leb, le-ltb, leb-false, leb-true, lt-leb, lt-ltb, ltb-false, ltb-true}
-use Rattle.base.proofs.Reflect.{and-false, and-true, not-true-false, or-intro, or-true}
-use Rattle.base.proofs.Search.{any-elim, any-intro, any-none, any-same, first-any, first-least, first-none, least-first, none-any}
+use Rattle.base.proofs.Reflect.{and-true, not-true-false, or-intro, or-true}
+use Rattle.base.proofs.Search.{any-elim, any-intro, any-none, first-any, first-least, first-none, found-none, least-first, none-any}
 use Rattle.base.specs.Search.{anyBelow, firstBelow}
 use Rattle.outcome.specs.declared.Refusal.the-variants.{InputReserved, NotCreated, OutputReserved, Retired}
 use Rattle.outcome.specs.declared.Verdict.{Verdict}
 use Rattle.outcome.specs.declared.Verdict.the-variants.{Fail, Pass}
-use Rattle.record.specs.Conflicts.{labelIn, makesTape}
-use Rattle.record.specs.Entries.{framesOf, isUsed, labelOf}
+use Rattle.conflicts.specs.Conflicts.{labelIn}
+use Rattle.record.specs.Entries.{isUsed, labelOf}
 use Rattle.record.specs.declared.Job.{Job}
-use Rattle.sets.proofs.Jobs.{job-union-has, meets-any, union-words}
-use Rattle.sets.specs.Jobs.{InWords, jobHas, jobUnion, jobsMeet}
+use Rattle.sets.proofs.Jobs.{job-union-has, union-words}
+use Rattle.sets.specs.Jobs.{InWords, jobHas, jobUnion}
 use Rattle.sets.specs.declared.job_set.JobSet.{JobSet}
-use Rattle.ledger.specs.Admission.{admission, consumedAt, listedBy, listsAt, madeBefore, madeBy, makesAt, notCreatedAt, remadeAt}
-use Rattle.index.proofs.Marks.{same-truth, set-bit}
-use Rattle.index.proofs.Seeks.{shares-input, shares-made, shares-output}
-use Rattle.index.specs.Checks.{admissionBy, firstMet, firstUnmet, metAt, unmetAt}
-use Rattle.index.specs.Slots.{Indexed, place, shares}
-use Rattle.index.specs.Words.{setAt}
-
--- ---- a slot's set against a set of jobs
-module _ (job : ℕ → Job) (n : ℕ) (index : List ℕ) (x : Indexed job n index) (k : ℕ) (lk : k < n) (few : n ≤ 128) (s : JobSet) (w : InWords s) where
-  -- some booked job of the set is sought by the slot
-  slot-any : (i at : ℕ) → i < 12 → at ≡ 24 * k + 2 * i → jobsMeet (setAt index at) s ≡ anyBelow n (λ m. jobHas s m && shares (job k) i (job m))
-  slot-any i at li q =
-      meets-any (setAt index at) s w
-      ∙ same-truth _ _
-      (λ e. let m = any-elim (λ (m : ℕ). jobHas (setAt index at) m && jobHas s m) 128 e in
-      let b = and-true (jobHas (setAt index at) (m .which)) _ (m .has) in
-      let f = found (m .which) (m .below) (b .0) in
-      any-intro _ n (m .which) (f .0) (simp (b .1) (f .1)))
-      (λ e. let m = any-elim (λ (m : ℕ). jobHas s m && shares (job k) i (job m)) n e in
-      let b = and-true (jobHas s (m .which)) _ (m .has) in
-      any-intro _ 128 (m .which) (omega (arith, m .below)) (simp (b .0, bit (m .which) (omega (arith, m .below)) ∙ seeks (m .which) (m .below) (b .1))))
-    where
-      bit : (m : ℕ) → m < 128 → jobHas (setAt index at) m ≡ (ltb k n && (ltb m n && shares (job k) i (job m)))
-      bit m l =
-          let e : 64 * at + m ≡ place k i m = omega (arith, q) in
-          set-bit index at m l ∙ rw e (x .bits k i m (omega arith) li l)
-
-      found : (m : ℕ) → m < 128 → jobHas (setAt index at) m ≡ true → (m < n) × (shares (job k) i (job m) ≡ true)
-      found m l e =
-          let b = and-true (ltb m n) _ (and-true (ltb k n) _ (sym (bit m l) ∙ e) .1) in (ltb-true m n (b .0), b .1)
-
-      seeks : (m : ℕ) → m < n → shares (job k) i (job m) ≡ true → (ltb k n && (ltb m n && shares (job k) i (job m))) ≡ true
-      seeks m l e = simp (lt-ltb k n lk, lt-ltb m n l) e
-
-  -- where the entry is used, what is sought alone
-  slot-used : (i at : ℕ) (u : Bool) (p : ℕ → Bool) → i < 12 → at ≡ 24 * k + 2 * i → ((m : ℕ) → shares (job k) i (job m) ≡ (u && p m))
-      → jobsMeet (setAt index at) s ≡ (u && anyBelow n (λ m. jobHas s m && p m))
-  slot-used i at true p li q f = slot-any i at li q ∙ any-same _ _ n (λ m l. simp (f m))
-  slot-used i at false p li q f = slot-any i at li q ∙ none-any _ n (λ m l. simp (f m) (and-false (jobHas s m)))
-
-  -- ---- the slots of the three kinds, at entry e
-  made-slot : (e : ℕ) → e < 4 → metAt index (24 * k) s e ≡ (isUsed (job k) e && madeBy job n s (labelOf (job k) e) (framesOf (job k) e))
-  unfolding metAt madeBy makesAt
-  made-slot e l = slot-used e (24 * k + 2 * e) (isUsed (job k) e) (λ m. makesTape (job m) (labelOf (job k) e) (framesOf (job k) e)) (omega arith) refl (λ m. shares-made (job k) e (job m) l)
-
-  consumed-slot : (e : ℕ) → e < 4 → metAt index (24 * k + 8) s e ≡ (isUsed (job k) e && listedBy job n 0 s (labelOf (job k) e))
-  unfolding metAt listedBy listsAt
-  consumed-slot e l = slot-used (4 + e) (24 * k + 8 + 2 * e) (isUsed (job k) e) (λ m. labelIn 0 (job m) (labelOf (job k) e)) (omega arith) (omega arith) (λ m. shares-input (job k) e (job m) l)
-
-  remade-slot : (e : ℕ) → e < 4 → metAt index (24 * k + 16) s e ≡ (isUsed (job k) (4 + e) && listedBy job n 4 s (labelOf (job k) (4 + e)))
-  unfolding metAt listedBy listsAt
-  remade-slot e l = slot-used (8 + e) (24 * k + 16 + 2 * e) (isUsed (job k) (4 + e)) (λ m. labelIn 4 (job m) (labelOf (job k) (4 + e))) (omega arith) (omega arith) (λ m. shares-output (job k) e (job m) l)
+use Rattle.journal.specs.Journal.{capacity}
+use Rattle.index.specs.Admission.{admission, consumedAt, listedBy, listsAt, madeBefore, notCreatedAt, remadeAt}
+use Rattle.index.proofs.Marks.{same-truth}
+use Rattle.index.proofs.Meets.{makers-meet, readers-meet, writers-meet}
+use Rattle.index.specs.Checks.{admissionBy, consumedBy, firstMet, firstUnmet, metAt, unmetAt}
+use Rattle.index.specs.Places.{Entered, places}
 
 -- ---- four entries of eight: the first that offends, where those before and after the four never do
 four-of-eight : (off : ℕ) → off ≤ 4 → (p q : ℕ → Bool) → ((e : ℕ) → e < 4 → p e ≡ q (off + e))
@@ -114,13 +66,18 @@ four-of-eight off lo p q same below above F rest = by (anyBelow 4 p) refl
         simp (first-none p 4 e, first-none q 8 none)
 
 -- ---- checks 11 to 14
-twice : (t m : Bool) → (t && not (t && m)) ≡ (t && not m)
-twice true m = refl
-twice false m = refl
-
 pub used-input : (j : Job) (e : ℕ) → e < 4 → isUsed j e ≡ ltb e (j .inputs)
 unfolding isUsed
 used-input j e l = simp (lt-ltb e 4 l)
+
+used-output : (j : Job) (e : ℕ) → isUsed j (4 + e) ≡ ltb e (j .outputs)
+unfolding isUsed
+used-output j e = let b : 4 + e - 4 ≡ e = omega arith in simp (le-ltb (4 + e) 4 (omega arith), b)
+
+-- where the entry is used alone it matters what the two sides say
+where-used : (u a b : Bool) → (u ≡ true → a ≡ b) → (u && a) ≡ (u && b)
+where-used true a b h = h refl
+where-used false a b h = refl
 
 -- a job of either set has the label exactly where one of the one set has it, or one of the other
 listed-union : (job : ℕ → Job) (n half : ℕ) (a b : JobSet) (label : ℕ)
@@ -153,24 +110,62 @@ listed-union job n half a b label = same-truth _ _ out into
         (one b (λ m h. job-union-has a b m ∙ or-intro (jobHas a m) (jobHas b m) (inr h)))
         (or-true (anyBelow n (has a)) (anyBelow n (has b)) e)
 
-module _ (job : ℕ → Job) (n : ℕ) (index : List ℕ) (x : Indexed job n index) (k : ℕ) (lk : k < n) (few : n ≤ 128)
+spread : (a b c d : Bool) → (a && (b && (c || d))) ≡ ((a && (b && c)) || (a && (b && d)))
+spread true true c d = refl
+spread true false c d = refl
+spread false b c d = refl
+
+consumed-union : (job : ℕ → Job) (n : ℕ) (a b : JobSet) (j : Job) (i : ℕ)
+    → consumedAt job n (jobUnion a b) j i ≡ (consumedAt job n a j i || consumedAt job n b j i)
+unfolding consumedAt
+consumed-union job n a b j i = rw (listed-union job n 0 a b (labelOf j i)) (spread (ltb i 4) (isUsed j i) _ _)
+
+-- a search for either of two tests finds none exactly where neither does
+either-first : (p q r : ℕ → Bool) → ((e : ℕ) → e < 4 → r e ≡ (p e || q e)) → (F G : ℕ → Verdict) (rest never : Verdict)
+    → cond (ltb (firstBelow 4 r) 4) (cond (ltb (firstBelow 4 p) 4) (F (firstBelow 4 p)) (cond (ltb (firstBelow 4 q) 4) (G (firstBelow 4 q)) never)) rest
+    ≡ cond (ltb (firstBelow 4 p) 4) (F (firstBelow 4 p)) (cond (ltb (firstBelow 4 q) 4) (G (firstBelow 4 q)) rest)
+either-first p q r both F G rest never = by (anyBelow 4 p) (anyBelow 4 q) refl refl
+  where
+    found : (s : ℕ → Bool) → anyBelow 4 s ≡ true → ltb (firstBelow 4 s) 4 ≡ true
+    found s e = lt-ltb (firstBelow 4 s) 4 (first-any s 4 e)
+
+    from-one : anyBelow 4 p ≡ true → anyBelow 4 r ≡ true
+    from-one e = let m = any-elim p 4 e in any-intro r 4 (m .which) (m .below) (both (m .which) (m .below) ∙ or-intro (p (m .which)) _ (inl (m .has)))
+
+    from-two : anyBelow 4 q ≡ true → anyBelow 4 r ≡ true
+    from-two e = let m = any-elim q 4 e in any-intro r 4 (m .which) (m .below) (both (m .which) (m .below) ∙ or-intro (p (m .which)) _ (inr (m .has)))
+
+    by : (t u : Bool) → anyBelow 4 p ≡ t → anyBelow 4 q ≡ u
+        → cond (ltb (firstBelow 4 r) 4) (cond (ltb (firstBelow 4 p) 4) (F (firstBelow 4 p)) (cond (ltb (firstBelow 4 q) 4) (G (firstBelow 4 q)) never)) rest
+        ≡ cond (ltb (firstBelow 4 p) 4) (F (firstBelow 4 p)) (cond (ltb (firstBelow 4 q) 4) (G (firstBelow 4 q)) rest)
+    by true u ep eq = simp (found p ep, found r (from-one ep))
+    by false true ep eq = simp (found q eq, found r (from-two eq), found-none p 4 (first-none p 4 ep))
+    by false false ep eq =
+        let none = none-any r 4 (λ e l. both e l ∙ simp (any-none p 4 ep e l, any-none q 4 eq e l)) in
+        simp (found-none p 4 (first-none p 4 ep), found-none q 4 (first-none q 4 eq), found-none r 4 (first-none r 4 none))
+
+module _ (job : ℕ → Job) (n : ℕ) (numbers sets : List ℕ) (t : Entered job (8 * n) numbers sets) (few : n ≤ capacity) (k : ℕ) (lk : k < n)
     (held others : JobSet) (hw : InWords held) (ow : InWords others) where
-  missing-same : (e : ℕ) → e < 4 → unmetAt index (job k .inputs) (24 * k) held e ≡ notCreatedAt job n held (job k) (0 + e)
+  missing-same : (e : ℕ) → e < 4 → unmetAt numbers sets (job k .inputs) (places + 8 * k) 2 held e ≡ notCreatedAt job n held (job k) (0 + e)
   unfolding unmetAt notCreatedAt
   missing-same e l =
-      simp (zero-add, lt-ltb e 4 l, made-slot job n index x k lk few held hw e l, used-input (job k) e l)
-      (twice (ltb e (job k .inputs)) (madeBy job n held (labelOf (job k) e) (framesOf (job k) e)))
+      simp (zero-add, lt-ltb e 4 l, used-input (job k) e l)
+      (where-used (ltb e (job k .inputs)) _ _ (λ u. ap not (makers-meet job n numbers sets t few k e lk (omega arith) (used-input (job k) e l ∙ u) held hw)))
 
-  consumed-same : (s : JobSet) → InWords s → (e : ℕ) → e < 4 → metAt index (24 * k + 8) s e ≡ consumedAt job n s (job k) (0 + e)
-  unfolding consumedAt
-  consumed-same s w e l = simp (zero-add, lt-ltb e 4 l) (consumed-slot job n index x k lk few s w e l)
+  consumed-same : (s : JobSet) → InWords s → (e : ℕ) → e < 4 → metAt numbers sets (job k .inputs) (8 * k) 0 s e ≡ consumedAt job n s (job k) (0 + e)
+  unfolding metAt consumedAt
+  consumed-same s w e l =
+      simp (zero-add, lt-ltb e 4 l, used-input (job k) e l)
+      (where-used (ltb e (job k .inputs)) _ _ (λ u. readers-meet job n numbers sets t few k e lk (omega arith) (used-input (job k) e l ∙ u) s w))
 
-  remade-same : (e : ℕ) → e < 4 → metAt index (24 * k + 16) (jobUnion held others) e ≡ remadeAt job n held others (job k) (4 + e)
-  unfolding remadeAt madeBefore
+  remade-same : (e : ℕ) → e < 4 → metAt numbers sets (job k .outputs) (8 * k + 4) 1 (jobUnion held others) e ≡ remadeAt job n held others (job k) (4 + e)
+  unfolding metAt remadeAt madeBefore
   remade-same e l =
-      simp (le-leb 4 (4 + e) (omega arith))
-      (remade-slot job n index x k lk few (jobUnion held others) (union-words held others hw ow) e l
-      ∙ ap (λ (b : Bool). isUsed (job k) (4 + e) && b) (listed-union job n 4 held others (labelOf (job k) (4 + e))))
+      let z : 8 * k + 4 + e ≡ 8 * k + (4 + e) = omega arith in
+      simp (le-leb 4 (4 + e) (omega arith), used-output (job k) e, z)
+      (where-used (ltb e (job k .outputs)) _ _ (λ u.
+      writers-meet job n numbers sets t few k (4 + e) lk (omega arith) (used-output (job k) e ∙ u) (jobUnion held others) (union-words held others hw ow)
+      ∙ listed-union job n 4 held others (labelOf (job k) (4 + e))))
 
   -- of four inputs, where outputs never offend
   of-inputs : (p q : ℕ → Bool) → ((e : ℕ) → e < 4 → p e ≡ q (0 + e)) → ((e : ℕ) → 4 ≤ e → q e ≡ false) → (F : ℕ → Verdict) (rest : Verdict)
@@ -183,19 +178,21 @@ module _ (job : ℕ → Job) (n : ℕ) (index : List ℕ) (x : Indexed job n ind
   not-input b e l = simp (le-ltb e 4 l)
 
   -- each check by the index is the vaults' check, whatever follows it
-  created : (rest : Verdict) → cond (ltb (firstUnmet index (job k .inputs) (24 * k) held) 4) (Fail (NotCreated (firstUnmet index (job k .inputs) (24 * k) held))) rest
-      ≡ cond (ltb (firstBelow 8 (notCreatedAt job n held (job k))) 8) (Fail (NotCreated (firstBelow 8 (notCreatedAt job n held (job k))))) rest
+  created : (rest : Verdict) → let m = firstUnmet numbers sets (job k .inputs) (places + 8 * k) 2 held in
+      let f = firstBelow 8 (notCreatedAt job n held (job k)) in
+      cond (ltb m 4) (Fail (NotCreated m)) rest ≡ cond (ltb f 8) (Fail (NotCreated f)) rest
   unfolding firstUnmet notCreatedAt
   created rest = of-inputs _ _ missing-same (λ e l. not-input _ e l) (λ m. Fail (NotCreated m)) rest
 
-  consumed : (F : ℕ → Verdict) (s : JobSet) → InWords s → (rest : Verdict)
-      → cond (ltb (firstMet index (24 * k + 8) s) 4) (F (firstMet index (24 * k + 8) s)) rest
-      ≡ cond (ltb (firstBelow 8 (consumedAt job n s (job k))) 8) (F (firstBelow 8 (consumedAt job n s (job k)))) rest
+  consumed : (F : ℕ → Verdict) (s : JobSet) → InWords s → (rest : Verdict) → let m = firstMet numbers sets (job k .inputs) (8 * k) 0 s in
+      let f = firstBelow 8 (consumedAt job n s (job k)) in
+      cond (ltb m 4) (F m) rest ≡ cond (ltb f 8) (F f) rest
   unfolding firstMet consumedAt
   consumed F s w rest = of-inputs _ _ (consumed-same s w) (λ e l. not-input _ e l) F rest
 
-  remade : cond (ltb (firstMet index (24 * k + 16) (jobUnion held others)) 4) (Fail (OutputReserved (4 + firstMet index (24 * k + 16) (jobUnion held others)))) Pass
-      ≡ cond (ltb (firstBelow 8 (remadeAt job n held others (job k))) 8) (Fail (OutputReserved (firstBelow 8 (remadeAt job n held others (job k))))) Pass
+  remade : let m = firstMet numbers sets (job k .outputs) (8 * k + 4) 1 (jobUnion held others) in
+      let f = firstBelow 8 (remadeAt job n held others (job k)) in
+      cond (ltb m 4) (Fail (OutputReserved (4 + m))) Pass ≡ cond (ltb f 8) (Fail (OutputReserved f)) Pass
   unfolding firstMet remadeAt
   remade =
       four-of-eight 4 (omega arith) _ _ remade-same (λ e l. not-output _ e l) (λ e l h. absurd (omega arith)) (λ m. Fail (OutputReserved m)) Pass
@@ -203,9 +200,26 @@ module _ (job : ℕ → Job) (n : ℕ) (index : List ℕ) (x : Indexed job n ind
       not-output : (b : Bool) (e : ℕ) → e < 4 → (leb 4 e && b) ≡ false
       not-output b e l = simp (lt-leb 4 e l)
 
+  -- an input of either set's is one of the one set's, or one of the other's
+  either-same : (e : ℕ) → e < 4 → metAt numbers sets (job k .inputs) (8 * k) 0 (jobUnion held others) e
+      ≡ (metAt numbers sets (job k .inputs) (8 * k) 0 held e || metAt numbers sets (job k .inputs) (8 * k) 0 others e)
+  either-same e l =
+      consumed-same (jobUnion held others) (union-words held others hw ow) e l
+      ∙ consumed-union job n held others (job k) (0 + e)
+      ∙ rw (sym (consumed-same held hw e l), sym (consumed-same others ow e l))
+
+  -- then checks 12 and 13, which are tried only where one fails
+  either : (rest : Verdict) → let r = firstMet numbers sets (job k .inputs) (8 * k) 0 (jobUnion held others) in
+      let a = firstMet numbers sets (job k .inputs) (8 * k) 0 held in
+      let b = firstMet numbers sets (job k .inputs) (8 * k) 0 others in
+      cond (ltb r 4) (cond (ltb a 4) (Fail (Retired a)) (cond (ltb b 4) (Fail (InputReserved b)) Pass)) rest
+      ≡ cond (ltb a 4) (Fail (Retired a)) (cond (ltb b 4) (Fail (InputReserved b)) rest)
+  unfolding firstMet
+  either rest = either-first _ _ _ either-same (λ m. Fail (Retired m)) (λ m. Fail (InputReserved m)) rest Pass
+
   -- by the index, as the vaults check
-  pub by-index : admissionBy index (job k .inputs) held others k ≡ admission job n held others (job k)
-  unfolding admissionBy admission
+  pub by-index : admissionBy numbers sets (job k .inputs) (job k .outputs) held others k ≡ admission job n held others (job k)
+  unfolding admissionBy consumedBy admission
   by-index =
       let missing = firstBelow 8 (notCreatedAt job n held (job k)) in
       let retired = firstBelow 8 (consumedAt job n held (job k)) in
@@ -213,4 +227,6 @@ module _ (job : ℕ → Job) (n : ℕ) (index : List ℕ) (x : Indexed job n ind
       let first : Verdict → Verdict = λ r. cond (ltb missing 8) (Fail (NotCreated missing)) r in
       let second : Verdict → Verdict = λ r. first (cond (ltb retired 8) (Fail (Retired retired)) r) in
       let third : Verdict → Verdict = λ r. second (cond (ltb reserved 8) (Fail (InputReserved reserved)) r) in
-      created _ ∙ ap first (consumed (λ m. Fail (Retired m)) held hw _) ∙ ap second (consumed (λ m. Fail (InputReserved m)) others ow _) ∙ ap third remade
+      created _ ∙ ap first (either _)
+      ∙ ap first (consumed (λ m. Fail (Retired m)) held hw _)
+      ∙ ap second (consumed (λ m. Fail (InputReserved m)) others ow _) ∙ ap third remade

@@ -1,240 +1,254 @@
--- Entering a job keeps the index right: marks are only added, each for a pair that matches, and the sieve leaves out no pair that does.
--- Assumes nothing.
-use mathlib.Core.Bool.{Bool, _&&_, cond, false, true}
+-- What a place stores, and that the index of the places so far becomes that of one more.
+use mathlib.Core.Bool.{Bool, _&&_, _||_, cond, false, not, true, true≢false}
 use mathlib.Core.List.{List}
-use mathlib.Core.Logic.{_⊎_, inl, inr, ⊎-elim}
-use mathlib.Core.Path.{_∙_, _≡_, refl, sym}
-use Prim.Native.Nat.{_%_, _*_, _+_, _/_, _<_, _≤_, suc, zero, ℕ}
-use native.Mathlib.Nat.{eq-or-lt-of-le, le-of-suc-le-suc, not-suc-le-zero}
+use mathlib.Core.Logic.{_≢_, _⊎_, ⊎-elim}
+use mathlib.Core.Path.{_∙_, _≡_, ap, refl, sym}
+use Prim.Native.Nat.{_%_, _*_, _+_, _-_, _/_, _<_, _≤_, suc, ℕ}
+use native.Mathlib.Nat.{eq-or-lt-of-le, le-of-suc-le-suc}
 use native.Mathlib.Omega.{arith}
-use lib.Dec.{ltb}
-use lib.ListN.{length}
-use borrow.Author.Tests.{lt-ltb, ltb-false, ltb-true}
-use Rattle.base.proofs.Reflect.{and-true}
+use lib.Dec.{eqb, ltb}
+use lib.ListN.{getD, length, length-set, set}
+use lib.Seq.{getD-set-other, getD-set-same}
+use borrow.Author.Tests.{eq-eqb, eqb-false, eqb-true, le-ltb, lt-ltb, ne-eqb}
+use Rattle.base.specs.Search.{anyBelow}
+use Rattle.record.specs.Entries.{framesOf, isUsed, labelOf}
 use Rattle.record.specs.declared.Job.{Job}
-use Rattle.sets.specs.Jobs.{jobHas}
-use Rattle.sets.specs.declared.job_set.JobSet.{JobSet}
-use Rattle.index.proofs.Marks.{mark-from, mark-keeps, mark-sets, mark-size, same-truth}
-use Rattle.index.proofs.Sifts.{common, is-likely}
-use Rattle.index.specs.Entering.{againstTo, bothWays, extended, nthSlot, pairTo}
-use Rattle.index.specs.Sieve.{Sieved, likelyTo}
-use Rattle.index.specs.Slots.{Indexed, place, shares}
-use Rattle.index.specs.Words.{bitAt}
+use Rattle.journal.specs.Journal.{capacity}
+use Rattle.index.proofs.Chains.{last-no, last-yes}
+use Rattle.index.proofs.Marks.{mark-other, mark-sets, mark-size}
+use Rattle.index.specs.Chains.{lastBelow}
+use Rattle.index.specs.Entering.{numbersWith, setsWith}
+use Rattle.index.specs.Places.{Marked, Numbered, bitOf, bucketOf, buckets, framesAt, headsAt, inBucket, labelAt, linksAt}
+use Rattle.index.specs.Places.{marks, numberAt, numbersAt, numbersSize, places, sideOf, usedAt}
+use Rattle.index.specs.Words.{bitAt, marked}
 
--- ---- a pair
+-- ---- the four stores
+module _ (numbers : List ℕ) (size : length numbers ≡ numbersSize) (m label tape b : ℕ) (lm : m < places) (lb : b < buckets) where
+  abbrev one : List ℕ
+  one = set numbers m label
 
--- x is the place of a match of c, job k, in a slot of a, job j
-pub record Match (a : Job) (j : ℕ) (c : Job) (k x : ℕ) : Type 0 where
-  pub slot : ℕ
-  pub below : slot < 12
-  pub at : x ≡ place j slot k
-  pub found : shares a slot c ≡ true
+  abbrev two : List ℕ
+  two = set one (places + m) tape
 
-pub pair-size : (m : ℕ) (index : List ℕ) (a : Job) (j : ℕ) (c : Job) (k : ℕ) → length (pairTo m index a j c k) ≡ length index
-unfolding pairTo
-pair-size zero index a j c k = refl
-pair-size (suc m) index a j c k = mark-size (pairTo m index a j c k) _ _ ∙ pair-size m index a j c k
+  abbrev three : List ℕ
+  three = set two (linksAt + m) (getD numbers (headsAt + b) 0)
 
-module _ (index : List ℕ) (size : length index ≡ 3072) (a : Job) (j : ℕ) (c : Job) (k : ℕ) (lj : j < 128) (lk : k < 128) where
-  room : (m : ℕ) → m < 12 → place j (nthSlot m) k < 64 * length (pairTo m index a j c k)
-  room m h = omega (arith, pair-size m index a j c k, size)
+  size-one : length one ≡ numbersSize
+  size-one = length-set numbers _ _ ∙ size
 
-  pair-keeps : (m x : ℕ) → m ≤ 12 → bitAt index x ≡ true → bitAt (pairTo m index a j c k) x ≡ true
-  unfolding pairTo
-  pair-keeps zero x h b = b
-  pair-keeps (suc m) x h b = mark-keeps (pairTo m index a j c k) _ (room m (omega arith)) x _ (pair-keeps m x (omega arith) b)
+  size-two : length two ≡ numbersSize
+  size-two = length-set one _ _ ∙ size-one
 
-  pair-sets : (m i : ℕ) → m ≤ 12 → i < m → shares a (nthSlot i) c ≡ true → bitAt (pairTo m index a j c k) (place j (nthSlot i) k) ≡ true
-  unfolding pairTo
-  pair-sets zero i h l e = absurd (not-suc-le-zero l)
-  pair-sets (suc m) i h l e =
-      ⊎-elim
-      (λ (q : i ≡ m). rw q (mark-sets (pairTo m index a j c k) _ (room m (omega arith)) _ (rw q at e)))
-      (λ (n : i < m). mark-keeps (pairTo m index a j c k) _ (room m (omega arith)) _ _ (pair-sets m i (omega arith) n e))
-      (eq-or-lt-of-le (le-of-suc-le-suc l))
+  size-three : length three ≡ numbersSize
+  size-three = length-set two _ _ ∙ size-two
 
-  pair-from : (m x : ℕ) → m ≤ 12 → bitAt (pairTo m index a j c k) x ≡ true → (bitAt index x ≡ true) ⊎ Match a j c k x
-  unfolding pairTo
-  pair-from zero x h b = inl b
-  pair-from (suc m) x h b =
-      ⊎-elim (pair-from m x (omega arith)) (λ q. inr (record { slot = nthSlot m; below = omega arith; at = q .0; found = q .1 }))
-      (mark-from (pairTo m index a j c k) _ (room m (omega arith)) x _ b)
+  with-size : length (numbersWith numbers m label tape b) ≡ numbersSize
+  unfolding numbersWith
+  with-size = length-set three _ _ ∙ size-three
 
-  match-set : (x : ℕ) → Match a j c k x → bitAt (pairTo 12 index a j c k) x ≡ true
-  match-set x m =
-      let i : ℕ = 3 * (m .slot % 4) + m .slot / 4 in
-      let q : nthSlot i ≡ m .slot = omega (arith, m .below) in
-      rw (m .at, ← q) (pair-sets 12 i (omega arith) (omega (arith, m .below)) (rw q (m .found)))
+  with-head : getD (numbersWith numbers m label tape b) (headsAt + b) 0 ≡ suc m
+  unfolding numbersWith
+  with-head = getD-set-same three (headsAt + b) (suc m) 0 (omega (arith, size-three))
 
--- ---- a job against those of a set
-module _ (job : ℕ → Job) (n : ℕ) (ln : n < 128) where
-  -- x is the place of a match of the job with job k, or of job k with it
-  abbrev Meets : ℕ → ℕ → Type 0
-  Meets k x = Match (job n) n (job k) k x ⊎ Match (job k) k (job n) n x
+  with-link : getD (numbersWith numbers m label tape b) (linksAt + m) 0 ≡ getD numbers (headsAt + b) 0
+  unfolding numbersWith
+  with-link =
+      getD-set-other three (headsAt + b) (linksAt + m) (suc m) 0 (λ e. omega arith)
+      ∙ getD-set-same two (linksAt + m) _ 0 (omega (arith, size-two))
 
-  module _ (before : List ℕ) (size : length before ≡ 3072) (k : ℕ) (lk : k < 128) where
-    one-way : List ℕ
-    one-way = pairTo 12 before (job n) n (job k) k
+  with-tape : getD (numbersWith numbers m label tape b) (places + m) 0 ≡ tape
+  unfolding numbersWith
+  with-tape =
+      getD-set-other three (headsAt + b) (places + m) (suc m) 0 (λ e. omega arith)
+      ∙ getD-set-other two (linksAt + m) (places + m) _ 0 (λ e. omega arith)
+      ∙ getD-set-same one (places + m) tape 0 (omega (arith, size-one))
 
-    one-size : length one-way ≡ 3072
-    unfolding one-way
-    one-size = pair-size 12 before (job n) n (job k) k ∙ size
+  with-label : getD (numbersWith numbers m label tape b) m 0 ≡ label
+  unfolding numbersWith
+  with-label =
+      getD-set-other three (headsAt + b) m (suc m) 0 (λ e. omega arith)
+      ∙ getD-set-other two (linksAt + m) m _ 0 (λ e. omega arith)
+      ∙ getD-set-other one (places + m) m tape 0 (λ e. omega arith)
+      ∙ getD-set-same numbers m label 0 (omega (arith, size))
 
-    both-size : length (bothWays before (job n) n (job k) k) ≡ 3072
-    unfolding bothWays one-way
-    both-size = pair-size 12 one-way (job k) k (job n) n ∙ one-size
+  with-other : (i : ℕ) → i ≢ m → i ≢ places + m → i ≢ linksAt + m → i ≢ headsAt + b
+      → getD (numbersWith numbers m label tape b) i 0 ≡ getD numbers i 0
+  unfolding numbersWith
+  with-other i w x y z =
+      getD-set-other three (headsAt + b) i (suc m) 0 z
+      ∙ getD-set-other two (linksAt + m) i _ 0 y
+      ∙ getD-set-other one (places + m) i tape 0 x
+      ∙ getD-set-other numbers m i label 0 w
 
-    both-keeps : (x : ℕ) → bitAt before x ≡ true → bitAt (bothWays before (job n) n (job k) k) x ≡ true
-    unfolding bothWays one-way
-    both-keeps x b =
-        pair-keeps one-way one-size (job k) k (job n) n lk ln 12 x (omega arith) (pair-keeps before size (job n) n (job k) k ln lk 12 x (omega arith) b)
+-- ---- one place more
+pub last-or-below : (p m : ℕ) → p < suc m → (p ≡ m) ⊎ (p < m)
+last-or-below p m l = eq-or-lt-of-le (le-of-suc-le-suc l)
 
-    both-sets : (x : ℕ) → Meets k x → bitAt (bothWays before (job n) n (job k) k) x ≡ true
-    unfolding bothWays one-way
-    both-sets x (inl m) =
-        pair-keeps one-way one-size (job k) k (job n) n lk ln 12 x (omega arith) (match-set before size (job n) n (job k) k ln lk x m)
-    both-sets x (inr m) = match-set one-way one-size (job k) k (job n) n lk ln x m
+module _ (job : ℕ → Job) (m : ℕ) (numbers : List ℕ) (t : Numbered job m numbers) (lm : m < places) (used : usedAt job m ≡ true)
+    (label tape b : ℕ) (ll : label ≤ m) (lt : tape ≤ m) (lb : b < buckets)
+    (el : label ≡ numberAt job false m) (et : tape ≡ numberAt job true m) (eb : b ≡ bucketOf (labelAt job m)) where
+  abbrev entered : List ℕ
+  entered = numbersWith numbers m label tape b
 
-    both-from : (x : ℕ) → bitAt (bothWays before (job n) n (job k) k) x ≡ true → (bitAt before x ≡ true) ⊎ Meets k x
-    unfolding bothWays one-way
-    both-from x b =
-        ⊎-elim
-        (λ o. ⊎-elim inl (λ m. inr (inl m)) (pair-from before size (job n) n (job k) k ln lk 12 x (omega arith) o))
-        (λ m. inr (inr m))
-        (pair-from one-way one-size (job k) k (job n) n lk ln 12 x (omega arith) b)
+  named-now : (exact : Bool) → getD entered (numbersAt exact + m) 0 ≡ numberAt job exact m
+  named-now true = with-tape numbers (t .size) m label tape b lm lb ∙ et
+  named-now false = let z : 0 + m ≡ m = omega arith in rw z (with-label numbers (t .size) m label tape b lm lb ∙ el)
 
-  -- a match with an earlier job
-  record Met (x : ℕ) : Type 0 where
-    which : ℕ
-    earlier : which < n
-    is : Meets which x
+  named-before : (exact : Bool) (p : ℕ) → p < m → getD entered (numbersAt exact + p) 0 ≡ getD numbers (numbersAt exact + p) 0
+  named-before true p l =
+      with-other numbers (t .size) m label tape b lm lb (places + p) (λ e. omega arith) (λ e. omega arith) (λ e. omega arith) (λ e. omega arith)
+  named-before false p l = with-other numbers (t .size) m label tape b lm lb (0 + p) (λ e. omega arith) (λ e. omega arith) (λ e. omega arith) (λ e. omega arith)
 
-  module _ (index : List ℕ) (size : length index ≡ 3072) (s : JobSet) where
-    against-size : (m : ℕ) → m ≤ n → length (againstTo job m index s n) ≡ 3072
-    unfolding againstTo
-    against-size zero h = size
-    against-size (suc m) h = by (jobHas s m) (against-size m (omega arith))
-      where
-        by : (t : Bool) → length (againstTo job m index s n) ≡ 3072
-            → length (cond t (bothWays (againstTo job m index s n) (job n) n (job m) m) (againstTo job m index s n)) ≡ 3072
-        by true e = both-size (againstTo job m index s n) e m (omega arith)
-        by false e = e
+  in-own : inBucket job b m ≡ true
+  unfolding inBucket
+  in-own = simp (used, eq-eqb (bucketOf (labelAt job m)) b (sym eb))
 
-    against-keeps : (m x : ℕ) → m ≤ n → bitAt index x ≡ true → bitAt (againstTo job m index s n) x ≡ true
-    unfolding againstTo
-    against-keeps zero x h b = b
-    against-keeps (suc m) x h b = by (jobHas s m) (against-keeps m x (omega arith) b)
-      where
-        by : (t : Bool) → bitAt (againstTo job m index s n) x ≡ true
-            → bitAt (cond t (bothWays (againstTo job m index s n) (job n) n (job m) m) (againstTo job m index s n)) x ≡ true
-        by true e = both-keeps (againstTo job m index s n) (against-size m (omega arith)) m (omega arith) x e
-        by false e = e
+  in-other : (c : ℕ) → c ≢ b → inBucket job c m ≡ false
+  unfolding inBucket
+  in-other c ne = simp (used, ne-eqb (bucketOf (labelAt job m)) c (λ e. ne (sym e ∙ sym eb)))
 
-    against-sets : (m k x : ℕ) → m ≤ n → k < m → jobHas s k ≡ true → Meets k x → bitAt (againstTo job m index s n) x ≡ true
-    unfolding againstTo
-    against-sets zero k x h l e q = absurd (not-suc-le-zero l)
-    against-sets (suc m) k x h l e q =
-        ⊎-elim
-        (λ (r : k ≡ m). here (rw r at e) (rw r at q))
-        (λ (o : k < m). there (jobHas s m) (against-sets m k x (omega arith) o e q))
-        (eq-or-lt-of-le (le-of-suc-le-suc l))
-      where
-        here : jobHas s m ≡ true → Meets m x → bitAt (cond (jobHas s m) (bothWays (againstTo job m index s n) (job n) n (job m) m) (againstTo job m index s n)) x ≡ true
-        here t r = simp t (both-sets (againstTo job m index s n) (against-size m (omega arith)) m (omega arith) x r)
+  small-next : (i : ℕ) → i < linksAt → getD entered i 0 < places
+  small-next i l = by (eqb i m) (eqb i (places + m)) refl refl
+    where
+      by : (u v : Bool) → eqb i m ≡ u → eqb i (places + m) ≡ v → getD entered i 0 < places
+      by true v eu ev =
+          let q = eqb-true i m eu in rw q (omega (arith, with-label numbers (t .size) m label tape b lm lb))
+      by false true eu ev =
+          let q = eqb-true i (places + m) ev in rw q (omega (arith, with-tape numbers (t .size) m label tape b lm lb))
+      by false false eu ev =
+          let kept =
+          with-other numbers (t .size) m label tape b lm lb i (eqb-false i m eu) (eqb-false i (places + m) ev) (λ e. omega arith) (λ e. omega arith) in
+          omega (arith, t .small i l, kept)
 
-        there : (t : Bool) → bitAt (againstTo job m index s n) x ≡ true
-            → bitAt (cond t (bothWays (againstTo job m index s n) (job n) n (job m) m) (againstTo job m index s n)) x ≡ true
-        there true o = both-keeps (againstTo job m index s n) (against-size m (omega arith)) m (omega arith) x o
-        there false o = o
-
-    against-from : (m x : ℕ) → m ≤ n → bitAt (againstTo job m index s n) x ≡ true → (bitAt index x ≡ true) ⊎ Met x
-    unfolding againstTo
-    against-from zero x h b = inl b
-    against-from (suc m) x h b = by (jobHas s m) (against-from m x (omega arith)) b
-      where
-        by : (t : Bool) → (bitAt (againstTo job m index s n) x ≡ true → (bitAt index x ≡ true) ⊎ Met x)
-            → bitAt (cond t (bothWays (againstTo job m index s n) (job n) n (job m) m) (againstTo job m index s n)) x ≡ true → (bitAt index x ≡ true) ⊎ Met x
-        by true f e =
-            ⊎-elim f (λ q. inr (record { which = m; earlier = omega arith; is = q }))
-            (both-from (againstTo job m index s n) (against-size m (omega arith)) m (omega arith) x e)
-        by false f e = f e
-
--- ---- the index of one job more
--- two places are the same only for the same pair and slot
-place-one : (j i k j′ i′ k′ : ℕ) → i < 12 → k < 128 → i′ < 12 → k′ < 128 → place j i k ≡ place j′ i′ k′ → (j ≡ j′) × ((i ≡ i′) × (k ≡ k′))
-place-one j i k j′ i′ k′ a b c d q = (omega arith, (omega arith, omega arith))
-
-module _ (job : ℕ → Job) (n : ℕ) (ln : n < 128) (index sieve : List ℕ) (x : Indexed job n index) (y : Sieved job n sieve) where
-  -- both are among the first, and the slot seeks the job
-  pub record Sought (m j i k : ℕ) : Type 0 where
-    pub row : j < m
-    pub column : k < m
-    pub found : shares (job j) i (job k) ≡ true
-
-  sought : (m j i k : ℕ) → (ltb j m && (ltb k m && shares (job j) i (job k))) ≡ true → Sought m j i k
-  sought m j i k e =
-      let a = and-true (ltb j m) _ e in
-      let b = and-true (ltb k m) _ (a .1) in
-      record { row = ltb-true j m (a .0); column = ltb-true k m (b .0); found = b .1 }
-
-  seeks : (m j i k : ℕ) → Sought m j i k → (ltb j m && (ltb k m && shares (job j) i (job k))) ≡ true
-  seeks m j i k q = simp (lt-ltb j m (q .row), lt-ltb k m (q .column)) (q .found)
-
-  mid : List ℕ
-  mid = againstTo job n index (likelyTo 8 sieve (job n)) n
-
-  mid-size : length mid ≡ 3072
-  unfolding mid
-  mid-size = against-size job n ln index (x .size) (likelyTo 8 sieve (job n)) n (omega arith)
-
-  module _ (j i k : ℕ) (lj : j < 128) (li : i < 12) (lk : k < 128) where
-    matched : (p q : ℕ) → p < n + 1 → q < n + 1 → Match (job p) p (job q) q (place j i k) → Sought (n + 1) j i k
-    matched p q lp lq m =
-        let e = place-one j i k p (m .slot) q li lk (m .below) (omega (arith, lq, ln)) (m .at) in
-        record { row = omega (arith, e .0, lp); column = omega (arith, e .1 .1, lq); found = rw (e .0, e .1 .0, e .1 .1) (m .found) }
-
-    from : bitAt (extended job index (likelyTo 8 sieve (job n)) n) (place j i k) ≡ true → Sought (n + 1) j i k
-    unfolding extended mid
-    from b =
-        ⊎-elim
-        (λ o. ⊎-elim old (λ m. ⊎-elim (matched n (m .which) (omega arith) (omega (arith, m .earlier))) (matched (m .which) n (omega (arith, m .earlier)) (omega arith)) (m .is))
-        (against-from job n ln index (x .size) (likelyTo 8 sieve (job n)) n (place j i k) (omega arith) o))
-        (matched n n (omega arith) (omega arith))
-        (pair-from mid mid-size (job n) n (job n) n ln ln 12 (place j i k) (omega arith) b)
-      where
-        old : bitAt index (place j i k) ≡ true → Sought (n + 1) j i k
-        old o = let q = sought n j i k (sym (x .bits j i k lj li lk) ∙ o) in record { row = omega (arith, q .row); column = omega (arith, q .column); found = q .found }
-
-    into : Sought (n + 1) j i k → bitAt (extended job index (likelyTo 8 sieve (job n)) n) (place j i k) ≡ true
-    unfolding extended mid
-    into q = by (ltb j n) (ltb k n) refl refl
-      where
-        kept : bitAt mid (place j i k) ≡ true → bitAt (pairTo 12 mid (job n) n (job n) n) (place j i k) ≡ true
-        kept b = pair-keeps mid mid-size (job n) n (job n) n ln ln 12 (place j i k) (omega arith) b
-
-        met : (m : ℕ) → m < n → jobHas (likelyTo 8 sieve (job n)) m ≡ true → Meets job n ln m (place j i k) → bitAt (pairTo 12 mid (job n) n (job n) n) (place j i k) ≡ true
-        met m l h r = kept (against-sets job n ln index (x .size) (likelyTo 8 sieve (job n)) n m (place j i k) (omega arith) l h r)
-
-        by : (t u : Bool) → ltb j n ≡ t → ltb k n ≡ u → bitAt (pairTo 12 mid (job n) n (job n) n) (place j i k) ≡ true
-        by true true e f =
-            kept (against-keeps job n ln index (x .size) (likelyTo 8 sieve (job n)) n (place j i k) (omega arith)
-            (x .bits j i k lj li lk ∙ seeks n j i k (record { row = ltb-true j n e; column = ltb-true k n f; found = q .found })))
-        by true false e f =
-            let z : k ≡ n = omega (arith, ltb-false k n f, q .column) in
-            let g : shares (job j) i (job n) ≡ true = rw z at (q .found) in
-            met j (ltb-true j n e) (is-likely job n sieve ln y j (ltb-true j n e) (inr (common (job j) i (job n) li g))) (inr (record { slot = i; below = li; at = rw z; found = g }))
-        by false true e f =
-            let z : j ≡ n = omega (arith, ltb-false j n e, q .row) in
-            let g : shares (job n) i (job k) ≡ true = rw z at (q .found) in
-            met k (ltb-true k n f) (is-likely job n sieve ln y k (ltb-true k n f) (inl (common (job n) i (job k) li g))) (inl (record { slot = i; below = li; at = rw z; found = g }))
-        by false false e f =
-            let z : j ≡ n = omega (arith, ltb-false j n e, q .row) in
-            let w : k ≡ n = omega (arith, ltb-false k n f, q .column) in
-            match-set mid mid-size (job n) n (job n) n ln ln (place j i k) (record { slot = i; below = li; at = rw (z, w); found = rw (z, w) at (q .found) })
-
-  pub index-grows : Indexed job (n + 1) (extended job index (likelyTo 8 sieve (job n)) n)
-  unfolding extended mid
-  index-grows = record {
-    size = pair-size 12 mid (job n) n (job n) n ∙ mid-size;
-    bits = λ j i k lj li lk. same-truth _ _ (λ b. seeks (n + 1) j i k (from j i k lj li lk b)) (λ e. into j i k lj li lk (sought (n + 1) j i k e));
+  pub numbered-next : Numbered job (suc m) entered
+  numbered-next = record {
+    size = with-size numbers (t .size) m label tape b lm lb;
+    small = small-next;
+    named = λ exact p l u. ⊎-elim
+        (λ (e : p ≡ m). rw e (named-now exact))
+        (λ (o : p < m). named-before exact p o ∙ t .named exact p o u)
+        (last-or-below p m l);
+    linked = λ p l u. ⊎-elim
+        (λ (e : p ≡ m). rw e (with-link numbers (t .size) m label tape b lm lb ∙ t .headed b lb ∙ ap (λ (c : ℕ). lastBelow m (inBucket job c)) eb))
+        (λ (o : p < m).
+        with-other numbers (t .size) m label tape b lm lb (linksAt + p) (λ e. omega arith) (λ e. omega arith) (λ e. omega arith) (λ e. omega arith)
+        ∙ t .linked p o u)
+        (last-or-below p m l);
+    headed = λ c l. by c l (eqb c b) refl;
   }
+    where
+      by : (c : ℕ) → c < buckets → (u : Bool) → eqb c b ≡ u → getD entered (headsAt + c) 0 ≡ lastBelow (suc m) (inBucket job c)
+      by c l true e =
+          let q = eqb-true c b e in
+          rw q (with-head numbers (t .size) m label tape b lm lb ∙ sym (last-yes (inBucket job b) m in-own))
+      by c l false e =
+          let q = eqb-false c b e in
+          with-other numbers (t .size) m label tape b lm lb (headsAt + c) (λ e. omega arith) (λ e. omega arith) (λ e. omega arith) (λ e. q (omega arith))
+          ∙ t .headed c l ∙ sym (last-no (inBucket job c) m (in-other c q))
+
+-- ---- the sets
+mark-bit : (words : List ℕ) (b : ℕ) → b < 64 * length words → (x : ℕ) (t : Bool) → bitAt (marked words b t) x ≡ ((t && eqb x b) || bitAt words x)
+unfolding marked
+mark-bit words b room x false = refl
+mark-bit words b room x true = by (eqb x b) refl
+  where
+    by : (u : Bool) → eqb x b ≡ u → bitAt (marked words b true) x ≡ (u || bitAt words x)
+    by true e = let q = eqb-true x b e in rw q (mark-sets words b room true refl)
+    by false e = mark-other words b room x true (eqb-false x b e)
+
+regroup : (a b c : Bool) → (a || (b || c)) ≡ ((b || a) || c)
+regroup true true c = refl
+regroup true false c = refl
+regroup false true c = refl
+regroup false false c = refl
+
+side-small : (e : ℕ) → sideOf e ≤ 1
+unfolding sideOf
+side-small e = by (ltb e 4)
+  where
+    by : (t : Bool) → cond t 0 1 ≤ 1
+    by true = omega arith
+    by false = omega arith
+
+module _ (job : ℕ → Job) (m : ℕ) (sets : List ℕ) (t : Marked job m sets) (lm : m < places) (used : usedAt job m ≡ true)
+    (label tape n e : ℕ) (el : label ≡ numberAt job false m) (et : tape ≡ numberAt job true m) (en : n ≡ m / 8) (ee : e ≡ m % 8)
+    (ll : label ≤ m) (lt : tape ≤ m) where
+  abbrev first : List ℕ
+  first = marked sets (bitOf (sideOf e) label n) true
+
+  room-one : bitOf (sideOf e) label n < 64 * length sets
+  room-one = omega (arith, t .size, side-small e)
+
+  room-two : bitOf 2 tape n < 64 * length first
+  room-two = omega (arith, t .size, mark-size sets (bitOf (sideOf e) label n) true)
+
+  pub marked-next : Marked job (suc m) (setsWith sets label tape n e)
+  unfolding setsWith anyBelow marks
+  marked-next = record {
+    size = mark-size first _ _ ∙ mark-size sets _ _ ∙ t .size;
+    bits = λ x l.
+        mark-bit first (bitOf 2 tape n) room-two x (not (ltb e 4))
+        ∙ ap (λ (u : Bool). (not (ltb e 4) && eqb x (bitOf 2 tape n)) || u) (mark-bit sets (bitOf (sideOf e) label n) room-one x true)
+        ∙ regroup (not (ltb e 4) && eqb x (bitOf 2 tape n)) (eqb x (bitOf (sideOf e) label n)) (bitAt sets x)
+        ∙ simp (used, sym el, sym et, sym en, sym ee, t .bits x l);
+  }
+
+-- ---- a place that is not used
+module _ (job : ℕ → Job) (m : ℕ) (unused : usedAt job m ≡ false) where
+  no-bucket : (b : ℕ) → inBucket job b m ≡ false
+  unfolding inBucket
+  no-bucket b = simp unused
+
+  -- a used place below is another
+  before : (p : ℕ) → p < suc m → usedAt job p ≡ true → p < m
+  before p l u = ⊎-elim (λ (e : p ≡ m). absurd (true≢false (sym u ∙ ap (usedAt job) e ∙ unused))) (λ (o : p < m). o) (last-or-below p m l)
+
+  pub numbered-same : (numbers : List ℕ) → Numbered job m numbers → Numbered job (suc m) numbers
+  numbered-same numbers t = record {
+    size = t .size;
+    small = t .small;
+    named = λ exact p l u. t .named exact p (before p l u) u;
+    linked = λ p l u. t .linked p (before p l u) u;
+    headed = λ b l. t .headed b l ∙ sym (last-no (inBucket job b) m (no-bucket b));
+  }
+
+  pub marked-same : (sets : List ℕ) → Marked job m sets → Marked job (suc m) sets
+  unfolding anyBelow marks
+  marked-same sets t = record { size = t .size; bits = λ x l. simp unused (t .bits x l) }
+
+-- the place of an entry
+module _ (job : ℕ → Job) (n e : ℕ) (le : e < 8) (a : Job) (ea : a ≡ job n) where
+  job-there : (8 * n + e) / 8 ≡ n
+  job-there = omega arith
+
+  entry-there : (8 * n + e) % 8 ≡ e
+  entry-there = omega arith
+
+  pub place-used : usedAt job (8 * n + e) ≡ isUsed a e
+  unfolding usedAt
+  place-used = rw (job-there, entry-there, ea)
+
+  pub place-label : labelAt job (8 * n + e) ≡ labelOf a e
+  unfolding labelAt
+  place-label = rw (job-there, entry-there, ea)
+
+  pub place-frames : framesAt job (8 * n + e) ≡ framesOf a e
+  unfolding framesAt
+  place-frames = rw (job-there, entry-there, ea)
+
+-- ---- the marks of an entry
+mark-none : (words : List ℕ) (b : ℕ) → marked words b false ≡ words
+unfolding marked
+mark-none words b = refl
+
+module _ (sets : List ℕ) (label tape n e : ℕ) where
+  pub mark-input : (after : List ℕ) → e < 4 → after ≡ marked sets (capacity * (3 * label) + n) true → after ≡ setsWith sets label tape n e
+  unfolding setsWith sideOf
+  mark-input after l h =
+      let z : 3 * label + 0 ≡ 3 * label = omega arith in
+      h ∙ sym (simp (lt-ltb e 4 l, z, mark-none))
+
+  pub mark-output : (one after : List ℕ) → 4 ≤ e → one ≡ marked sets (capacity * (3 * label + 1) + n) true
+      → after ≡ marked one (capacity * (3 * tape + 2) + n) true → after ≡ setsWith sets label tape n e
+  unfolding setsWith sideOf
+  mark-output one after l g h = h ∙ sym (simp (le-ltb e 4 l, sym g))

@@ -1,9 +1,8 @@
 -- A mark sets its own bit and no other, so what a row of marks has set is what one of them has.
--- Assumes nothing.
 use mathlib.Core.Bool.{Bool, false, true, true≢false}
 use mathlib.Core.List.{List}
-use mathlib.Core.Logic.{_≢_, _⊎_, inl, inr}
-use mathlib.Core.Path.{_∙_, _≡_, refl, subst, sym}
+use mathlib.Core.Logic.{_≢_}
+use mathlib.Core.Path.{_≡_, refl, subst, sym}
 use Prim.Native.Nat.{_%_, _*_, _+_, _-_, _/_, _<_, _≤_, ℕ}
 use native.Mathlib.Omega.{arith}
 use lib.Dec.{eqb, ltb}
@@ -49,25 +48,6 @@ module _ (words : List ℕ) (b : ℕ) (room : b < 64 * length words) where
           let r : x % 64 ≢ b % 64 = λ m. ne (omega arith) in
           rw (q, getD-set-same words (b / 64) (withBit (getD words (b / 64) 0) (b % 64)) 0 at) (has-with-other (getD words (b / 64) 0) (b % 64) (x % 64) r)
       by false e = rw (getD-set-other words (b / 64) (x / 64) (withBit (getD words (b / 64) 0) (b % 64)) 0 (eqb-false _ _ e))
-
-  pub mark-keeps : (x : ℕ) (t : Bool) → bitAt words x ≡ true → bitAt (marked words b t) x ≡ true
-  unfolding marked
-  mark-keeps x false h = h
-  mark-keeps x true h = by (eqb x b) refl
-    where
-      by : (u : Bool) → eqb x b ≡ u → bitAt (marked words b true) x ≡ true
-      by true e = let q = eqb-true x b e in rw q (mark-sets true refl)
-      by false e = mark-other x true (eqb-false x b e) ∙ h
-
-  -- a bit that is set was set before, or is the mark
-  pub mark-from : (x : ℕ) (t : Bool) → bitAt (marked words b t) x ≡ true → (bitAt words x ≡ true) ⊎ ((x ≡ b) × (t ≡ true))
-  unfolding marked
-  mark-from x false h = inl h
-  mark-from x true h = by (eqb x b) refl
-    where
-      by : (u : Bool) → eqb x b ≡ u → (bitAt words x ≡ true) ⊎ ((x ≡ b) × (true ≡ true))
-      by true e = inr (eqb-true x b e, refl)
-      by false e = inl (sym (mark-other x true (eqb-false x b e)) ∙ h)
 
 -- the set of jobs in two words has the jobs whose bits are set
 pub set-bit : (words : List ℕ) (at k : ℕ) → k < 128 → jobHas (setAt words at) k ≡ bitAt words (64 * at + k)

@@ -1,39 +1,57 @@
--- Checks 11 to 14 by the index: whether a slot's set meets the jobs that a vault holds or signed.
+-- Checks 11 to 14 by the index: whether the set at an entry's number meets the jobs that a vault holds or signed.
 use mathlib.Core.Bool.{Bool, _&&_, cond, not}
 use mathlib.Core.List.{List}
-use Prim.Native.Nat.{_*_, _+_, ℕ}
+use mathlib.Core.Path.{_≡_}
+use Prim.Native.Nat.{_*_, _+_, _<_, ℕ}
 use lib.Dec.{ltb}
+use lib.ListN.{getD, length}
 use Rattle.base.specs.Search.{firstBelow}
 use Rattle.outcome.specs.declared.Refusal.the-variants.{InputReserved, NotCreated, OutputReserved, Retired}
 use Rattle.outcome.specs.declared.Verdict.{Verdict}
 use Rattle.outcome.specs.declared.Verdict.the-variants.{Fail, Pass}
 use Rattle.sets.specs.Jobs.{jobUnion, jobsMeet}
 use Rattle.sets.specs.declared.job_set.JobSet.{JobSet}
+use Rattle.index.specs.Places.{linksAt, numbersSize, places, setsSize}
 use Rattle.index.specs.Words.{setAt}
 
--- the e-th of the slots from word `at` on meets the set
-unfoldable pub metAt : List ℕ → ℕ → JobSet → ℕ → Bool
-metAt index at s e = jobsMeet (setAt index (at + 2 * e)) s
+-- what the checks ask of the tables
+pub record Tables (numbers sets : List ℕ) : Type 0 where
+  pub numbers-size : length numbers ≡ numbersSize
+  pub sets-size : length sets ≡ setsSize
+  pub small : (i : ℕ) → i < linksAt → getD numbers i 0 < places
 
--- the first of four that does, or 4
-unfoldable pub firstMet : List ℕ → ℕ → JobSet → ℕ
-firstMet index at s = firstBelow 4 (metAt index at s)
+-- the set of the kind at the number that stands there: 0, the jobs that have the label as an input; 1, as an output; 2, that make the tape
+unfoldable pub setOf : List ℕ → List ℕ → ℕ → ℕ → JobSet
+setOf numbers sets at kind = setAt sets (6 * getD numbers at 0 + 2 * kind)
 
--- an input whose slot does not meet the set
-unfoldable pub unmetAt : List ℕ → ℕ → ℕ → JobSet → ℕ → Bool
-unmetAt index inputs at s e = ltb e inputs && not (metAt index at s e)
+-- entry e is one of so many, and its set meets s
+unfoldable pub metAt : List ℕ → List ℕ → ℕ → ℕ → ℕ → JobSet → ℕ → Bool
+metAt numbers sets count at kind s e = ltb e count && jobsMeet (setOf numbers sets (at + e) kind) s
 
-unfoldable pub firstUnmet : List ℕ → ℕ → ℕ → JobSet → ℕ
-firstUnmet index inputs at s = firstBelow 4 (unmetAt index inputs at s)
+-- it is one of them, and does not
+unfoldable pub unmetAt : List ℕ → List ℕ → ℕ → ℕ → ℕ → JobSet → ℕ → Bool
+unmetAt numbers sets count at kind s e = ltb e count && not (jobsMeet (setOf numbers sets (at + e) kind) s)
 
--- checks 11 to 14 of job k, which has so many inputs
-unfoldable pub admissionBy : List ℕ → ℕ → JobSet → JobSet → ℕ → Verdict
-admissionBy index inputs held others k =
-    let missing = firstUnmet index inputs (24 * k) held in
-    cond (ltb missing 4) (Fail (NotCreated missing))
-    (let retired = firstMet index (24 * k + 8) held in
+unfoldable pub firstMet : List ℕ → List ℕ → ℕ → ℕ → ℕ → JobSet → ℕ
+firstMet numbers sets count at kind s = firstBelow 4 (metAt numbers sets count at kind s)
+
+unfoldable pub firstUnmet : List ℕ → List ℕ → ℕ → ℕ → ℕ → JobSet → ℕ
+firstUnmet numbers sets count at kind s = firstBelow 4 (unmetAt numbers sets count at kind s)
+
+-- checks 12 and 13 of job k, which has so many inputs
+unfoldable pub consumedBy : List ℕ → List ℕ → ℕ → JobSet → JobSet → ℕ → Verdict
+consumedBy numbers sets inputs held others k =
+    let retired = firstMet numbers sets inputs (8 * k) 0 held in
     cond (ltb retired 4) (Fail (Retired retired))
-    (let reserved = firstMet index (24 * k + 8) others in
-    cond (ltb reserved 4) (Fail (InputReserved reserved))
-    (let remade = firstMet index (24 * k + 16) (jobUnion held others) in
-    cond (ltb remade 4) (Fail (OutputReserved (4 + remade))) Pass)))
+    (let reserved = firstMet numbers sets inputs (8 * k) 0 others in
+    cond (ltb reserved 4) (Fail (InputReserved reserved)) Pass)
+
+-- checks 11 to 14; 12 and 13 only where one of them fails
+unfoldable pub admissionBy : List ℕ → List ℕ → ℕ → ℕ → JobSet → JobSet → ℕ → Verdict
+admissionBy numbers sets inputs outputs held others k =
+    let missing = firstUnmet numbers sets inputs (places + 8 * k) 2 held in
+    cond (ltb missing 4) (Fail (NotCreated missing))
+    (let known = jobUnion held others in
+    cond (ltb (firstMet numbers sets inputs (8 * k) 0 known) 4) (consumedBy numbers sets inputs held others k)
+    (let remade = firstMet numbers sets outputs (8 * k + 4) 1 known in
+    cond (ltb remade 4) (Fail (OutputReserved (4 + remade))) Pass))

@@ -1,39 +1,37 @@
--- A job is entered: it is compared with each likely job, both ways, and with itself.
-use mathlib.Core.Bool.{cond}
+-- A used place is entered: its numbers, its link and its bucket's head are stored, and its job joins the sets at them. So the tables of the
+-- first places are one list each.
+use mathlib.Core.Bool.{cond, false, not, true}
 use mathlib.Core.List.{List}
-use Prim.Native.Nat.{_%_, _*_, _+_, _/_, suc, zero, ℕ}
+use mathlib.Core.Path.{_≡_}
+use Prim.Native.Nat.{_%_, _+_, _/_, suc, zero, ℕ}
+use lib.Dec.{ltb}
+use lib.ListN.{getD, replicate, set}
 use Rattle.record.specs.declared.Job.{Job}
-use Rattle.sets.specs.Jobs.{jobHas}
-use Rattle.sets.specs.declared.job_set.JobSet.{JobSet}
-use Rattle.index.specs.Sieve.{likelyTo, siftOf}
-use Rattle.index.specs.Slots.{place, shares}
+use Rattle.index.specs.Places.{bitOf, bucketOf, headsAt, labelAt, linksAt, numberAt, numbersSize, places, setsSize, sideOf, usedAt}
 use Rattle.index.specs.Words.{marked}
 
--- the slot that is entered i-th: 0, 4 and 8, then 1, 5 and 9, and so on, since those of input e and output e are entered together
-abbrev pub nthSlot : ℕ → ℕ
-nthSlot i = 4 * (i % 3) + i / 3
+-- the numbers with place m, which has these two and is in bucket b
+unfoldable pub numbersWith : List ℕ → ℕ → ℕ → ℕ → ℕ → List ℕ
+numbersWith numbers m label tape b =
+    set (set (set (set numbers m label) (places + m) tape) (linksAt + m) (getD numbers (headsAt + b) 0)) (headsAt + b) (suc m)
 
--- job k entered in the first i slots of job j
-unfoldable pub pairTo : ℕ → List ℕ → Job → ℕ → Job → ℕ → List ℕ
-pairTo zero index a j c k = index
-pairTo (suc i) index a j c k = marked (pairTo i index a j c k) (place j (nthSlot i) k) (shares a (nthSlot i) c)
-
--- each in the slots of the other
-unfoldable pub bothWays : List ℕ → Job → ℕ → Job → ℕ → List ℕ
-bothWays index a j c k = pairTo 12 (pairTo 12 index a j c k) c k a j
+-- the sets with entry e of job n, which has these two numbers
+unfoldable pub setsWith : List ℕ → ℕ → ℕ → ℕ → ℕ → List ℕ
+setsWith sets label tape n e = marked (marked sets (bitOf (sideOf e) label n) true) (bitOf 2 tape n) (not (ltb e 4))
 
 module _ (job : ℕ → Job) where
-  -- job n against those of the set among the first k
-  unfoldable pub againstTo : ℕ → List ℕ → JobSet → ℕ → List ℕ
-  againstTo zero index s n = index
-  againstTo (suc k) index s n = cond (jobHas s k) (bothWays (againstTo k index s n) (job n) n (job k) k) (againstTo k index s n)
+  -- the numbers of the first m places
+  unfoldable pub numbersOf : ℕ → List ℕ
+  numbersOf zero = replicate numbersSize 0
+  numbersOf (suc m) =
+      cond (usedAt job m) (numbersWith (numbersOf m) m (numberAt job false m) (numberAt job true m) (bucketOf (labelAt job m))) (numbersOf m)
 
-  unfoldable pub extended : List ℕ → JobSet → ℕ → List ℕ
-  extended index s n = pairTo 12 (againstTo n index s n) (job n) n (job n) n
+  -- the sets of the first m places
+  unfoldable pub setsOf : ℕ → List ℕ
+  setsOf zero = replicate setsSize 0
+  setsOf (suc m) = cond (usedAt job m) (setsWith (setsOf m) (numberAt job false m) (numberAt job true m) (m / 8) (m % 8)) (setsOf m)
 
-  -- the index and the sieve with job n
-  abbrev pub indexWith : List ℕ → List ℕ → ℕ → List ℕ
-  indexWith index sieve n = extended index (likelyTo 8 sieve (job n)) n
-
-  abbrev pub sieveWith : List ℕ → ℕ → List ℕ
-  sieveWith sieve n = siftOf sieve (job n) n
+-- the two tables are those of the first m places
+pub record Entries (job : ℕ → Job) (m : ℕ) (numbers sets : List ℕ) : Type 0 where
+  pub numbers-are : numbers ≡ numbersOf job m
+  pub sets-are : sets ≡ setsOf job m

@@ -1,77 +1,184 @@
 // Checks 11 to 14 by the index.
 ghost use mathlib.Core.Path.{_≡_};
 ghost use Prim.Native.Nat.{_+_, _*_, _<_, _≤_};
-ghost use lib.ListN.{length};
-ghost use Rattle.index.specs.Checks.{metAt, firstMet, unmetAt, firstUnmet, admissionBy};
+ghost use Rattle.sets.specs.Jobs.{InWords};
+ghost use Rattle.journal.specs.Journal.{capacity, jobAt};
+ghost use Rattle.index.specs.Admission.{admission};
+ghost use Rattle.index.specs.Checks.{Tables, setOf, metAt, firstMet, unmetAt, firstUnmet, consumedBy, admissionBy};
+ghost use Rattle.index.specs.Index.{IndexedEntries};
+ghost use Rattle.index.specs.Places.{linksAt, places};
+use crate::PLACES;
+use crate::seeking;
 use crate::words;
 use outcome::Refusal;
 use outcome::Verdict;
 use sets::JobSet;
 
-fn met_at(index: &[u64], at: usize, s: JobSet, e: usize) -> bool
-    requires { ⌜ (e < 4) × (at + 8 ≤ length (now index)) ⌝ }
-    ensures { λ r. ⌜ r ≡ metAt (now (index .entry)) at s e ⌝ }
+// The sets at a number: of the jobs that have the label as an input, as an output, and that make the tape.
+const READERS: usize = 0;
+
+const WRITERS: usize = 1;
+
+const MAKERS: usize = 2;
+
+fn set_of(numbers: &[u16], sets: &[u64], at: usize, kind: usize) -> JobSet
+    requires { ⌜ (at < linksAt) × (kind < 3) × Tables (now numbers) (now sets) ⌝ }
+    ensures { λ r. ⌜ (r ≡ setOf (now (numbers .entry)) (now (sets .entry)) at kind) × InWords r ⌝ }
 {
-    words::set_at(index, at + 2 * e).meets(s)
+    words::set_at(sets, 6 * seeking::number(numbers, at) + 2 * kind)
 }
 
-// The first of four slots that meets the set, or 4.
-fn first_met(index: &[u64], at: usize, s: JobSet) -> usize
-    requires { ⌜ at + 8 ≤ length (now index) ⌝ }
-    ensures { λ r. ⌜ r ≡ firstMet (now (index .entry)) at s ⌝ }
+// The jobs that make the tape of entry e of job k.
+pub fn makers(numbers: &[u16], sets: &[u64], k: usize, e: usize) -> JobSet
+    requires { ⌜ (k < 128) × (e < 8) × Tables (now numbers) (now sets) ⌝ }
+    ensures { λ r. ⌜ (r ≡ setOf (now (numbers .entry)) (now (sets .entry)) (places + 8 * k + e) 2) × InWords r ⌝ }
 {
-    for e in 0..4 {
-        if met_at(index, at, s, e) {
-            return e;
-        }
-    }
-    4
+    set_of(numbers, sets, PLACES + 8 * k + e, MAKERS)
 }
 
-fn unmet_at(index: &[u64], inputs: usize, at: usize, s: JobSet, e: usize) -> bool
-    requires { ⌜ (e < 4) × (at + 8 ≤ length (now index)) ⌝ }
-    ensures { λ r. ⌜ r ≡ unmetAt (now (index .entry)) inputs at s e ⌝ }
+fn met_at(
+    numbers: &[u16],
+    sets: &[u64],
+    count: usize,
+    at: usize,
+    kind: usize,
+    s: JobSet,
+    e: usize,
+) -> bool
+    requires { ⌜ (e < 4) × (at + 4 ≤ linksAt) × (kind < 3) × Tables (now numbers) (now sets) ⌝ }
+    ensures { λ r. ⌜ r ≡ metAt (now (numbers .entry)) (now (sets .entry)) count at kind s e ⌝ }
 {
-    if e < inputs {
-        return !met_at(index, at, s, e);
+    if e < count {
+        return set_of(numbers, sets, at + e, kind).meets(s);
     }
     false
 }
 
-// The first input whose slot does not meet the set, or 4.
-fn first_unmet(index: &[u64], inputs: usize, at: usize, s: JobSet) -> usize
-    requires { ⌜ at + 8 ≤ length (now index) ⌝ }
-    ensures { λ r. ⌜ r ≡ firstUnmet (now (index .entry)) inputs at s ⌝ }
+// The first of so many entries whose set meets s, or 4.
+fn first_met(
+    numbers: &[u16],
+    sets: &[u64],
+    count: usize,
+    at: usize,
+    kind: usize,
+    s: JobSet,
+) -> usize
+    requires { ⌜ (at + 4 ≤ linksAt) × (kind < 3) × Tables (now numbers) (now sets) ⌝ }
+    ensures { λ r. ⌜ r ≡ firstMet (now (numbers .entry)) (now (sets .entry)) count at kind s ⌝ }
 {
     for e in 0..4 {
-        if unmet_at(index, inputs, at, s, e) {
+        if met_at(numbers, sets, count, at, kind, s, e) {
             return e;
         }
     }
     4
 }
 
-// Of a job with so many inputs, against the jobs that a vault holds and the others that it signed.
-pub fn admission(index: &[u64], inputs: usize, held: JobSet, others: JobSet, job: usize) -> Verdict
-    requires { ⌜ (job < 128) × (length (now index) ≡ 3072) ⌝ }
-    ensures { λ r. ⌜ r ≡ admissionBy (now (index .entry)) inputs held others job ⌝ }
+fn unmet_at(
+    numbers: &[u16],
+    sets: &[u64],
+    count: usize,
+    at: usize,
+    kind: usize,
+    s: JobSet,
+    e: usize,
+) -> bool
+    requires { ⌜ (e < 4) × (at + 4 ≤ linksAt) × (kind < 3) × Tables (now numbers) (now sets) ⌝ }
+    ensures { λ r. ⌜ r ≡ unmetAt (now (numbers .entry)) (now (sets .entry)) count at kind s e ⌝ }
 {
-    let at = 24 * job;
-    let missing = first_unmet(index, inputs, at, held);
-    if missing < 4 {
-        return Verdict::Fail(Refusal::NotCreated(missing as u8));
+    if e < count {
+        return !set_of(numbers, sets, at + e, kind).meets(s);
     }
-    let retired = first_met(index, at + 8, held);
+    false
+}
+
+// The first of so many entries whose set does not meet s, or 4.
+fn first_unmet(
+    numbers: &[u16],
+    sets: &[u64],
+    count: usize,
+    at: usize,
+    kind: usize,
+    s: JobSet,
+) -> usize
+    requires { ⌜ (at + 4 ≤ linksAt) × (kind < 3) × Tables (now numbers) (now sets) ⌝ }
+    ensures { λ r. ⌜ r ≡ firstUnmet (now (numbers .entry)) (now (sets .entry)) count at kind s ⌝ }
+{
+    for e in 0..4 {
+        if unmet_at(numbers, sets, count, at, kind, s, e) {
+            return e;
+        }
+    }
+    4
+}
+
+// Checks 12 and 13.
+fn consumed(
+    numbers: &[u16],
+    sets: &[u64],
+    inputs: usize,
+    held: JobSet,
+    others: JobSet,
+    job: usize,
+) -> Verdict
+    requires { ⌜ (job < capacity) × Tables (now numbers) (now sets) ⌝ }
+    ensures { λ r. ⌜ r ≡ consumedBy (now (numbers .entry)) (now (sets .entry)) inputs held others job ⌝ }
+{
+    let retired = first_met(numbers, sets, inputs, 8 * job, READERS, held);
     if retired < 4 {
         return Verdict::Fail(Refusal::Retired(retired as u8));
     }
-    let reserved = first_met(index, at + 8, others);
+    let reserved = first_met(numbers, sets, inputs, 8 * job, READERS, others);
     if reserved < 4 {
         return Verdict::Fail(Refusal::InputReserved(reserved as u8));
     }
-    let remade = first_met(index, at + 16, held.union(others));
+    Verdict::Pass
+}
+
+// Of a job with so many inputs and outputs. Which of checks 12 and 13 fails is looked for only where one does.
+fn admission_by(
+    numbers: &[u16],
+    sets: &[u64],
+    inputs: usize,
+    outputs: usize,
+    held: JobSet,
+    others: JobSet,
+    job: usize,
+) -> Verdict
+    requires { ⌜ (job < capacity) × Tables (now numbers) (now sets) ⌝ }
+    ensures { λ r. ⌜ r ≡ admissionBy (now (numbers .entry)) (now (sets .entry)) inputs outputs held others job ⌝ }
+{
+    let at = 8 * job;
+    let missing = first_unmet(numbers, sets, inputs, PLACES + at, MAKERS, held);
+    if missing < 4 {
+        return Verdict::Fail(Refusal::NotCreated(missing as u8));
+    }
+    let known = held.union(others);
+    if first_met(numbers, sets, inputs, at, READERS, known) < 4 {
+        return consumed(numbers, sets, inputs, held, others, job);
+    }
+    let remade = first_met(numbers, sets, outputs, at + 4, WRITERS, known);
     if remade < 4 {
         return Verdict::Fail(Refusal::OutputReserved(4 + remade as u8));
     }
     Verdict::Pass
+}
+
+// Checks 11 to 14 of a booked job, against the jobs that a vault holds and the others that it signed.
+pub fn admission(
+    numbers: &[u16],
+    sets: &[u64],
+    journal: &[u8],
+    n: usize,
+    held: JobSet,
+    others: JobSet,
+    job: usize,
+) -> Verdict
+    requires { ⌜ (job < n) × IndexedEntries (now journal) n (now numbers) (now sets) ⌝ }
+    ensures { λ r. ⌜ r ≡ admission (jobAt (now (journal .entry)) n) n held others (jobAt (now (journal .entry)) n job) ⌝ }
+{
+    let part = journal::lookup(journal, n, job);
+    let inputs = codec::inputs_of(part) as usize;
+    let outputs = codec::outputs_of(part) as usize;
+    admission_by(numbers, sets, inputs, outputs, held, others, job)
 }

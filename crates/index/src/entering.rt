@@ -1,79 +1,120 @@
-// A job is entered into the index.
-ghost use mathlib.Core.Bool.{cond};
+// A booked job is entered in the index, entry by entry.
 ghost use mathlib.Core.Path.{_≡_};
-ghost use Prim.Native.Nat.{_<_};
+ghost use Prim.Native.Nat.{_*_, _+_, _<_, _≤_};
 ghost use lib.ListN.{length};
-ghost use Rattle.sets.specs.Jobs.{jobHas};
-ghost use Rattle.ledger.specs.Journal.{jobAt};
-ghost use Rattle.index.specs.Entering.{pairTo, bothWays, againstTo, indexWith, sieveWith};
-use crate::sieve;
-use crate::slots;
-use ledger::journal;
+ghost use Rattle.codec.specs.Codec.{recordSize};
+ghost use Rattle.journal.specs.Journal.{capacity};
+ghost use Rattle.index.specs.Entering.{Entries, numbersWith, setsWith};
+ghost use Rattle.index.specs.Index.{Blank, HasRecord, Indexed};
+ghost use Rattle.index.specs.Places.{Holds, UsedEntry, buckets, numbersSize, places, setsSize, slotJob};
+use crate::HEADS;
+use crate::LINKS;
+use crate::PLACES;
+use crate::records;
+use crate::seeking;
+use crate::words;
+use journal::CAPACITY;
 use record::Job;
-use sets::JobSet;
 
-// Enters job k in the slots of job j. The entries are taken out here, because a callee that picks one copies the job first.
-fn pair(index: &mut [u64], a: Job, j: usize, c: Job, k: usize)
-    requires { ⌜ (j < 128) × (k < 128) × (length (now index) ≡ 3072) ⌝ }
-    ensures { λ _. ⌜ now (index .exit) ≡ pairTo 12 (now (index .entry)) a j c k ⌝ }
+// Stores the numbers of place m, which is in bucket b, and links it.
+fn put(numbers: &mut [u16], m: usize, label: usize, tape: usize, b: usize)
+    requires { ⌜ (m < places) × (label ≤ m) × (tape ≤ m) × (b < buckets) × (length (now numbers) ≡ numbersSize) ⌝ }
+    ensures { λ _. ⌜ now (numbers .exit) ≡ numbersWith (now (numbers .entry)) m label tape b ⌝ }
 {
-    for e in 0..4 {
-        let input = a.entries[e];
-        let output = a.entries[4 + e];
-        let reads = record::used(a, e);
-        let makes = record::used(a, 4 + e);
-        slots::put(index, j, e, k, slots::made(reads, input, c));
-        slots::put(index, j, 4 + e, k, slots::listed(reads, input, c, false));
-        slots::put(index, j, 8 + e, k, slots::listed(makes, output, c, true));
+    let head = numbers[HEADS + b];
+    numbers[m] = label as u16;
+    numbers[PLACES + m] = tape as u16;
+    numbers[LINKS + m] = head;
+    numbers[HEADS + b] = (m + 1) as u16;
+}
+
+// Enters job n at the numbers of its entry e.
+fn mark(sets: &mut [u64], label: usize, tape: usize, n: usize, e: usize)
+    requires { ⌜ (label < places) × (tape < places) × (n < capacity) × (length (now sets) ≡ setsSize) ⌝ }
+    ensures { λ _. ⌜ now (sets .exit) ≡ setsWith (now (sets .entry)) label tape n e ⌝ }
+{
+    if e < 4 {
+        words::mark(sets, CAPACITY * (3 * label) + n);
+        return;
     }
+    words::mark(sets, CAPACITY * (3 * label + 1) + n);
+    words::mark(sets, CAPACITY * (3 * tape + 2) + n);
 }
 
-fn both_ways(index: &mut [u64], a: Job, j: usize, c: Job, k: usize)
-    requires { ⌜ (j < 128) × (k < 128) × (length (now index) ≡ 3072) ⌝ }
-    ensures { λ _. ⌜ now (index .exit) ≡ bothWays (now (index .entry)) a j c k ⌝ }
-{
-    pair(index, a, j, c, k);
-    pair(index, c, k, a, j);
-}
-
-// Job n against job k where the set has it.
-fn against_one(
-    index: &mut [u64],
+// Enters place m, which is used and has the label and the frames.
+fn enter_used(
+    numbers: &mut [u16],
+    sets: &mut [u64],
     journal: &[u8],
-    booked: usize,
-    s: JobSet,
-    a: Job,
-    n: usize,
-    k: usize,
+    m: usize,
+    label: u64,
+    frames: u32,
 )
-    requires { ⌜ (n < 128) × (k < 128) × (length (now index) ≡ 3072) ⌝ }
-    ensures { λ _. ⌜ now (index .exit) ≡ cond (jobHas s k) (bothWays (now (index .entry)) a n (jobAt (now (journal .entry)) booked k) k) (now (index .entry)) ⌝ }
+    requires { ⌜ Holds (now journal) (m + 1) × UsedEntry (slotJob (now journal)) m label frames × Entries (slotJob (now journal)) m (now numbers) (now sets) ⌝ }
+    ensures { λ _. ⌜ Entries (slotJob (now (journal .entry))) (m + 1) (now (numbers .exit)) (now (sets .exit)) ⌝ }
 {
-    if s.has(k) {
-        both_ways(index, a, n, journal::job_at(journal, booked, k), k);
+    let own = seeking::numbers_of(journal, &numbers[..], label, frames, m);
+    mark(sets, own.label, own.tape, m / 8, m % 8);
+    put(numbers, m, own.label, own.tape, seeking::bucket(label));
+}
+
+// Enters entry e of job n, which is a, where it is used.
+fn enter_entry(numbers: &mut [u16], sets: &mut [u64], journal: &[u8], a: Job, n: usize, e: usize)
+    requires { ⌜ (e < 8) × HasRecord (now journal) n × (a ≡ slotJob (now journal) n) × Entries (slotJob (now journal)) (8 * n + e) (now numbers) (now sets) ⌝ }
+    ensures { λ _. ⌜ Entries (slotJob (now (journal .entry))) (8 * n + e + 1) (now (numbers .exit)) (now (sets .exit)) ⌝ }
+{
+    if record::used(a, e) {
+        enter_used(
+            numbers,
+            sets,
+            journal,
+            8 * n + e,
+            record::label(a, e),
+            record::frames(a, e),
+        );
         return;
     }
 }
 
-// Job n against those of the set among the jobs before it.
-fn against(index: &mut [u64], journal: &[u8], booked: usize, s: JobSet, n: usize)
-    requires { ⌜ (n < 128) × (length (now index) ≡ 3072) ⌝ }
-    ensures { λ _. ⌜ now (index .exit) ≡ againstTo (jobAt (now (journal .entry)) booked) n (now (index .entry)) s n ⌝ }
+// Enters the entries of job n, which is a.
+fn enter_entries(numbers: &mut [u16], sets: &mut [u64], journal: &[u8], a: Job, n: usize)
+    requires { ⌜ HasRecord (now journal) n × (a ≡ slotJob (now journal) n) × Entries (slotJob (now journal)) (8 * n) (now numbers) (now sets) ⌝ }
+    ensures { λ _. ⌜ Entries (slotJob (now (journal .entry))) (8 * (n + 1)) (now (numbers .exit)) (now (sets .exit)) ⌝ }
 {
-    let a = journal::job_at(journal, booked, n);
-    for k in 0..n {
-        against_one(index, journal, booked, s, a, n, k);
+    for e in 0..8 {
+        enter_entry(numbers, sets, journal, a, n, e);
     }
 }
 
-// Enters job n, which is booked, in the index and in the sieve of the jobs before it.
-pub fn enter(index: &mut [u64], sieve: &mut [u64], journal: &[u8], booked: usize, n: usize)
-    requires { ⌜ (n < 128) × (length (now index) ≡ 3072) × (length (now sieve) ≡ 2042) ⌝ }
-    ensures { λ _. ⌜ (now (index .exit) ≡ indexWith (jobAt (now (journal .entry)) booked) (now (index .entry)) (now (sieve .entry)) n) × (now (sieve .exit) ≡ sieveWith (jobAt (now (journal .entry)) booked) (now (sieve .entry)) n) ⌝ }
+// Enters record n, which says job a.
+pub fn enter(
+    numbers: &mut [u16],
+    sets: &mut [u64],
+    records: &mut [u16],
+    journal: &[u8],
+    a: Job,
+    n: usize,
+)
+    requires { ⌜ HasRecord (now journal) n × (a ≡ slotJob (now journal) n) × Indexed (now journal) n (now numbers) (now sets) (now records) ⌝ }
+    ensures { λ _. ⌜ Indexed (now (journal .entry)) (n + 1) (now (numbers .exit)) (now (sets .exit)) (now (records .exit)) ⌝ }
 {
-    let a = journal::job_at(journal, booked, n);
-    let s = sieve::likely(&sieve[..], a);
-    against(index, journal, booked, s, n);
-    pair(index, a, n, a, n);
-    sieve::sift(sieve, a, n);
+    enter_entries(numbers, sets, journal, a, n);
+    records::file(records, a, n);
+}
+
+// Enters the first n records in tables of zeros.
+pub fn build(numbers: &mut [u16], sets: &mut [u64], records: &mut [u16], journal: &[u8], n: usize)
+    requires { ⌜ (n ≤ capacity) × (recordSize * n ≤ length (now journal)) × Blank (now numbers) (now sets) (now records) ⌝ }
+    ensures { λ _. ⌜ Indexed (now (journal .entry)) n (now (numbers .exit)) (now (sets .exit)) (now (records .exit)) ⌝ }
+{
+    for k in 0..n {
+        enter(
+            numbers,
+            sets,
+            records,
+            journal,
+            codec::read(journal::slot(journal, k)),
+            k,
+        );
+    }
 }

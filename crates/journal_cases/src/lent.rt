@@ -1,8 +1,8 @@
 // Journals lent shorter or longer than the booked records, and a full one.
 use ledger::Ledger;
 use record::Job;
-use telling::jobs;
-use telling::tell;
+use scenario::jobs;
+use scenario::steps;
 
 // The first n bytes, or all where there are fewer.
 fn part(journal: &[u8], n: usize) -> &[u8] {
@@ -15,27 +15,27 @@ fn part(journal: &[u8], n: usize) -> &[u8] {
 // A proposal with the first n bytes lent.
 fn propose(l: Ledger, journal: &mut [u8], n: usize, name: &[u8], job: Job) -> Ledger {
     if n <= journal.len() {
-        return tell::propose(l, &mut journal[0..n], name, job);
+        return steps::propose(l, &mut journal[0..n], name, job);
     }
     l
 }
 
 fn votes(l: Ledger, journal: &[u8]) -> Ledger {
-    let l = tell::preflight(l, journal, 0, 0);
-    let l = tell::preflight(l, journal, 1, 0);
-    let l = tell::sign(l, journal, 3, 0);
-    let l = tell::commit(l, journal, 0, 0, 11);
-    tell::acknowledge(l, journal, 3, 0)
+    let l = steps::preflight(l, journal, 0, 0);
+    let l = steps::preflight(l, journal, 1, 0);
+    let l = steps::sign(l, journal, 3, 0);
+    let l = steps::commit(l, journal, 0, 0, 11);
+    steps::acknowledge(l, journal, 3, 0)
 }
 
 // Each kind of step but the first, with the first n bytes lent.
 fn each(l: Ledger, journal: &[u8], name: &[u8], n: usize) -> Ledger {
-    tell::heading(name);
+    steps::heading(name);
     let lent = part(journal, n);
     let l = votes(l, lent);
-    tell::show(l, lent, 0);
-    tell::lookup(l, lent, 0);
-    tell::lookup(l, lent, 1);
+    steps::show(l, lent, 0);
+    steps::lookup(l, lent, 0);
+    steps::lookup(l, lent, 1);
     l
 }
 
@@ -72,19 +72,19 @@ fn another(l: Ledger, journal: &mut [u8; 12900]) -> Ledger {
 }
 
 fn third(l: Ledger, journal: &[u8; 12900]) {
-    tell::show(l, journal, 0);
-    tell::lookup(l, journal, 2);
-    tell::lookup(l, part(journal, 299), 0);
+    steps::show(l, journal, 0);
+    steps::lookup(l, journal, 2);
+    steps::lookup(l, part(journal, 299), 0);
 }
 
 pub(crate) fn lent() {
     let mut journal = [0u8; 12900];
-    tell::heading(b"two booked");
+    steps::heading(b"two booked");
     let new = Ledger::new(4, 1, 8).ledger;
-    let l = tell::propose(new, &mut journal, b"master", jobs::master());
-    let l = tell::propose(l, &mut journal, b"copy", jobs::copy());
+    let l = steps::propose(new, &mut journal, b"master", jobs::master());
+    let l = steps::propose(l, &mut journal, b"copy", jobs::copy());
     let l = lengths(l, &journal);
-    tell::heading(b"proposals");
+    steps::heading(b"proposals");
     let l = again(l, &mut journal);
     let l = another(l, &mut journal);
     third(l, &journal);
@@ -93,18 +93,18 @@ pub(crate) fn lent() {
 // The journal starts with the record's bytes, and nothing is booked.
 pub(crate) fn unbooked_equal() {
     let mut journal = [0u8; 200];
-    tell::heading(b"unbooked equal");
-    record::write(jobs::copy(), &mut journal);
+    steps::heading(b"unbooked equal");
+    codec::write(jobs::copy(), &mut journal);
     let new = Ledger::new(4, 1, 8).ledger;
-    let l = tell::propose(new, &mut journal, b"copy", jobs::copy());
-    tell::show(l, &journal, 0);
-    let l = tell::propose(l, &mut journal, b"master", jobs::master());
-    tell::propose(l, &mut journal, b"copy", jobs::copy());
+    let l = steps::propose(new, &mut journal, b"copy", jobs::copy());
+    steps::show(l, &journal, 0);
+    let l = steps::propose(l, &mut journal, b"master", jobs::master());
+    steps::propose(l, &mut journal, b"copy", jobs::copy());
 }
 
 // Records that differ in their frames.
 fn next(l: Ledger, journal: &mut [u8; 13000], frames: u32) -> Ledger {
-    tell::propose(
+    steps::propose(
         l,
         journal,
         b"next",
@@ -129,20 +129,20 @@ fn last(l: Ledger, journal: &mut [u8; 13000]) -> Ledger {
 }
 
 fn booked(l: Ledger, journal: &[u8; 13000]) {
-    let l = tell::preflight(l, journal, 0, 127);
-    let l = tell::commit(l, journal, 0, 127, 1);
-    let l = tell::preflight(l, journal, 0, 126);
-    tell::show(l, journal, 127);
-    tell::show(l, journal, 128);
-    tell::show(l, part(journal, 12799), 0);
-    tell::show(l, part(journal, 12800), 0);
-    tell::lookup(l, journal, 127);
-    tell::lookup(l, journal, 128);
+    let l = steps::preflight(l, journal, 0, 127);
+    let l = steps::commit(l, journal, 0, 127, 1);
+    let l = steps::preflight(l, journal, 0, 126);
+    steps::show(l, journal, 127);
+    steps::show(l, journal, 128);
+    steps::show(l, part(journal, 12799), 0);
+    steps::show(l, part(journal, 12800), 0);
+    steps::lookup(l, journal, 127);
+    steps::lookup(l, journal, 128);
 }
 
 pub(crate) fn full() {
     let mut journal = [255u8; 13000];
-    tell::heading(b"full");
+    steps::heading(b"full");
     let new = Ledger::new(1, 0, 0).ledger;
     let l = fill(new, &mut journal);
     let l = last(l, &mut journal);

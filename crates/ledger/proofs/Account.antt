@@ -1,8 +1,7 @@
 -- The register's own invariant, and that taking an admissible job keeps it: what it says of tapes, labels and frames is what is defined
 -- along its list. Frames balance because an admissible job's inputs stand, each once, and its frames balance.
--- Assumes nothing.
 use mathlib.Core.Bool.{not, true≢false}
-use mathlib.Core.List.{List, [], _++_, _∷_, append-assoc}
+use mathlib.Core.List.{List, [], _++_, _∷_, append-assoc, append-nil}
 use mathlib.Core.Logic.{_⊎_, inl, inr, ⊎-elim}
 use mathlib.Core.Path.{_∙_, _≡_, ap, ap₂, refl, subst, sym}
 use Prim.Native.Nat.{_+_, _<_, ℕ}
@@ -16,14 +15,14 @@ use Rattle.base.specs.Lists.{Distinct, In, anyIn}
 use Rattle.base.specs.Reflect.{Reflects}
 use Rattle.outcome.specs.declared.Verdict.{Verdict}
 use Rattle.outcome.specs.declared.Verdict.the-variants.{Fail, Pass}
-use Rattle.record.proofs.Tapes.{Sound, checked-sound, reflect-tape}
-use Rattle.record.specs.Checks.{checkOf, examined}
-use Rattle.record.specs.Codec.{jobOf, recordSize}
-use Rattle.record.specs.Tapes.{framesIn, inputTapes, labels, outputTapes, sameTape}
+use Rattle.conflicts.proofs.Tapes.{WellFormed, checked-well-formed, reflect-tape}
+use Rattle.checks.specs.Checks.{checkOf, examined}
+use Rattle.codec.specs.Codec.{jobOf, recordSize}
+use Rattle.conflicts.specs.Tapes.{framesIn, inputTapes, labels, outputTapes, sameTape}
 use Rattle.record.specs.declared.Entry.{Entry}
 use Rattle.record.specs.declared.Job.{Job}
 use Rattle.ledger.proofs.Gates.{passed-rest}
-use Rattle.ledger.specs.Demand3.{OneCreator, accessionedAlong, retire, standingAlong, standingFrom}
+use Rattle.ledger.specs.Demand3.{OneCreator, accessionedAlong, madeAlong, retire, standingAlong, standingFrom}
 use Rattle.ledger.specs.Register.{Register, accessionOf, entering, isAdmissible, passes, tabled, taking, withoutInputs}
 
 -- ---- what admissible means
@@ -67,6 +66,17 @@ accessioned-jobs : (job job′ : ℕ → Job) (ks : List ℕ) → ((k : ℕ) →
 accessioned-jobs job job′ [] e = refl
 accessioned-jobs job job′ (x ∷ ks) e = ap₂ (λ (j : Job) (m : ℕ). accessionOf j + m) (e x (inl refl)) (accessioned-jobs job job′ ks (λ k m. e k (inr m)))
 
+made-snoc : (job : ℕ → Job) (ks : List ℕ) (k : ℕ) → madeAlong job (ks ++ (k ∷ [])) ≡ madeAlong job ks ++ labels (outputTapes (job k))
+made-snoc job [] k = append-nil (labels (outputTapes (job k)))
+made-snoc job (x ∷ ks) k =
+    let made : List ℕ = labels (outputTapes (job x)) in
+    ap (λ (l : List ℕ). made ++ l) (made-snoc job ks k) ∙ sym (append-assoc made (madeAlong job ks) (labels (outputTapes (job k))))
+
+made-jobs : (job job′ : ℕ → Job) (ks : List ℕ) → ((k : ℕ) → In k ks → job′ k ≡ job k) → madeAlong job′ ks ≡ madeAlong job ks
+made-jobs job job′ [] e = refl
+made-jobs job job′ (x ∷ ks) e =
+    ap₂ (λ (j : Job) (l : List ℕ). labels (outputTapes j) ++ l) (e x (inl refl)) (made-jobs job job′ ks (λ k m. e k (inr m)))
+
 -- to take the input tapes away is to take their labels away, where each stands and no label stands twice
 by-label : (j : Job) (st : List Entry) → Distinct (labels st) → ((t : Entry) → In t (inputTapes j) → In t st) → withoutInputs j st ≡ retire j st
 by-label j st d h = keep-same (λ t. not (anyIn (λ s. sameTape s t) (inputTapes j))) (λ t. not (anyIn (eqb (t .label)) (labels (inputTapes j)))) st same
@@ -93,6 +103,7 @@ pub record Books (r : Register) : Type 0 where
   pub creators : (k : ℕ) → In k (r .taken) → (t : Entry) → In t (inputTapes (tabled (r .table) k)) → OneCreator (tabled (r .table)) (r .taken) k t
   pub once : Distinct (labels (r .standing))
   pub along : r .standing ≡ standingAlong (tabled (r .table)) (r .taken)
+  pub marks : r .made ≡ madeAlong (tabled (r .table)) (r .taken)
   pub mints : r .accessioned ≡ accessionedAlong (tabled (r .table)) (r .taken)
   pub frames : framesIn (r .standing) ≡ r .accessioned
 
@@ -104,16 +115,16 @@ module _ (r : Register) (k : ℕ) (b : Books r) (h : k < length (r .table)) (a :
   abbrev rest : List Entry
   rest = withoutInputs j (r .standing)
 
-  sound : Sound j
-  sound = checked-sound j (examined-checked (getD (r .table) k []) (a .fits))
+  well-formed : WellFormed j
+  well-formed = checked-well-formed j (examined-checked (getD (r .table) k []) (a .fits))
 
   outputs-once : Distinct (labels (outputTapes j))
   outputs-once =
       distinct-right (labels (inputTapes j)) (labels (outputTapes j))
-      (subst (λ (l : List ℕ). Distinct l) (map-append (λ (t : Entry). t .label) (inputTapes j) (outputTapes j)) (sound .distinct))
+      (subst (λ (l : List ℕ). Distinct l) (map-append (λ (t : Entry). t .label) (inputTapes j) (outputTapes j)) (well-formed .distinct))
 
   inputs-once : Distinct (inputTapes j)
-  inputs-once = distinct-left (inputTapes j) (outputTapes j) (distinct-map (λ (t : Entry). t .label) (inputTapes j ++ outputTapes j) (sound .distinct))
+  inputs-once = distinct-left (inputTapes j) (outputTapes j) (distinct-map (λ (t : Entry). t .label) (inputTapes j ++ outputTapes j) (well-formed .distinct))
 
   in-rest : (t : Entry) → In t rest → In t (r .standing)
   in-rest t m = keep-in (λ t. not (anyIn (λ s. sameTape s t) (inputTapes j))) (r .standing) t m .0
@@ -204,12 +215,13 @@ module _ (r : Register) (k : ℕ) (b : Books r) (h : k < length (r .table)) (a :
         let q = b .stands-by (p .0) (in-rest (p .0) (p .1)) in
         new-label x o (subst (λ (z : ℕ). In z (r .made)) (sym (p .2)) (b .made-all (q .0) (p .0 .label) (q .1 .0) (labelled (q .0) (p .0) (q .1 .1))))));
     along = ap (λ (l : List Entry). l ++ outputTapes j) (cut ∙ ap (retire j) (b .along)) ∙ sym (standing-snoc (tabled (r .table)) [] (r .taken) k);
+    marks = ap (λ (l : List ℕ). l ++ labels (outputTapes j)) (b .marks) ∙ sym (made-snoc (tabled (r .table)) (r .taken) k);
     mints = omega (arith, b .mints, total-append (λ i. accessionOf (tabled (r .table) i)) (r .taken) (k ∷ []));
     frames = omega (
       arith,
       total-append (λ (t : Entry). t .frames) rest (outputTapes j),
       without-total sameTape reflect-tape (λ (t : Entry). t .frames) (inputTapes j) (r .standing) (distinct-map (λ (t : Entry). t .label) (r .standing) (b .once)) inputs-once (a .standing),
-      sound .balance,
+      well-formed .balance,
       b .frames,
     );
   }
@@ -237,6 +249,7 @@ books-enter r bytes b =
           };
       once = b .once;
       along = b .along ∙ sym (standing-jobs (tabled (r .table)) (tabled (r .table ++ (bytes ∷ []))) [] (r .taken) e);
+      marks = b .marks ∙ sym (made-jobs (tabled (r .table)) (tabled (r .table ++ (bytes ∷ []))) (r .taken) e);
       mints = b .mints ∙ sym (accessioned-jobs (tabled (r .table)) (tabled (r .table ++ (bytes ∷ []))) (r .taken) e);
       frames = b .frames;
     }

@@ -1,10 +1,9 @@
 -- Preflight and commit are the paper's Algorithms 1 and 2 with document 01's mends, behind checks 1, 3, 5 and 4: a vault signs a job that
 -- it has not signed exactly where Algorithm 1 does, and holds one exactly where Algorithm 2's threshold signature is valid.
--- Assumes nothing.
 use mathlib.Core.Bool.{Bool, cond, false, true, true≢false}
 use mathlib.Core.List.{List}
 use mathlib.Core.Path.{_∙_, _≡_, ap, refl, sym}
-use Prim.Native.Nat.{_<_, _^_, ℕ}
+use Prim.Native.Nat.{ℕ}
 use lib.Count.{ones}
 use lib.Dec.{leb}
 use borrow.Author.Tests.{le-leb, leb-true}
@@ -14,29 +13,51 @@ use Rattle.base.specs.Reflect.{Reflects}
 use Rattle.outcome.specs.declared.Refusal.the-variants.{NotSigned, TooFewSigners}
 use Rattle.outcome.specs.declared.Verdict.{Verdict}
 use Rattle.outcome.specs.declared.Verdict.the-variants.{Fail, Pass}
-use Rattle.record.proofs.Tapes.{checked-sound}
-use Rattle.record.specs.Checks.{checkOf}
-use Rattle.record.specs.Tapes.{outputTapes}
+use Rattle.conflicts.proofs.Tapes.{checked-well-formed}
+use Rattle.checks.specs.Checks.{checkOf}
+use Rattle.conflicts.specs.Tapes.{outputTapes}
 use Rattle.record.specs.declared.Entry.{Entry}
 use Rattle.record.specs.declared.Job.{Job}
 use Rattle.sets.proofs.Bits.{reflect-subset, subset-has}
+use Rattle.sets.proofs.Size.{below-power}
 use Rattle.sets.specs.Bits.{subsetOf}
 use Rattle.sets.specs.Jobs.{jobHas, jobWithout}
-use Rattle.ledger.proofs.Changes.{signedBy}
 use Rattle.ledger.proofs.Gates.{enters}
 use Rattle.ledger.proofs.Paper.{admission-signs, signs-admission}
-use Rattle.ledger.specs.Admission.{admission}
-use Rattle.ledger.specs.Federation.{thresholdOf}
+use Rattle.index.specs.Admission.{admission}
+use Rattle.federation.specs.Federation.{thresholdOf}
 use Rattle.ledger.specs.Graph.{Algorithm1}
-use Rattle.ledger.specs.Journal.{jobAt}
+use Rattle.journal.specs.Journal.{jobAt}
 use Rattle.ledger.specs.Meaning.{Certificate, Entered}
 use Rattle.ledger.specs.Register.{isDone, passes}
-use Rattle.ledger.specs.State.{signersOf, vaultAt}
-use Rattle.ledger.specs.Steps.{answered, certificate, commitChecks, commitOf, committed, consulted, preflightOf, preflighted, settle}
-use Rattle.ledger.specs.Vaults.{admissionAt, consented, vaultPreflight}
+use Rattle.ledger.specs.State.{acknowledgersOf, signersOf, vaultAt}
+use Rattle.ledger.specs.Decisions.{answering, certificate, committing, consent, consenting, gated, preflighting, receiving, voting}
+use Rattle.ledger.specs.Steps.{commitDecision, preflightDecision}
+use Rattle.ledger.specs.Vaults.{admissionAt, consented, signing, vaultPreflight}
+use Rattle.federation.specs.declared.Settings.{Settings}
+use Rattle.ledger.specs.declared.Change.the-variants.{Sign}
+use Rattle.ledger.specs.declared.Decision.{Decision}
 use Rattle.ledger.specs.declared.Ledger.{Ledger}
-use Rattle.ledger.specs.declared.Reply.{Reply}
 use Rattle.ledger.specs.declared.Vault.{Vault}
+
+-- commit: checks 15 and 16 pass exactly where Algorithm 2's signature is valid
+pub certificate-valid : (s : Settings) (recorded signers : ℕ) → Reflects (passes (certificate s recorded signers)) (Certificate s recorded signers)
+unfolding certificate
+certificate-valid s recorded signers = record {
+  sound = λ e. by (subsetOf signers recorded) refl (leb (thresholdOf s) (ones signers)) refl e;
+  complete = λ c. simp (reflect-subset signers signers recorded (below-power signers) .complete (λ i b. c .signed i), le-leb _ _ (c .enough));
+}
+  where
+    by : (a : Bool) → subsetOf signers recorded ≡ a → (b : Bool) → leb (thresholdOf s) (ones signers) ≡ b
+        → passes (cond a (cond b Pass (Fail TooFewSigners)) (Fail NotSigned)) ≡ true → Certificate s recorded signers
+    by true t true q e = record { signed = λ u. subset-has signers recorded u t; enough = leb-true _ _ q }
+    by true t false q e = absurd (true≢false (sym e))
+    by false t b q e = absurd (true≢false (sym e))
+
+-- what is decided behind a row of checks is answered 0 exactly where they pass
+passed : (g : Verdict) (d : Decision) → isDone (d .outcome) ≡ true → isDone (gated g d .outcome) ≡ passes g
+passed Pass d e = e
+passed (Fail why) d e = refl
 
 module _ (l : Ledger) (journal : List ℕ) (v k : ℕ) (in-place : Entered l journal v k false) where
   abbrev vault : Vault
@@ -50,54 +71,46 @@ module _ (l : Ledger) (journal : List ℕ) (v k : ℕ) (in-place : Entered l jou
   Signs = Algorithm1 jobs (l .booked) (vault .held) (jobWithout (vault .signed) k) (jobs k)
 
   -- "A job signed here before is accepted again and changes nothing."
-  pub signed-again : jobHas (vault .signed) k ≡ true → preflightOf l journal v k ≡ answered (ones (signersOf l k)) l
-  unfolding preflightOf consulted vaultPreflight
+  pub signed-again : jobHas (vault .signed) k ≡ true → preflightDecision l journal v k ≡ answering (ones (signersOf l k))
+  unfolding preflightDecision preflighting consent vaultPreflight
   signed-again s = simp (enters l journal v k false in-place, s)
 
   asked : jobHas (vault .signed) k ≡ false
-      → preflightOf l journal v k ≡ (let s = consented (admission jobs (l .booked) (vault .held) (jobWithout (vault .signed) k) (jobs k)) vault k in preflighted (s .consent) (s .vault) l v k)
-  unfolding preflightOf consulted vaultPreflight admissionAt
+      → preflightDecision l journal v k
+      ≡ (let s = consented (admission jobs (l .booked) (vault .held) (jobWithout (vault .signed) k) (jobs k)) vault k in consenting (s .consent) (s .vault) (signersOf l k) v)
+  unfolding preflightDecision preflighting consent vaultPreflight admissionAt
   asked s = simp (enters l journal v k false in-place, s)
 
   -- "Otherwise the vault signs if and only if checks 11 to 14 pass": where Algorithm 1 signs, the vault does
-  pub algorithm-signs : jobHas (vault .signed) k ≡ false → Signs → preflightOf l journal v k ≡ answered (ones (signersOf (signedBy l v k) k)) (signedBy l v k)
+  pub algorithm-signs : jobHas (vault .signed) k ≡ false → Signs → preflightDecision l journal v k ≡ voting (signersOf l k) v (Sign (signing vault k))
   algorithm-signs s a = asked s ∙ simp (signs-admission jobs (l .booked) (vault .held) (jobWithout (vault .signed) k) (jobs k) a)
 
   -- and only there; a booked record passed checks 6 to 9
-  by-verdict : (d : Verdict) → isDone ((let s = consented d vault k in preflighted (s .consent) (s .vault) l v k) .outcome) ≡ true → d ≡ Pass
+  by-verdict : (d : Verdict) → isDone ((let s = consented d vault k in consenting (s .consent) (s .vault) (signersOf l k) v) .outcome) ≡ true → d ≡ Pass
   by-verdict Pass e = refl
   by-verdict (Fail why) e = absurd (true≢false (sym e))
 
-  pub signs-algorithm : checkOf (jobs k) ≡ Pass → jobHas (vault .signed) k ≡ false → isDone (preflightOf l journal v k .outcome) ≡ true → Signs
+  pub signs-algorithm : checkOf (jobs k) ≡ Pass → jobHas (vault .signed) k ≡ false → isDone (preflightDecision l journal v k .outcome) ≡ true → Signs
   signs-algorithm h s e =
       admission-signs jobs (l .booked) (vault .held) (jobWithout (vault .signed) k) (jobs k) h
-      (by-verdict _ (ap (λ (r : Reply). isDone (r .outcome)) (sym (asked s)) ∙ e))
+      (by-verdict _ (ap (λ (d : Decision). isDone (d .outcome)) (sym (asked s)) ∙ e))
 
   -- a job that is held but was not signed is refused: a held job made its outputs, namely it itself
-  pub held-refused : checkOf (jobs k) ≡ Pass → jobHas (vault .held) k ≡ true → jobHas (vault .signed) k ≡ false → isDone (preflightOf l journal v k .outcome) ≡ false
+  pub held-refused : checkOf (jobs k) ≡ Pass → jobHas (vault .held) k ≡ true → jobHas (vault .signed) k ≡ false
+      → isDone (preflightDecision l journal v k .outcome) ≡ false
   held-refused h m s = not-true-false _ (λ e.
-      let made = in-map (λ (t : Entry). t .label) (outputTapes (jobs k)) _ (checked-sound (jobs k) h .made) in
+      let made = in-map (λ (t : Entry). t .label) (outputTapes (jobs k)) _ (checked-well-formed (jobs k) h .made) in
       signs-algorithm h s e .admissible .fresh _ made (record { which = k; below = in-place .known .below; member = m; lists = made }))
 
-  -- commit: checks 15 and 16 pass exactly where Algorithm 2's signature is valid
-  pub certificate-valid : (signers : ℕ) → signers < 2 ^ 16 → Reflects (passes (certificate l k signers)) (Certificate l k signers)
-  unfolding certificate
-  certificate-valid signers h = record {
-    sound = λ e. by (subsetOf signers (signersOf l k)) refl (leb (thresholdOf (l .settings)) (ones signers)) refl e;
-    complete = λ c. simp (reflect-subset 16 signers (signersOf l k) h .complete (λ i b. c .signed i), le-leb _ _ (c .enough));
-  }
+  received : isDone (receiving vault (acknowledgersOf l k) v k .outcome) ≡ true
+  unfolding receiving
+  received = by (jobHas (vault .held) k) _ _ refl refl
     where
-      by : (a : Bool) → subsetOf signers (signersOf l k) ≡ a → (b : Bool) → leb (thresholdOf (l .settings)) (ones signers) ≡ b
-          → passes (cond a (cond b Pass (Fail TooFewSigners)) (Fail NotSigned)) ≡ true → Certificate l k signers
-      by true s true q e = record { signed = λ u. subset-has signers (signersOf l k) u s; enough = leb-true _ _ q }
-      by true s false q e = absurd (true≢false (sym e))
-      by false s b q e = absurd (true≢false (sym e))
+      by : (b : Bool) (d e : Decision) → isDone (d .outcome) ≡ true → isDone (e .outcome) ≡ true → isDone (cond b d e .outcome) ≡ true
+      by true d e p q = p
+      by false d e p q = q
 
-  -- Algorithm 2 does not test admissibility again
-  pub commits : (signers : ℕ) → signers < 2 ^ 16 → Certificate l k signers → commitOf l journal v k signers ≡ committed l v k
-  unfolding commitOf commitChecks
-  commits signers h c = simp (enters l journal v k false in-place) (by (certificate l k signers) (certificate-valid signers h .complete c))
-    where
-      by : (d : Verdict) → passes d ≡ true → settle d (committed l v k) l ≡ committed l v k
-      by Pass e = refl
-      by (Fail why) e = absurd (true≢false (sym e))
+  -- Algorithm 2: a commit is answered 0 exactly where the signature is valid; admissibility is not tested again
+  pub commits : (signers : ℕ) → isDone (commitDecision l journal v k signers .outcome) ≡ passes (certificate (l .settings) (signersOf l k) signers)
+  unfolding commitDecision committing
+  commits signers = simp (enters l journal v k false in-place) (passed (certificate (l .settings) (signersOf l k) signers) _ received)

@@ -1,6 +1,5 @@
 -- What a step does: one effect under its guard, or nothing. One case analysis of the steps, from which the invariant, what only
 -- grows and that a refused step changes nothing all follow. The steps that read only what is booked do so whatever journal is lent.
--- Assumes nothing.
 use mathlib.Core.Bool.{Bool, cond, false, true}
 use mathlib.Core.List.{List, [], _++_}
 use mathlib.Core.Path.{_∙_, _≡_, ap, refl, subst, sym}
@@ -11,40 +10,39 @@ use lib.Bits.{and-le-r, bitAnd}
 use lib.Count.{ones}
 use lib.ListN.{getD, length, take}
 use borrow.Author.Tests.{eqb-true, leb-true}
-use Rattle.base.proofs.Lists.{reflect-same}
 use Rattle.base.proofs.Members.{getD-in, in-getD}
-use Rattle.base.proofs.Search.{any-intro, first-any, first-least}
 use Rattle.base.specs.Lists.{In}
-use Rattle.outcome.specs.declared.Outcome.{Outcome}
-use Rattle.outcome.specs.declared.Outcome.the-variants.{Done, Refused}
+use Rattle.outcome.specs.declared.Refusal.{Refusal}
+use Rattle.outcome.specs.declared.Refusal.the-variants.{Full, NotHeld, Settings as BadSettings}
 use Rattle.outcome.specs.declared.Verdict.{Verdict}
 use Rattle.outcome.specs.declared.Verdict.the-variants.{Fail, Pass}
-use Rattle.record.specs.Checks.{examined}
-use Rattle.record.specs.Codec.{recordSize}
+use Rattle.checks.specs.Checks.{examined}
+use Rattle.codec.specs.Codec.{recordSize}
 use Rattle.record.specs.declared.Job.{Job}
 use Rattle.sets.proofs.Bits.{ones-subset}
 use Rattle.sets.specs.Bits.{hasBit, subsetOf}
 use Rattle.sets.specs.Jobs.{jobHas, jobWithout}
-use Rattle.ledger.proofs.Gates.{entered, first-passed, passed-rest, passed-test, rest-passed}
+use Rattle.ledger.proofs.Gates.{entered, passed-rest, passed-test}
 use Rattle.ledger.proofs.Lending.{grown-bytes, jobs-read, kept-bytes, records-at, records-length, slot-agrees}
 use Rattle.ledger.proofs.Paper.{admission-unblocked}
-use Rattle.ledger.proofs.Places.{examined-length, placed-known, placed-new}
+use Rattle.ledger.proofs.Places.{examined-length, proposed}
 use Rattle.ledger.proofs.Views.{arrives}
 use Rattle.ledger.specs.Demand3.{Correct, HeldBy, recordsIn}
-use Rattle.ledger.specs.Federation.{thresholdOf}
-use Rattle.ledger.specs.Generations.{generationsOf}
+use Rattle.federation.specs.Federation.{Lawful, thresholdOf}
+use Rattle.ledger.specs.Holders.{isHeld}
 use Rattle.ledger.specs.Graph.{Unblocked}
-use Rattle.ledger.specs.Journal.{equalAt, equalIn, insideOf, jobAt, slotAt}
-use Rattle.ledger.specs.Meaning.{Entered, KnownAt, Lawful, NewAt, Sane}
+use Rattle.journal.specs.Journal.{insideOf, jobAt, slotAt}
+use Rattle.ledger.specs.Meaning.{Entered, KnownAt, NewAt, Proposed, Sane, failed, full, insane, known, new}
 use Rattle.ledger.specs.Register.{isDone, tabled}
-use Rattle.ledger.specs.State.{acknowledged, booking, countersigned, holdersOf, signersOf, vaultAt, withVault}
-use Rattle.ledger.specs.Steps.{andThen, answered, certificate, commitChecks, commitOf, committed, consulted, faultyAcknowledgeOf, faultySignOf, held, journalAfter, journalWith, placeOf, preflightOf, preflighted, proposeOf, proposed, refused, settle, showOf, vaultGate}
+use Rattle.ledger.specs.State.{acknowledged, acknowledgersOf, applied, arriving, booking, countersigned, signersOf, vaultAt, withVault}
+use Rattle.ledger.specs.Decisions.{ageing, answering, certificate, committing, consent, consenting, gated, preflighting, receiving, refusing, statusOf, voting}
+use Rattle.ledger.specs.Steps.{bookedGate, carried, commitDecision, faultyAcknowledgeDecision, faultySignDecision, generationsDecision, journalAfter, journalWith, preflightDecision, proposeDecision, showDecision, vaultGate}
 use Rattle.ledger.specs.Vaults.{admissionAt, consented, holding, signing, vaultPreflight}
-use Rattle.ledger.specs.Worlds.{Event, Request, World, after, commit, faultyAcknowledge, faultySign, generations, leftBy, lend, overlay, preflight, propose, reads, replyTo, show, stepOf}
+use Rattle.ledger.specs.Worlds.{Event, Request, World, after, commit, faultyAcknowledge, faultySign, generations, leftBy, lend, overlay, preflight, propose, replyTo, show, stepOf}
+use Rattle.ledger.specs.declared.Change.the-variants.{Hold, RecordAcknowledgement, RecordSignature, Sign}
 use Rattle.ledger.specs.declared.Consent.the-variants.{Already}
+use Rattle.ledger.specs.declared.Decision.{Decision}
 use Rattle.ledger.specs.declared.Ledger.{Ledger}
-use Rattle.ledger.specs.declared.Place.{Place}
-use Rattle.ledger.specs.declared.Place.the-variants.{Known, New, Turned}
 use Rattle.ledger.specs.declared.Reply.{Reply}
 use Rattle.ledger.specs.declared.Signing.{Signing}
 
@@ -59,7 +57,7 @@ pub record Shape (l : Ledger) (bs : List ℕ) : Type 0 where
   pub records : length bs ≡ recordSize * l .booked
   pub room : l .booked ≤ 128
   pub signers-below : (k : ℕ) → signersOf l k < 2 ^ l .settings .n
-  pub holders-below : (k : ℕ) → holdersOf l k < 2 ^ l .settings .n
+  pub acknowledgers-below : (k : ℕ) → acknowledgersOf l k < 2 ^ l .settings .n
 
 pub shape-sane : {l : Ledger} {bs : List ℕ} → Shape l bs → Sane l
 shape-sane s = record { lawful = s .lawful; booked = s .room; arrivals = s .arrivals }
@@ -74,6 +72,10 @@ tableOf w = recordsIn (w .ledger .booked) (w .booked)
 -- a vault signs: its set grows and its signature is recorded
 abbrev pub signedBy : Ledger → ℕ → ℕ → Ledger
 signedBy l v k = countersigned (withVault l v (signing (vaultAt l v) k)) v k
+
+-- a vault holds: its set grows, its acknowledgement is recorded and the job arrives
+unfoldable pub held : Ledger → ℕ → ℕ → Ledger
+held l v k = arriving (acknowledged (withVault l v (holding (vaultAt l v) k)) v k) k
 
 -- a request that is answered 0 and changes nothing
 abbrev pub Idle : World → Request → Type 0
@@ -127,10 +129,19 @@ module _ (w : World) (sh : Shape (w .ledger) (w .booked)) (size : ℕ) (beyond :
       subst (λ (bytes : List ℕ). Change w q (isDone (r .outcome)) (record { ledger = r .ledger; booked = bytes }))
       (sym (ap (λ (n : ℕ). take n (overlay journal bs)) (ap (λ (n : ℕ). recordSize * n) e ∙ sym (sh .records)) ∙ kept-bytes size bs beyond)) c
 
-  -- a row of checks that fails
-  settled : (q : Request) (v : Verdict) (r : Reply) → (v ≡ Pass → Moves q r) → Moves q (settle v r l)
-  settled q Pass r h = h refl
-  settled q (Fail why) r h = moves q (refused why l) refl (nothing q)
+  -- a refusal, and an answer that changes nothing
+  refuses : (q : Request) (why : Refusal) (v k : ℕ) → Moves q (carried l (refusing why) v k)
+  unfolding applied
+  refuses q why v k = moves q (carried l (refusing why) v k) refl (nothing q)
+
+  answers : (q : Request) (value v k : ℕ) → Idle w q → Moves q (carried l (answering value) v k)
+  unfolding applied
+  answers q value v k i = moves q (carried l (answering value) v k) refl (idle q i)
+
+  -- a row of checks, and what is decided behind it
+  behind : (q : Request) (g : Verdict) (d : Decision) (v k : ℕ) → (g ≡ Pass → Moves q (carried l d v k)) → Moves q (carried l (gated g d) v k)
+  behind q Pass d v k h = h refl
+  behind q (Fail why) d v k h = refuses q why v k
 
   correct : (v k : ℕ) → Entered l journal v k false → Correct (l .settings) v
   correct v k h = record { below = h .vault; sound = h .role }
@@ -140,11 +151,6 @@ module _ (w : World) (sh : Shape (w .ledger) (w .booked)) (size : ℕ) (beyond :
   jobs h = jobs-read (l .booked) size bs beyond (sh .records) (h .known .inside)
 
   -- ---- preflight
-  abbrev reply : Bool → Verdict → ℕ → ℕ → Reply
-  reply b d v k =
-      let answer : Signing = cond b (record { consent = Already; vault = vaultAt l v }) (consented d (vaultAt l v) k) in
-      preflighted (answer .consent) (answer .vault) l v k
-
   unblocked : (v k : ℕ) → Entered l journal v k false → admissionAt (vaultAt l v) journal (l .booked) k ≡ Pass
       → Unblocked (tabled (tableOf w)) (l .booked) (vaultAt l v .held) (jobWithout (vaultAt l v .signed) k) (tabled (tableOf w) k)
   unfolding admissionAt
@@ -157,17 +163,19 @@ module _ (w : World) (sh : Shape (w .ledger) (w .booked)) (size : ℕ) (beyond :
   signed-booked v k = refl
 
   consents : (v k : ℕ) (b : Bool) (d : Verdict) → admissionAt (vaultAt l v) journal (l .booked) k ≡ d → Entered l journal v k false
-      → Moves (preflight v k) (reply b d v k)
-  consents v k true d e h = moves (preflight v k) (answered (ones (signersOf l k)) l) refl (idle (preflight v k) tt)
-  consents v k false (Fail why) e h = moves (preflight v k) (refused why l) refl (nothing (preflight v k))
+      → let answer : Signing = cond b (record { consent = Already; vault = vaultAt l v }) (consented d (vaultAt l v) k) in
+      Moves (preflight v k) (carried l (consenting (answer .consent) (answer .vault) (signersOf l k) v) v k)
+  unfolding applied
+  consents v k true d e h = answers (preflight v k) (ones (signersOf l k)) v k tt
+  consents v k false (Fail why) e h = refuses (preflight v k) why v k
   consents v k false Pass e h =
-      moves (preflight v k) (answered (ones (signersOf (signedBy l v k) k)) (signedBy l v k)) (signed-booked v k)
+      moves (preflight v k) (carried l (voting (signersOf l k) v (Sign (signing (vaultAt l v) k))) v k) (signed-booked v k)
       (signs v k (correct v k h) (h .known .below) (unblocked v k h e))
 
-  change-preflight : (v k : ℕ) → Moves (preflight v k) (preflightOf l journal v k)
-  unfolding preflightOf consulted vaultPreflight
+  change-preflight : (v k : ℕ) → Moves (preflight v k) (carried l (preflightDecision l journal v k) v k)
+  unfolding preflightDecision preflighting consent vaultPreflight
   change-preflight v k =
-      settled (preflight v k) (vaultGate l journal v k false) _
+      behind (preflight v k) (vaultGate l journal v k false) _ v k
       (λ g. consents v k (jobHas (vaultAt l v .signed) k) (admissionAt (vaultAt l v) journal (l .booked) k) refl (entered l journal v k false g))
 
   -- ---- commit
@@ -177,7 +185,7 @@ module _ (w : World) (sh : Shape (w .ledger) (w .booked)) (size : ℕ) (beyond :
       let q : bitAnd signers (signersOf l k) ≡ signers = eqb-true (bitAnd signers (signersOf l k)) signers e in
       ones-subset (l .settings .n) signers (signersOf l k) (omega (arith, and-le-r signers (signersOf l k), sh .signers-below k)) e
 
-  quorum : (k signers : ℕ) → certificate l k signers ≡ Pass → thresholdOf (l .settings) ≤ ones (signersOf l k)
+  quorum : (k signers : ℕ) → certificate (l .settings) (signersOf l k) signers ≡ Pass → thresholdOf (l .settings) ≤ ones (signersOf l k)
   unfolding certificate
   quorum k signers e =
       let sub = passed-test (subsetOf signers (signersOf l k)) _ _ e in
@@ -188,38 +196,49 @@ module _ (w : World) (sh : Shape (w .ledger) (w .booked)) (size : ℕ) (beyond :
   unfolding held acknowledged withVault
   held-booked v k = arrives (acknowledged (withVault l v (holding (vaultAt l v) k)) v k) k .booked
 
-  commits : (v k signers : ℕ) → Entered l journal v k false → thresholdOf (l .settings) ≤ ones (signersOf l k) → (b : Bool) → jobHas (vaultAt l v .held) k ≡ b
-      → Moves (commit v k signers) (cond b (answered (ones (holdersOf l k)) l) (answered (ones (holdersOf (held l v k) k)) (held l v k)))
-  commits v k signers h q true e =
-      moves (commit v k signers) (answered (ones (holdersOf l k)) l) refl (idle (commit v k signers) (record { correct = correct v k h; held = e }))
-  commits v k signers h q false e =
-      moves (commit v k signers) (answered (ones (holdersOf (held l v k) k)) (held l v k)) (held-booked v k) (holds v k signers (correct v k h) (h .known .below) q)
+  receives : (v k signers : ℕ) → Entered l journal v k false → thresholdOf (l .settings) ≤ ones (signersOf l k) → (b : Bool) → jobHas (vaultAt l v .held) k ≡ b
+      → Moves (commit v k signers)
+      (carried l (cond b (answering (ones (acknowledgersOf l k))) (voting (acknowledgersOf l k) v (Hold (holding (vaultAt l v) k)))) v k)
+  unfolding applied held
+  receives v k signers h q true e = answers (commit v k signers) (ones (acknowledgersOf l k)) v k (record { correct = correct v k h; held = e })
+  receives v k signers h q false e =
+      moves (commit v k signers) (carried l (voting (acknowledgersOf l k) v (Hold (holding (vaultAt l v) k))) v k) (held-booked v k)
+      (holds v k signers (correct v k h) (h .known .below) q)
 
-  change-commit : (v k signers : ℕ) → Moves (commit v k signers) (commitOf l journal v k signers)
-  unfolding commitOf commitChecks committed
+  change-commit : (v k signers : ℕ) → Moves (commit v k signers) (carried l (commitDecision l journal v k signers) v k)
+  unfolding commitDecision committing receiving
   change-commit v k signers =
-      settled (commit v k signers) (andThen (vaultGate l journal v k false) (certificate l k signers)) _
-      (λ g. commits v k signers (entered l journal v k false (first-passed _ _ g)) (quorum k signers (rest-passed (vaultGate l journal v k false) _ g)) (jobHas (vaultAt l v .held) k) refl)
+      behind (commit v k signers) (vaultGate l journal v k false) _ v k
+      (λ g. behind (commit v k signers) (certificate (l .settings) (signersOf l k) signers) _ v k
+      (λ c. receives v k signers (entered l journal v k false g) (quorum k signers c) (jobHas (vaultAt l v .held) k) refl))
 
   -- ---- faulty vaults
-  change-sign : (v k : ℕ) → Moves (faultySign v k) (faultySignOf l journal v k)
-  unfolding faultySignOf countersigned
+  change-sign : (v k : ℕ) → Moves (faultySign v k) (carried l (faultySignDecision l journal v k) v k)
+  unfolding faultySignDecision applied countersigned
   change-sign v k =
-      settled (faultySign v k) (vaultGate l journal v k true) _
+      behind (faultySign v k) (vaultGate l journal v k true) _ v k
       (λ g. let h = entered l journal v k true g in
-      moves (faultySign v k) (answered (ones (signersOf (countersigned l v k) k)) (countersigned l v k)) refl (countersigns v k (h .vault) (h .role) (h .known .below)))
+      moves (faultySign v k) (carried l (voting (signersOf l k) v RecordSignature) v k) refl (countersigns v k (h .vault) (h .role) (h .known .below)))
 
-  change-acknowledge : (v k : ℕ) → Moves (faultyAcknowledge v k) (faultyAcknowledgeOf l journal v k)
-  unfolding faultyAcknowledgeOf acknowledged
+  change-acknowledge : (v k : ℕ) → Moves (faultyAcknowledge v k) (carried l (faultyAcknowledgeDecision l journal v k) v k)
+  unfolding faultyAcknowledgeDecision applied acknowledged
   change-acknowledge v k =
-      settled (faultyAcknowledge v k) (vaultGate l journal v k true) _
+      behind (faultyAcknowledge v k) (vaultGate l journal v k true) _ v k
       (λ g. let h = entered l journal v k true g in
-      moves (faultyAcknowledge v k) (answered (ones (holdersOf (acknowledged l v k) k)) (acknowledged l v k)) refl (acknowledges v k (h .vault) (h .role) (h .known .below)))
+      moves (faultyAcknowledge v k) (carried l (voting (acknowledgersOf l k) v RecordAcknowledgement) v k) refl (acknowledges v k (h .vault) (h .role) (h .known .below)))
 
   -- ---- steps that only read
-  change-read : (q : Request) (o : Outcome) → Idle w q → Moves q (reads o l)
-  change-read q (Done value) i = moves q (reads (Done value) l) refl (idle q i)
-  change-read q (Refused why) i = moves q (reads (Refused why) l) refl (nothing q)
+  change-show : (k : ℕ) → Moves (show k) (carried l (showDecision l journal k) 0 k)
+  unfolding showDecision
+  change-show k = behind (show k) (bookedGate l journal k) _ 0 k (λ g. answers (show k) (statusOf (l .settings) (signersOf l k) (acknowledgersOf l k)) 0 k tt)
+
+  change-generations : (k : ℕ) → Moves (generations k) (carried l (generationsDecision l journal k) 0 k)
+  unfolding generationsDecision ageing
+  change-generations k = behind (generations k) (bookedGate l journal k) _ 0 k (λ g. by (isHeld (l .settings) (l .vaults) k) _)
+    where
+      by : (b : Bool) (age : ℕ) → Moves (generations k) (carried l (cond b (answering age) (refusing NotHeld)) 0 k)
+      by true age = answers (generations k) age 0 k tt
+      by false age = refuses (generations k) NotHeld 0 k
 
   -- ---- propose
   -- a record inside the journal is a booked one
@@ -229,41 +248,39 @@ module _ (w : World) (sh : Shape (w .ledger) (w .booked)) (size : ℕ) (beyond :
       slot-agrees k size bs beyond (omega (arith, sh .records)) (omega arith) ∙ sym (records-at (l .booked) k bs (omega arith))
 
   found : (bytes : List ℕ) (k : ℕ) → KnownAt l journal bytes k → In bytes (tableOf w)
-  unfolding equalIn equalAt insideOf
+  unfolding insideOf
   found bytes k h =
-      let f = first-least (equalAt journal bytes) (insideOf journal (l .booked)) (rw (h .found) (h .inside)) in
-      let same : slotAt journal k ≡ bytes = reflect-same (slotAt journal k) bytes .sound (ap (equalAt journal bytes) (sym (h .found)) ∙ f .has) in
-      subst (λ (x : List ℕ). In x (tableOf w)) (sym (slot-tabled k (h .inside)) ∙ same)
-      (in-getD (tableOf w) [] k (omega (arith, h .inside, records-length (l .booked) bs)))
+      subst (λ (x : List ℕ). In x (tableOf w)) (sym (slot-tabled k (h .first .below)) ∙ h .first .has)
+      (in-getD (tableOf w) [] k (omega (arith, h .first .below, records-length (l .booked) bs)))
 
   unknown : (bytes : List ℕ) → NewAt l journal bytes → In bytes (tableOf w) → ⊥
-  unfolding equalIn equalAt insideOf
+  unfolding insideOf
   unknown bytes h m =
       let q = getD-in (tableOf w) [] bytes m in
       let b : q .0 < insideOf journal (l .booked) = omega (arith, q .1, records-length (l .booked) bs, h .fits) in
-      let same : equalAt journal bytes (q .0) ≡ true = reflect-same (slotAt journal (q .0)) bytes .complete (slot-tabled (q .0) b ∙ q .2) in
-      absurd (omega (arith, h .unknown, first-any (equalAt journal bytes) (insideOf journal (l .booked)) (any-intro (equalAt journal bytes) (insideOf journal (l .booked)) (q .0) b same)))
+      h .unknown (q .0) b (slot-tabled (q .0) b ∙ q .2)
 
-  change-propose : (bytes : List ℕ) (p : Place) → placeOf l journal bytes ≡ p
-      → Change w (propose bytes) (isDone (proposed p l .outcome)) (left (proposed p l) (journalWith p l journal bytes))
-  unfolding booking
-  change-propose bytes (Known k) e = moves (propose bytes) (answered k l) refl (idle (propose bytes) (found bytes k (placed-known l journal bytes k e)))
-  change-propose bytes (Turned why) e = moves (propose bytes) (refused why l) refl (nothing (propose bytes))
-  change-propose bytes New e =
-      let h = placed-new l journal bytes e in
+  change-propose : (bytes : List ℕ) (d : Decision) → Proposed l journal bytes d
+      → Change w (propose bytes) (isDone (d .outcome)) (left (carried l d 0 0) (journalWith (d .change) (l .booked) journal bytes))
+  unfolding applied booking
+  change-propose bytes d (insane n) = refuses (propose bytes) BadSettings 0 0
+  change-propose bytes d (failed why s e) = refuses (propose bytes) why 0 0
+  change-propose bytes d (full h) = refuses (propose bytes) Full 0 0
+  change-propose bytes d (known k h) = answers (propose bytes) k 0 0 (found bytes k h)
+  change-propose bytes d (new h) =
       subst (λ (b : List ℕ). Change w (propose bytes) true (record { ledger = booking l; booked = b }))
       (sym (grown-bytes size bs beyond bytes (l .booked) (sh .records) (examined-length bytes (h .passes)) (h .fits)))
       (appends bytes (h .passes) (h .below) (unknown bytes h))
 
   pub change : (q : Request) → Change w q (isDone (stepOf l journal q .outcome)) (left (stepOf l journal q) (leftBy l journal q))
-  unfolding proposeOf journalAfter
-  change (propose bytes) = change-propose bytes (placeOf l journal bytes) refl
+  unfolding journalAfter
+  change (propose bytes) = change-propose bytes (proposeDecision l journal bytes) (proposed l journal bytes)
   change (preflight v k) = change-preflight v k
   change (commit v k signers) = change-commit v k signers
   change (faultySign v k) = change-sign v k
   change (faultyAcknowledge v k) = change-acknowledge v k
-  change (show k) = change-read (show k) (showOf l journal k) tt
-  change (generations k) = change-read (generations k) (generationsOf l journal k) tt
+  change (show k) = change-show k
+  change (generations k) = change-generations k
 
 pub changes : (w : World) → Shape (w .ledger) (w .booked) → (e : Event) → Change w (e .request) (isDone (replyTo w e .outcome)) (after w e)
 unfolding after

@@ -1,6 +1,5 @@
 -- Demand 3: the invariant holds at the start, each step of any list keeps it, and it says all that the statement asks.
--- Assumes nothing.
-use mathlib.Core.Bool.{true, true≢false}
+use mathlib.Core.Bool.{Bool, false, true, true≢false}
 use mathlib.Core.List.{List, [], _∷_}
 use mathlib.Core.Logic.{⊎-elim}
 use mathlib.Core.Path.{_∙_, _≡_, ap, refl, subst, sym}
@@ -12,25 +11,26 @@ use lib.Pow.{pow-pos}
 use Rattle.base.specs.Lists.{In}
 use Rattle.outcome.specs.Figures.{numberOf}
 use Rattle.outcome.specs.declared.Outcome.{Outcome}
-use Rattle.record.proofs.Numbers.{room}
+use Rattle.codec.proofs.Numbers.{room}
 use Rattle.sets.proofs.Bits.{has-none}
 use Rattle.sets.proofs.Jobs.{has-no-jobs}
 use Rattle.sets.specs.Bits.{hasBit}
 use Rattle.sets.specs.Jobs.{jobHas, noJobs}
 use Rattle.sets.specs.declared.job_set.JobSet.{JobSet}
-use Rattle.ledger.proofs.Changes.{changes, shape-sane}
+use Rattle.ledger.proofs.Changes.{Change, acknowledges, appends, changes, countersigns, holds, idle, nothing, shape-sane, signs}
+use Rattle.ledger.proofs.Effects.{hold-settings}
 use Rattle.ledger.proofs.Gates.{reflect-sane}
 use Rattle.ledger.proofs.Invariant.{Inv, held-by, is-recorded, keep}
 use Rattle.ledger.proofs.Refusals.{never-one}
 use Rattle.ledger.proofs.Safety.{certified-apart, meeting}
 use Rattle.ledger.proofs.Views.{ackedAt, heldAt, recordedAt, signedAt}
-use Rattle.ledger.specs.Demand3.{Apart, Demand3, Disjoint, Held, Holds, accessionedAlong, recordsIn, standingAlong}
-use Rattle.ledger.specs.Federation.{thresholdOf}
-use Rattle.ledger.specs.Meaning.{Lawful}
+use Rattle.ledger.specs.Demand3.{Apart, Demand3, Disjoint, Held, Holds, RefusedUnchanged, accessionedAlong, madeAlong, recordsIn, standingAlong}
+use Rattle.federation.specs.Federation.{Lawful, thresholdOf}
 use Rattle.ledger.specs.Register.{Register, feed, feedAll, isDone, log, newRegister, tabled}
-use Rattle.ledger.specs.State.{holdersOf, newLedger, signersOf, vaultAt}
+use Rattle.ledger.specs.State.{acknowledged, acknowledgersOf, booking, countersigned, newLedger, signersOf, vaultAt, withVault}
 use Rattle.ledger.specs.Vaults.{newVault}
-use Rattle.ledger.specs.Worlds.{Event, World, after, afterAll, lent, outcomes, replyTo, start}
+use Rattle.federation.specs.declared.Settings.{Settings}
+use Rattle.ledger.specs.Worlds.{Event, Request, World, after, afterAll, lent, outcomes, replyTo, start}
 use Rattle.ledger.specs.declared.Ledger.{Ledger}
 use Rattle.ledger.specs.declared.Vault.{Vault}
 
@@ -40,6 +40,33 @@ kept w r i e = keep w r i (e .request) (isDone (replyTo w e .outcome)) (after w 
 pub along : (es : List Event) (w : World) (r : Register) → Inv w r → Inv (afterAll w es) (feedAll r (log w es))
 along [] w r i = i
 along (e ∷ es) w r i = along es (after w e) (feed r (e .request) (isDone (replyTo w e .outcome))) (kept w r i e)
+
+-- ---- what a change leaves alone
+same-settings : (w : World) (q : Request) (done : Bool) (w′ : World) → Change w q done w′ → w′ .ledger .settings ≡ w .ledger .settings
+unfolding booking countersigned acknowledged withVault
+same-settings w q done w′ (nothing p) = refl
+same-settings w q done w′ (idle p m) = refl
+same-settings w q done w′ (appends bytes e h n) = refl
+same-settings w q done w′ (signs v k c h u) = refl
+same-settings w q done w′ (countersigns v k h f b) = refl
+same-settings w q done w′ (acknowledges v k h f b) = refl
+same-settings w q done w′ (holds v k signers c h e) = hold-settings (w .ledger) v k
+
+settings-along : (es : List Event) (w : World) (r : Register) → Inv w r → afterAll w es .ledger .settings ≡ w .ledger .settings
+settings-along [] w r i = refl
+settings-along (e ∷ es) w r i =
+    settings-along es (after w e) (feed r (e .request) (isDone (replyTo w e .outcome))) (kept w r i e)
+    ∙ same-settings w (e .request) (isDone (replyTo w e .outcome)) (after w e) (changes w (i .shape) e)
+
+-- a refused one leaves all
+same-world : (w : World) (q : Request) (done : Bool) (w′ : World) → Change w q done w′ → done ≡ false → w′ ≡ w
+same-world w q done w′ (nothing p) f = refl
+same-world w q done w′ (idle p m) f = refl
+same-world w q done w′ (appends bytes e h n) f = absurd (true≢false f)
+same-world w q done w′ (signs v k c h u) f = absurd (true≢false f)
+same-world w q done w′ (countersigns v k h p b) f = absurd (true≢false f)
+same-world w q done w′ (acknowledges v k h p b) f = absurd (true≢false f)
+same-world w q done w′ (holds v k signers c h e) f = absurd (true≢false f)
 
 -- ---- at first nothing is held, signed, recorded or acknowledged
 filled : {A : Type 0} (n i : ℕ) (a : A) → getD (replicate n a) i a ≡ a
@@ -61,8 +88,12 @@ module _ (n b faulty : ℕ) where
   none-below : (k : ℕ) → getD (replicate 128 0) k 0 < 2 ^ n
   none-below k = rw (filled {A = ℕ} 128 k 0) (pow-pos n)
 
-  first : Lawful (record { n = n; b = b; faulty = faulty }) → Inv (start n b faulty) newRegister
-  unfolding start newLedger heldAt signedAt recordedAt ackedAt signersOf holdersOf noJobs recordsIn
+  settings-first : start n b faulty .ledger .settings ≡ record { n = n; b = b; faulty = faulty }
+  unfolding start newLedger
+  settings-first = refl
+
+  pub first : Lawful (record { n = n; b = b; faulty = faulty }) → Inv (start n b faulty) newRegister
+  unfolding start newLedger heldAt signedAt recordedAt ackedAt signersOf acknowledgersOf noJobs recordsIn
   first lawful = record {
     shape = record {
       lawful = lawful;
@@ -74,7 +105,7 @@ module _ (n b faulty : ℕ) where
       records = refl;
       room = omega arith;
       signers-below = none-below;
-      holders-below = none-below;
+      acknowledgers-below = none-below;
     };
     safe = record {
       booked-held = λ v k t. absurd (no-jobs (λ x. x .held) refl v k t);
@@ -97,6 +128,7 @@ module _ (n b faulty : ℕ) where
       creators = λ k m. absurd m;
       once = tt;
       along = refl;
+      marks = refl;
       mints = refl;
       frames = refl;
     };
@@ -112,26 +144,29 @@ module _ (n b faulty : ℕ) where
 -- ---- what the invariant says
 module _ {w : World} {r : Register} (i : Inv w r) where
   -- a quorum of acknowledgements has a correct vault in it, which holds the job; so the job is certified
-  finished-certified : (k : ℕ) → thresholdOf (w .ledger .settings) ≤ ones (holdersOf (w .ledger) k) → thresholdOf (w .ledger .settings) ≤ ones (signersOf (w .ledger) k)
+  finished-certified : (k : ℕ) → thresholdOf (w .ledger .settings) ≤ ones (acknowledgersOf (w .ledger) k) → thresholdOf (w .ledger .settings) ≤ ones (signersOf (w .ledger) k)
   unfolding ackedAt
   finished-certified k a =
-      let m = meeting (i .shape .lawful) (holdersOf (w .ledger) k) (holdersOf (w .ledger) k) (i .shape .holders-below k) (i .shape .holders-below k) a a in
+      let m = meeting (i .shape .lawful) (acknowledgersOf (w .ledger) k) (acknowledgersOf (w .ledger) k) (i .shape .acknowledgers-below k) (i .shape .acknowledgers-below k) a a in
       i .safe .certified (m .vault) k (i .safe .honest (m .vault) k (m .correct) (m .first))
 
   quorum : (k : ℕ) → Held (w .ledger) k → thresholdOf (w .ledger .settings) ≤ ones (signersOf (w .ledger) k)
   quorum k h = let q = held-by (w .ledger) k h in i .safe .certified (q .0) k (q .1)
 
-  pub inv-holds : Holds w r
-  inv-holds = record {
+  pub inv-holds : (s : Settings) → w .ledger .settings ≡ s → Holds s w r
+  inv-holds s e = record {
+    settings = e;
     running = i .running;
     taken = i .taken;
     taken-held = i .taken-held;
     held-taken = λ k h. let q = held-by (w .ledger) k h in i .held-taken (q .0) k (q .1);
     table = i .table;
     records-once = i .unique;
+    checked = i .fit;
     known = i .books .known;
     once = i .once;
     standing = subst (λ (ks : List ℕ). r .standing ≡ standingAlong (tabled (r .table)) ks) (i .taken) (i .books .along);
+    made = subst (λ (ks : List ℕ). r .made ≡ madeAlong (tabled (r .table)) ks) (i .taken) (i .books .marks);
     accessioned = subst (λ (ks : List ℕ). r .accessioned ≡ accessionedAlong (tabled (r .table)) ks) (i .taken) (i .books .mints);
     frames = i .books .frames;
     creators = i .books .creators;
@@ -150,8 +185,17 @@ never-ones (e ∷ es) w r i o m =
 -- ---- demand 3
 pub demand3 : Demand3
 demand3 n b faulty lawful es =
-    let i : Inv (start n b faulty) newRegister = first n b faulty lawful in
-    (inv-holds (along es (start n b faulty) newRegister i), never-ones es (start n b faulty) newRegister i)
+    let i : Inv (start n b faulty) newRegister = first n b faulty lawful in (
+      inv-holds (along es (start n b faulty) newRegister i) _ (settings-along es (start n b faulty) newRegister i ∙ settings-first n b faulty),
+      never-ones es (start n b faulty) newRegister i,
+    )
+
+-- a refusal is a change of nothing
+pub refused-unchanged : RefusedUnchanged
+refused-unchanged n b faulty lawful es e why refused =
+    let w = afterAll (start n b faulty) es in
+    let i = along es (start n b faulty) newRegister (first n b faulty lawful) in
+    same-world w (e .request) (isDone (replyTo w e .outcome)) (after w e) (changes w (i .shape) e) (ap isDone refused)
 
 -- two jobs that correct vaults hold were each signed by a quorum, and a correct vault signed both
 pub disjoint : Disjoint

@@ -1,6 +1,5 @@
 -- What each effect does to the relations and to the shape: a signature, an acknowledgement or a held job is one more pair, and the rest
 -- is as it was.
--- Assumes nothing.
 use mathlib.Core.Bool.{Bool, false, true}
 use mathlib.Core.List.{List, [], _++_, _∷_}
 use mathlib.Core.Path.{_∙_, _≡_, ap, refl, subst, sym}
@@ -8,18 +7,18 @@ use Prim.Native.Nat.{_*_, _<_, _^_, _≤_, ℕ}
 use native.Mathlib.Omega.{arith}
 use lib.Count.{ones}
 use lib.ListN.{getD, length, length-append, length-set, set}
-use Rattle.record.proofs.Numbers.{room}
-use Rattle.record.specs.Codec.{recordSize}
+use Rattle.codec.proofs.Numbers.{room}
+use Rattle.codec.specs.Codec.{recordSize}
 use Rattle.sets.specs.Bits.{hasBit, withMember}
 use Rattle.sets.specs.Jobs.{jobHas}
-use Rattle.ledger.proofs.Changes.{Shape, signedBy}
+use Rattle.ledger.proofs.Changes.{Shape, held, signedBy}
 use Rattle.ledger.proofs.Views.{Arrives, Grown, ackedAt, arrive-again, arrive-first, arrives, column-below, column-grown, column-ones, grown-row, heldAt, kept-row, plus-job, recordedAt, signedAt}
-use Rattle.ledger.specs.Meaning.{Lawful}
-use Rattle.ledger.specs.State.{acknowledged, arrived, booking, countersigned, hasArrived, holdersOf, isArrival, signersOf, vaultAt, withVault}
-use Rattle.ledger.specs.Steps.{held}
+use Rattle.federation.specs.Federation.{Lawful}
+use Rattle.generations.specs.Generations.{isAt}
+use Rattle.ledger.specs.State.{acknowledged, arrived, booking, countersigned, hasArrived, acknowledgersOf, signersOf, vaultAt, withVault}
 use Rattle.ledger.specs.Vaults.{holding, newVault, signing}
 use Rattle.ledger.specs.declared.Ledger.{Ledger}
-use Rattle.ledger.specs.declared.Settings.{Settings}
+use Rattle.federation.specs.declared.Settings.{Settings}
 use Rattle.ledger.specs.declared.Vault.{Vault}
 
 -- ---- a vault signs
@@ -61,11 +60,11 @@ module _ (l : Ledger) (v k : ℕ) where
   counter-below n hv hn h m = column-below (l .signatures) k v n hv hn h m
 
   pub ack-acked : k < length (l .acknowledgements) → v < 16 → Grown (λ m u. ackedAt l u m) (λ m u. ackedAt (acknowledged l v k) u m) k v
-  unfolding ackedAt holdersOf acknowledged
+  unfolding ackedAt acknowledgersOf acknowledged
   ack-acked hk hv = column-grown (l .acknowledgements) k v hk hv
 
-  pub ack-below : (n : ℕ) → v < n → n ≤ 16 → ((m : ℕ) → holdersOf l m < 2 ^ n) → (m : ℕ) → holdersOf (acknowledged l v k) m < 2 ^ n
-  unfolding holdersOf acknowledged
+  pub ack-below : (n : ℕ) → v < n → n ≤ 16 → ((m : ℕ) → acknowledgersOf l m < 2 ^ n) → (m : ℕ) → acknowledgersOf (acknowledged l v k) m < 2 ^ n
+  unfolding acknowledgersOf acknowledged
   ack-below n hv hn h m = column-below (l .acknowledgements) k v n hv hn h m
 
   -- ---- a vault holds, and the job arrives
@@ -83,9 +82,9 @@ module _ (l : Ledger) (v k : ℕ) where
   unfolding acknowledged withVault
   kept-vaults = hold-arrives .vaults
 
-  kept-holders : held l v k .acknowledgements ≡ set (l .acknowledgements) k (withMember 16 (getD (l .acknowledgements) k 0) v)
-  unfolding acknowledged withVault holdersOf
-  kept-holders = hold-arrives .acknowledgements
+  kept-acknowledgers : held l v k .acknowledgements ≡ set (l .acknowledgements) k (withMember 16 (getD (l .acknowledgements) k 0) v)
+  unfolding acknowledged withVault acknowledgersOf
+  kept-acknowledgers = hold-arrives .acknowledgements
 
   kept-signatures : held l v k .signatures ≡ l .signatures
   unfolding acknowledged withVault
@@ -128,28 +127,28 @@ module _ (l : Ledger) (v k : ℕ) where
   hold-signers = ap {B = ℕ → ℕ} (λ xs m. getD xs m 0) kept-signatures
 
   pub hold-acked : k < length (l .acknowledgements) → v < 16 → Grown (λ m u. ackedAt l u m) (λ m u. ackedAt (held l v k) u m) k v
-  unfolding ackedAt holdersOf
+  unfolding ackedAt acknowledgersOf
   hold-acked hk hv =
-      subst (λ (xs : List ℕ). Grown (λ m. hasBit (getD (l .acknowledgements) m 0)) (λ m. hasBit (getD xs m 0)) k v) (sym kept-holders)
+      subst (λ (xs : List ℕ). Grown (λ m. hasBit (getD (l .acknowledgements) m 0)) (λ m. hasBit (getD xs m 0)) k v) (sym kept-acknowledgers)
       (column-grown (l .acknowledgements) k v hk hv)
 
-  pub hold-below : (n : ℕ) → v < n → n ≤ 16 → ((m : ℕ) → holdersOf l m < 2 ^ n) → (m : ℕ) → holdersOf (held l v k) m < 2 ^ n
-  unfolding holdersOf
-  hold-below n hv hn h m = subst (λ (xs : List ℕ). getD xs m 0 < 2 ^ n) (sym kept-holders) (column-below (l .acknowledgements) k v n hv hn h m)
+  pub hold-below : (n : ℕ) → v < n → n ≤ 16 → ((m : ℕ) → acknowledgersOf l m < 2 ^ n) → (m : ℕ) → acknowledgersOf (held l v k) m < 2 ^ n
+  unfolding acknowledgersOf
+  hold-below n hv hn h m = subst (λ (xs : List ℕ). getD xs m 0 < 2 ^ n) (sym kept-acknowledgers) (column-below (l .acknowledgements) k v n hv hn h m)
 
   -- the order grows where the job had not arrived
-  pub hold-again : hasArrived l k ≡ true → arrived (held l v k) ≡ arrived l
-  unfolding held acknowledged withVault hasArrived isArrival
+  pub hold-again : hasArrived (l .order) (l .arrivals) k ≡ true → arrived (held l v k) ≡ arrived l
+  unfolding held acknowledged withVault hasArrived isAt
   hold-again e = ap arrived (arrive-again kept k e)
 
-  pub hold-first : hasArrived l k ≡ false → l .arrivals < 128 → l .arrivals < length (l .order) → arrived (held l v k) ≡ arrived l ++ (k ∷ [])
-  unfolding held acknowledged withVault hasArrived isArrival
+  pub hold-first : hasArrived (l .order) (l .arrivals) k ≡ false → l .arrivals < 128 → l .arrivals < length (l .order) → arrived (held l v k) ≡ arrived l ++ (k ∷ [])
+  unfolding held acknowledged withVault hasArrived isAt
   hold-first e h h′ = arrive-first kept k e h h′
 
 -- ---- the shape stays
 module _ {l : Ledger} {bs : List ℕ} (v k : ℕ) (s : Shape l bs) (hv : v < l .settings .n) where
   pub shape-sign : Shape (signedBy l v k) bs
-  unfolding countersigned withVault holdersOf
+  unfolding countersigned withVault acknowledgersOf
   shape-sign = record {
     lawful = s .lawful;
     vaults = length-set (l .vaults) v _ ∙ s .vaults;
@@ -160,11 +159,11 @@ module _ {l : Ledger} {bs : List ℕ} (v k : ℕ) (s : Shape l bs) (hv : v < l .
     records = s .records;
     room = s .room;
     signers-below = sign-below l v k (l .settings .n) hv (s .lawful .vaults) (s .signers-below);
-    holders-below = s .holders-below;
+    acknowledgers-below = s .acknowledgers-below;
   }
 
   pub shape-countersign : Shape (countersigned l v k) bs
-  unfolding countersigned holdersOf
+  unfolding countersigned acknowledgersOf
   shape-countersign = record {
     lawful = s .lawful;
     vaults = s .vaults;
@@ -175,7 +174,7 @@ module _ {l : Ledger} {bs : List ℕ} (v k : ℕ) (s : Shape l bs) (hv : v < l .
     records = s .records;
     room = s .room;
     signers-below = counter-below l v k (l .settings .n) hv (s .lawful .vaults) (s .signers-below);
-    holders-below = s .holders-below;
+    acknowledgers-below = s .acknowledgers-below;
   }
 
   pub shape-acknowledge : Shape (acknowledged l v k) bs
@@ -190,7 +189,7 @@ module _ {l : Ledger} {bs : List ℕ} (v k : ℕ) (s : Shape l bs) (hv : v < l .
     records = s .records;
     room = s .room;
     signers-below = s .signers-below;
-    holders-below = ack-below l v k (l .settings .n) hv (s .lawful .vaults) (s .holders-below);
+    acknowledgers-below = ack-below l v k (l .settings .n) hv (s .lawful .vaults) (s .acknowledgers-below);
   }
 
   pub shape-hold : Shape (held l v k) bs
@@ -201,7 +200,7 @@ module _ {l : Ledger} {bs : List ℕ} (v k : ℕ) (s : Shape l bs) (hv : v < l .
         lawful = subst Lawful (sym (hold-settings l v k)) (s .lawful);
         vaults = ap length (kept-vaults l v k) ∙ length-set (l .vaults) v _ ∙ s .vaults;
         signatures = ap length (kept-signatures l v k) ∙ s .signatures;
-        acknowledgements = ap length (kept-holders l v k) ∙ length-set (l .acknowledgements) k _ ∙ s .acknowledgements;
+        acknowledgements = ap length (kept-acknowledgers l v k) ∙ length-set (l .acknowledgements) k _ ∙ s .acknowledgements;
         order = hold-order l v k ∙ s .order;
         arrivals = hold-arrivals l v k (s .arrivals);
         records = s .records ∙ ap (λ (m : ℕ). recordSize * m) (sym (hold-booked l v k));
@@ -209,12 +208,12 @@ module _ {l : Ledger} {bs : List ℕ} (v k : ℕ) (s : Shape l bs) (hv : v < l .
         signers-below = λ m.
             subst (λ (f : ℕ → ℕ). f m < 2 ^ held l v k .settings .n) (sym (hold-signers l v k))
             (subst (λ (x : ℕ). signersOf l m < 2 ^ x) (sym e) (s .signers-below m));
-        holders-below = λ m.
-            subst (λ (x : ℕ). holdersOf (held l v k) m < 2 ^ x) (sym e) (hold-below l v k n hv (s .lawful .vaults) (s .holders-below) m);
+        acknowledgers-below = λ m.
+            subst (λ (x : ℕ). acknowledgersOf (held l v k) m < 2 ^ x) (sym e) (hold-below l v k n hv (s .lawful .vaults) (s .acknowledgers-below) m);
       }
 
 pub shape-book : {l : Ledger} {bs : List ℕ} (bytes : List ℕ) → Shape l bs → l .booked < 128 → length bytes ≡ recordSize → Shape (booking l) (bs ++ bytes)
-unfolding booking signersOf holdersOf
+unfolding booking signersOf acknowledgersOf
 shape-book {l} {bs} bytes s h e = record {
   lawful = s .lawful;
   vaults = s .vaults;
@@ -225,5 +224,5 @@ shape-book {l} {bs} bytes s h e = record {
   records = omega (arith, length-append bs bytes, s .records);
   room = omega arith;
   signers-below = s .signers-below;
-  holders-below = s .holders-below;
+  acknowledgers-below = s .acknowledgers-below;
 }

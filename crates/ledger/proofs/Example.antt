@@ -1,6 +1,5 @@
 -- Document 01's whole run ("One run whole") through the functions that demand 3 is about, and the register beside it: computed from its
 -- real bytes. The label VAA001L5 reads as the number 3840498665277964630.
--- Assumes nothing.
 use mathlib.Core.Bool.{true}
 use mathlib.Core.List.{List, [], _++_, _∷_}
 use mathlib.Core.Path.{_≡_, refl}
@@ -11,22 +10,25 @@ use Rattle.base.specs.Lists.{sameList}
 use Rattle.base.specs.Search.{allBelow, anyBelow, firstBelow, sumFrom}
 use Rattle.outcome.specs.declared.Outcome.the-variants.{Done, Refused}
 use Rattle.outcome.specs.declared.Refusal.the-variants.{NotCreated, NotSigned, TooFewSigners}
-use Rattle.record.specs.Checks.{balanced, checkOf, countsFormed, entryFormed, examined, hasLabelOf, inputsFormed, isBlank, isFilled, isWritten, repeatedAt, unsupportedAt, wellFormed}
-use Rattle.record.specs.Codec.{entriesAt, entryAt, jobOf, leAt}
-use Rattle.record.specs.Conflicts.{isLabelAt, isTapeAt, labelIn, makesTape}
+use Rattle.checks.specs.Checks.{balanced, checkOf, countsFormed, entryFormed, examined, hasLabelOf, inputsFormed, isBlank, isFilled, isWritten, repeatedAt, unsupportedAt, wellFormed}
+use Rattle.codec.specs.Codec.{entriesAt, entryAt, jobOf, leAt}
+use Rattle.conflicts.specs.Conflicts.{isLabelAt, isTapeAt, labelIn, makesTape}
 use Rattle.record.specs.Drives.{isDrive, supports}
 use Rattle.record.specs.Entries.{framesOf, isUsed, labelOf, usedFrames}
 use Rattle.record.specs.Labels.{charAt, isAlphanumeric, isBetween, isLabel, mediumOf}
-use Rattle.record.specs.Tapes.{sameTape, usedFrom}
+use Rattle.conflicts.specs.Tapes.{sameTape, usedFrom}
 use Rattle.sets.specs.Bits.{hasBit, subsetOf, withBit, withMember, withoutBit}
 use Rattle.sets.specs.Jobs.{jobHas, jobWith, jobWithout}
-use Rattle.ledger.specs.Admission.{admission, consumedAt, listedBy, listsAt, madeBefore, madeBy, makesAt, notCreatedAt, remadeAt}
-use Rattle.ledger.specs.Federation.{isLawful, thresholdOf}
-use Rattle.ledger.specs.Generations.{ageOf, createdAt, creatorOf, generationAt, generationFrom, generationsBefore, generationsOf, highest, holdsAt, isHeld, positionOf}
-use Rattle.ledger.specs.Journal.{equalAt, equalIn, hasRoom, insideOf, isBooked, jobAt, putAt, recordAt, slotAt}
+use Rattle.index.specs.Admission.{admission, consumedAt, listedBy, listsAt, madeBefore, madeBy, makesAt, notCreatedAt, remadeAt}
+use Rattle.federation.specs.Federation.{isLawful, thresholdOf}
+use Rattle.generations.specs.Generations.{ageIn, createdAt, creatorOf, generationAt, generationFrom, generationsBefore, highest}
+use Rattle.ledger.specs.Holders.{holdsAt, isHeld}
+use Rattle.journal.specs.Journal.{equalAt, equalIn, hasRoom, insideOf, isBooked, jobAt, putAt, recordAt, slotAt}
 use Rattle.ledger.specs.Register.{entering, feedAll, feedCommit, feedProposal, isAdmissible, log, newRegister, stopped, taking}
-use Rattle.ledger.specs.State.{acknowledged, arriving, booking, countersigned, hasArrived, holdersOf, isArrival, isSane, newLedger, signersOf, withVault}
-use Rattle.ledger.specs.Steps.{bookedGate, certificate, commitChecks, commitOf, committed, consulted, faultyAcknowledgeOf, faultySignOf, held, journalAfter, newPlace, placeOf, preflightOf, proposeOf, showOf, statusOf, vaultGate}
+use Rattle.generations.specs.Generations.{isAt}
+use Rattle.ledger.specs.State.{acknowledged, applied, arriving, booking, countersigned, hasArrived, acknowledgersOf, isSane, newLedger, signersOf, withVault}
+use Rattle.ledger.specs.Decisions.{ageing, certificate, committing, consent, placing, preflighting, proposal, receiving, settling, statusOf}
+use Rattle.ledger.specs.Steps.{bookedGate, commitDecision, faultyAcknowledgeDecision, faultySignDecision, gateOf, generationsDecision, journalAfter, preflightDecision, proposeDecision, saneGate, showDecision, vaultGate}
 use Rattle.ledger.specs.Vaults.{admissionAt, holding, signing, vaultPreflight}
 use Rattle.ledger.specs.Worlds.{Event, Request, after, commit, faultySign, generations, lend, outcomes, overlay, preflight, propose, show, start}
 
@@ -79,5 +81,5 @@ pub whole-run :
       made = 3840498665277964630 ∷ [];
       accessioned = 1000;
     })
-unfolding sameList anyBelow allBelow firstBelow sumFrom hasBit withBit withMember withoutBit subsetOf jobHas jobWith jobWithout inputsFormed countsFormed isFilled isBlank entryFormed wellFormed hasLabelOf repeatedAt isWritten unsupportedAt balanced checkOf examined leAt entryAt entriesAt jobOf isLabelAt labelIn isTapeAt makesTape isDrive supports labelOf framesOf isUsed usedFrames isBetween charAt isAlphanumeric mediumOf isLabel usedFrom sameTape makesAt madeBy listsAt listedBy notCreatedAt consumedAt madeBefore remadeAt admission isLawful thresholdOf highest createdAt creatorOf generationFrom generationsBefore generationAt holdsAt isHeld positionOf ageOf generationsOf slotAt isBooked recordAt jobAt insideOf equalAt equalIn hasRoom putAt isAdmissible taking stopped entering feedProposal feedCommit signersOf holdersOf isArrival hasArrived isSane newLedger booking countersigned acknowledged withVault arriving bookedGate vaultGate newPlace placeOf proposeOf journalAfter consulted preflightOf certificate held committed commitChecks commitOf faultySignOf faultyAcknowledgeOf statusOf showOf signing holding admissionAt vaultPreflight lend overlay after start ones onesIn
+unfolding sameList anyBelow allBelow firstBelow sumFrom hasBit withBit withMember withoutBit subsetOf jobHas jobWith jobWithout inputsFormed countsFormed isFilled isBlank entryFormed wellFormed hasLabelOf repeatedAt isWritten unsupportedAt balanced checkOf examined leAt entryAt entriesAt jobOf isLabelAt labelIn isTapeAt makesTape isDrive supports labelOf framesOf isUsed usedFrames isBetween charAt isAlphanumeric mediumOf isLabel usedFrom sameTape makesAt madeBy listsAt listedBy notCreatedAt consumedAt madeBefore remadeAt admission isLawful thresholdOf highest createdAt creatorOf generationFrom generationsBefore generationAt holdsAt isHeld isAt ageIn slotAt isBooked recordAt jobAt insideOf equalAt equalIn hasRoom putAt isAdmissible taking stopped entering feedProposal feedCommit signersOf acknowledgersOf hasArrived isSane newLedger booking countersigned acknowledged withVault arriving applied bookedGate gateOf saneGate vaultGate placing settling proposal proposeDecision journalAfter consent preflighting preflightDecision certificate receiving committing commitDecision faultySignDecision faultyAcknowledgeDecision statusOf showDecision ageing generationsDecision signing holding admissionAt vaultPreflight lend overlay after start ones onesIn
 whole-run = (refl, refl)

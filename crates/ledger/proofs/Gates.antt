@@ -1,37 +1,30 @@
 -- Checks 1, 3, 4 and 5 decide what specs/Meaning.antt says of them: a gate passes exactly where its claim holds. What a step may do
--- behind its gate, index the sets of a job and a vault's state, follows.
--- Assumes nothing.
+-- behind its gate follows, and the rules by which the operations are proved: through an open gate, and through a shut one.
 use mathlib.Core.Bool.{Bool, Bool·beq, cond, false, true, true≢false}
 use mathlib.Core.List.{List}
-use mathlib.Core.Path.{_≡_, refl, sym}
-use Prim.Native.Nat.{_*_, _<_, _^_, _≤_, ℕ}
+use mathlib.Core.Path.{_∙_, _≡_, refl, sym}
+use Prim.Native.Nat.{_<_, _≤_, ℕ}
 use native.Mathlib.Omega.{arith}
-use lib.Count.{ones}
 use lib.Dec.{ltb}
 use borrow.Author.Tests.{lt-ltb, ltb-true}
-use Rattle.base.proofs.Reflect.{reflect-and, reflect-as, reflect-le, reflect-lt}
+use Rattle.base.proofs.Reflect.{reflect-and, reflect-as, reflect-le}
 use Rattle.base.specs.Reflect.{Reflects}
+use Rattle.outcome.specs.declared.Outcome.the-variants.{Refused}
 use Rattle.outcome.specs.declared.Refusal.{Refusal}
 use Rattle.outcome.specs.declared.Verdict.{Verdict}
 use Rattle.outcome.specs.declared.Verdict.the-variants.{Fail, Pass}
 use Rattle.sets.specs.Bits.{hasBit}
-use Rattle.ledger.specs.Federation.{isLawful}
-use Rattle.ledger.specs.Journal.{capacity, isBooked, slots}
-use Rattle.ledger.specs.Meaning.{Booked, Entered, Lawful, Sane}
-use Rattle.ledger.specs.State.{isSane}
-use Rattle.ledger.specs.Steps.{andThen, bookedGate, vaultGate}
+use Rattle.federation.proofs.Lawful.{reflect-lawful}
+use Rattle.journal.proofs.Booked.{reflect-booked}
+use Rattle.journal.specs.Journal.{Booked, capacity}
+use Rattle.ledger.specs.Meaning.{Entered, Sane}
+use Rattle.ledger.specs.State.{applied, isSane}
+use Rattle.ledger.specs.Steps.{bookedGate, carried, gateOf, turned, vaultGate}
+use Rattle.ledger.specs.Decisions.{gated}
+use Rattle.ledger.specs.Given.{Placed}
+use Rattle.ledger.specs.declared.Decision.{Decision}
+use Rattle.ledger.specs.declared.Reply.{Reply}
 use Rattle.ledger.specs.declared.Ledger.{Ledger}
-use Rattle.ledger.specs.declared.Settings.{Settings}
-
-pub reflect-lawful : (s : Settings) → Reflects (isLawful s) (Lawful s)
-unfolding isLawful
-reflect-lawful s =
-    reflect-as
-    (reflect-and (reflect-le (s .n) 16)
-    (reflect-and (reflect-lt (3 * s .b) (s .n))
-    (reflect-and (reflect-lt (s .faulty) (2 ^ s .n)) (reflect-le (ones (s .faulty)) (s .b)))))
-    (λ h. record { vaults = h .0; few = h .1 .0; below = h .1 .1 .0; bound = h .1 .1 .1 })
-    (λ h. (h .vaults, (h .few, (h .below, h .bound))))
 
 pub reflect-sane : (l : Ledger) → Reflects (isSane l) (Sane l)
 unfolding isSane
@@ -40,14 +33,6 @@ reflect-sane l =
     (reflect-and (reflect-lawful (l .settings)) (reflect-and (reflect-le (l .booked) capacity) (reflect-le (l .arrivals) capacity)))
     (λ h. record { lawful = h .0; booked = h .1 .0; arrivals = h .1 .1 })
     (λ h. (h .lawful, (h .booked, h .arrivals)))
-
-pub reflect-booked : (journal : List ℕ) (booked job : ℕ) → Reflects (isBooked journal booked job) (Booked journal booked job)
-unfolding isBooked
-reflect-booked journal booked job =
-    reflect-as
-    (reflect-and (reflect-le booked (slots journal)) (reflect-lt job booked))
-    (λ h. record { inside = omega (arith, h .0); below = h .1 })
-    (λ h. (omega (arith, h .inside), h .below))
 
 reflect-beq : (a b : Bool) → Reflects (Bool·beq a b) (a ≡ b)
 reflect-beq true true = record { sound = λ e. refl; complete = λ e. refl }
@@ -73,7 +58,7 @@ booked-entered l journal job e =
 
 pub entered : (l : Ledger) (journal : List ℕ) (v job : ℕ) (faulty : Bool) → vaultGate l journal v job faulty ≡ Pass
     → Entered l journal v job faulty
-unfolding vaultGate
+unfolding vaultGate gateOf
 entered l journal v job faulty e =
     let vault = passed-rest (isSane l) _ _ e in
     let role = passed-rest (ltb v (l .settings .n)) _ _ vault in
@@ -87,26 +72,84 @@ entered l journal v job faulty e =
 
 pub enters : (l : Ledger) (journal : List ℕ) (v job : ℕ) (faulty : Bool) → Entered l journal v job faulty
     → vaultGate l journal v job faulty ≡ Pass
-unfolding vaultGate
+unfolding vaultGate gateOf
 enters l journal v job faulty h =
     simp (reflect-sane l .complete (h .sane), lt-ltb _ _ (h .vault), reflect-beq _ _ .complete (h .role), reflect-booked journal (l .booked) job .complete (h .known))
 
--- ---- what is indexed behind a gate
-module _ (l : Ledger) (journal : List ℕ) (v job : ℕ) (faulty : Bool) (gate : vaultGate l journal v job faulty ≡ Pass) where
-  pub vault-below : v < 16
-  vault-below = let h = entered l journal v job faulty gate in omega (arith, h .vault, h .sane .lawful .vaults)
+-- ---- what a step may rely on behind its gate
+module _ (l : Ledger) (journal : List ℕ) (v job : ℕ) (faulty : Bool) where
+  pub in-place : Entered l journal v job faulty → Placed l v job
+  in-place h = record {
+    vault = omega (arith, h .vault, h .sane .lawful .vaults);
+    job = omega (arith, h .known .below, h .sane .booked);
+    booked = h .sane .booked;
+    arrivals = h .sane .arrivals;
+  }
 
-  pub job-below : job < 128
-  job-below = let h = entered l journal v job faulty gate in omega (arith, h .known .below, h .sane .booked)
+  pub placed : (r : Verdict) → r ≡ vaultGate l journal v job faulty → r ≡ Pass → Placed l v job
+  placed r p q = in-place (entered l journal v job faulty (sym p ∙ q))
 
-  pub arrivals-within : l .arrivals ≤ 128
-  arrivals-within = entered l journal v job faulty gate .sane .arrivals
+  pub placed-vault : (r : Verdict) → r ≡ vaultGate l journal v job faulty → r ≡ Pass → v < 16
+  placed-vault r p q = placed r p q .vault
 
--- ---- one row of checks after another
-pub first-passed : (a b : Verdict) → andThen a b ≡ Pass → a ≡ Pass
-first-passed Pass b e = refl
-first-passed (Fail why) b e = e
+  pub placed-known : (r : Verdict) → r ≡ vaultGate l journal v job faulty → r ≡ Pass → Booked journal (l .booked) job
+  placed-known r p q = entered l journal v job faulty (sym p ∙ q) .known
 
-pub rest-passed : (a b : Verdict) → andThen a b ≡ Pass → b ≡ Pass
-rest-passed Pass b e = e
-rest-passed (Fail why) b e = cc
+  pub placed-few : (r : Verdict) → r ≡ vaultGate l journal v job faulty → r ≡ Pass → l .booked ≤ capacity
+  placed-few r p q = placed r p q .booked
+
+  pub placed-job : (r : Verdict) → r ≡ vaultGate l journal v job faulty → r ≡ Pass → job < 128
+  placed-job r p q = placed r p q .job
+
+module _ (l : Ledger) (journal : List ℕ) (job : ℕ) where
+  pub known-job : (r : Verdict) → r ≡ bookedGate l journal job → r ≡ Pass → job < 128
+  known-job r p q = let h = booked-entered l journal job (sym p ∙ q) in omega (arith, h .1 .below, h .0 .booked)
+
+  pub known-booked : (r : Verdict) → r ≡ bookedGate l journal job → r ≡ Pass → Booked journal (l .booked) job
+  known-booked r p q = booked-entered l journal job (sym p ∙ q) .1
+
+  pub known-sane : (r : Verdict) → r ≡ bookedGate l journal job → r ≡ Pass → Sane l
+  known-sane r p q = booked-entered l journal job (sym p ∙ q) .0
+
+  pub known-few : (r : Verdict) → r ≡ bookedGate l journal job → r ≡ Pass → l .booked ≤ capacity
+  known-few r p q = known-sane r p q .booked
+
+  pub known-arrivals : (r : Verdict) → r ≡ bookedGate l journal job → r ≡ Pass → l .arrivals ≤ capacity
+  known-arrivals r p q = known-sane r p q .arrivals
+
+  pub known-vaults : (r : Verdict) → r ≡ bookedGate l journal job → r ≡ Pass → l .settings .n ≤ 16
+  known-vaults r p q = known-sane r p q .lawful .vaults
+
+module _ (l : Ledger) where
+  pub sane-placed : (r : Bool) → r ≡ isSane l → r ≡ true → Placed l 0 0
+  sane-placed r p q = let h = reflect-sane l .sound (sym p ∙ q) in record { vault = omega arith; job = omega arith; booked = h .booked; arrivals = h .arrivals }
+
+  pub sane-booked : (r : Bool) → r ≡ isSane l → r ≡ true → l .booked ≤ capacity
+  sane-booked r p q = reflect-sane l .sound (sym p ∙ q) .booked
+
+pub ruleset entering = (placed, placed-vault, placed-job, placed-few, placed-known, known-job, known-booked, known-few, known-arrivals, known-vaults, sane-placed, sane-booked)
+
+-- ---- the two ways of a step: its gate passes and what was decided is carried, or its gate fails
+module _ (l : Ledger) (v job : ℕ) where
+  pub opened : (g r : Verdict) (d e : Decision) (z : Reply) → r ≡ g → r ≡ Pass → e ≡ gated r d → z ≡ carried l e v job → z ≡ carried l (gated g d) v job
+  opened g r d e z p q u w = simp (← p, ← u) w
+
+  pub shut : (g r : Verdict) (d : Decision) (why : Refusal) (z : Reply) → r ≡ g → r ≡ Fail why → z ≡ turned l why → z ≡ carried l (gated g d) v job
+  unfolding applied
+  shut g r d why z p q w = simp (sym p ∙ q) w
+
+  -- what was decided behind the open gate
+  pub passed : (g r : Verdict) (d e : Decision) (z : Reply) → r ≡ g → r ≡ Pass → e ≡ d → z ≡ carried l e v job → z ≡ carried l (gated g d) v job
+  passed g r d e z p q u w = simp (sym p ∙ q, ← u) w
+
+-- the same of a step that only reads
+pub read-opened : (g r : Verdict) (d e : Decision) → r ≡ g → r ≡ Pass → e ≡ gated r d → e .outcome ≡ gated g d .outcome
+read-opened g r d e p q u = simp (← p, ← u)
+
+pub read-shut : (g r : Verdict) (d : Decision) (why : Refusal) → r ≡ g → r ≡ Fail why → Refused why ≡ gated g d .outcome
+read-shut g r d why p q = simp (sym p ∙ q)
+
+pub read-passed : (g r : Verdict) (d e : Decision) → r ≡ g → r ≡ Pass → e ≡ d → e .outcome ≡ gated g d .outcome
+read-passed g r d e p q u = simp (sym p ∙ q, ← u)
+
+pub ruleset ways = (opened, passed, shut, read-opened, read-passed, read-shut, entering)

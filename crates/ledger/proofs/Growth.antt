@@ -1,20 +1,18 @@
 -- What is held, signed, recorded, acknowledged and booked only grows, over any list of steps: each change adds one pair to a relation or
 -- one record to the booked bytes.
--- Assumes nothing.
 use mathlib.Core.Bool.{Bool}
 use mathlib.Core.List.{List, [], _++_, _∷_, append-assoc, append-nil}
 use mathlib.Core.Path.{_∙_, ap, refl, sym}
 use Prim.Native.Nat.{ℕ}
 use native.Mathlib.Omega.{arith}
-use Rattle.ledger.proofs.Changes.{Change, Shape, acknowledges, appends, changes, countersigns, holds, idle, nothing, signs}
+use Rattle.ledger.proofs.Changes.{Change, Shape, acknowledges, appends, changes, countersigns, held, holds, idle, nothing, signs}
 use Rattle.ledger.proofs.Demand3.{kept}
 use Rattle.ledger.proofs.Effects.{ack-acked, counter-recorded, hold-acked, hold-held, hold-recorded, hold-signed, sign-held, sign-recorded, sign-signed}
 use Rattle.ledger.proofs.Invariant.{Inv}
 use Rattle.ledger.proofs.Views.{ackedAt, heldAt, recordedAt, signedAt}
 use Rattle.ledger.specs.Growth.{Grows}
 use Rattle.ledger.specs.Register.{Register, feed, isDone}
-use Rattle.ledger.specs.State.{acknowledged, booking, countersigned, holdersOf, signersOf, withVault}
-use Rattle.ledger.specs.Steps.{held}
+use Rattle.ledger.specs.State.{acknowledged, booking, countersigned, acknowledgersOf, signersOf, withVault}
 use Rattle.ledger.specs.Worlds.{Event, Request, World, after, afterAll, replyTo}
 
 grows-same : (w : World) → Grows w w
@@ -38,7 +36,7 @@ grows-on {a} {b} {c} p q = record {
 }
 
 grow : (w : World) → Shape (w .ledger) (w .booked) → (q : Request) (done : Bool) (w′ : World) → Change w q done w′ → Grows w w′
-unfolding heldAt signedAt recordedAt ackedAt countersigned acknowledged withVault booking signersOf holdersOf
+unfolding heldAt signedAt recordedAt ackedAt countersigned acknowledged withVault booking signersOf acknowledgersOf
 grow w sh q done w′ (nothing p) = grows-same w
 grow w sh q done w′ (idle p m) = grows-same w
 grow w sh q done w′ (appends bytes e h n) = record {

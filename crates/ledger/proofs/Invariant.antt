@@ -1,7 +1,6 @@
 -- The invariant of demand 3, and that each change a step makes keeps it. A job that arrives was signed by a quorum; so was every job
 -- that arrived before, and two quorums share a correct vault, so the newcomer conflicts with none of them; its inputs were made by jobs
 -- that a correct vault holds, and none of those has retired them. So the register takes it.
--- Assumes nothing.
 use mathlib.Core.Bool.{Bool, _&&_, cond, false, true, true≢false}
 use mathlib.Core.List.{List, [], _++_, _∷_}
 use mathlib.Core.Logic.{inr, ⊎-elim}
@@ -19,30 +18,29 @@ use Rattle.base.proofs.Reflect.{reflect-eq, refuted, refutes}
 use Rattle.base.specs.Lists.{Distinct, In, anyIn, sameList}
 use Rattle.base.specs.Reflect.{Reflects}
 use Rattle.outcome.specs.declared.Verdict.the-variants.{Pass}
-use Rattle.record.specs.Checks.{examined}
-use Rattle.record.specs.Codec.{jobOf, recordSize}
-use Rattle.record.specs.Tapes.{inputTapes, outputTapes}
+use Rattle.checks.specs.Checks.{examined}
+use Rattle.codec.specs.Codec.{jobOf, recordSize}
+use Rattle.conflicts.specs.Tapes.{inputTapes, outputTapes}
 use Rattle.record.specs.declared.Entry.{Entry}
 use Rattle.record.specs.declared.Job.{Job}
 use Rattle.sets.proofs.Jobs.{job-without-other}
 use Rattle.sets.specs.Bits.{hasBit}
 use Rattle.sets.specs.Jobs.{jobWithout}
 use Rattle.ledger.proofs.Account.{Books, CanTake, books-enter, books-take, reflect-admissible}
-use Rattle.ledger.proofs.Changes.{Change, Idle, Shape, acknowledges, appends, countersigns, holds, idle, nothing, signedBy, signs, tableOf, withLedger}
+use Rattle.ledger.proofs.Changes.{Change, Idle, Shape, acknowledges, appends, countersigns, held, holds, idle, nothing, signedBy, signs, tableOf, withLedger}
 use Rattle.ledger.proofs.Effects.{ack-acked, counter-ones, counter-recorded, hold-acked, hold-again, hold-booked, hold-first, hold-held, hold-recorded, hold-settings, hold-signed, hold-signers, shape-acknowledge, shape-book, shape-countersign, shape-hold, shape-sign, sign-held, sign-ones, sign-recorded, sign-signed}
 use Rattle.ledger.proofs.Lending.{records-length, records-snoc}
 use Rattle.ledger.proofs.Places.{examined-length}
 use Rattle.ledger.proofs.Safety.{Clear, Safe, certified-apart, certified-rooted, safe-acknowledge, safe-book, safe-countersign, safe-hold, safe-sign}
 use Rattle.ledger.proofs.Views.{Grown, ackedAt, heldAt, recordedAt, reflect-arrived, signedAt}
 use Rattle.ledger.specs.Demand3.{Apart, Correct, Held, recordsIn}
-use Rattle.ledger.specs.Federation.{thresholdOf}
+use Rattle.federation.specs.Federation.{thresholdOf}
 use Rattle.ledger.specs.Graph.{Unblocked}
 use Rattle.ledger.specs.Register.{Register, entering, feed, feedCommit, feedDone, feedProposal, isAdmissible, stopped, tabled, taking}
-use Rattle.ledger.specs.State.{acknowledged, arrived, booking, countersigned, holdersOf, signersOf, vaultAt, withVault}
-use Rattle.ledger.specs.Steps.{held}
+use Rattle.ledger.specs.State.{acknowledged, arrived, booking, countersigned, acknowledgersOf, signersOf, vaultAt, withVault}
 use Rattle.ledger.specs.Worlds.{Request, World, commit, faultyAcknowledge, faultySign, generations, preflight, propose, show}
 use Rattle.ledger.specs.declared.Ledger.{Ledger}
-use Rattle.ledger.specs.declared.Settings.{Settings}
+use Rattle.federation.specs.declared.Settings.{Settings}
 
 pub record Inv (w : World) (r : Register) : Type 0 where
   pub shape : Shape (w .ledger) (w .booked)
@@ -108,7 +106,7 @@ module _ {w : World} {r : Register} (i : Inv w r) where
       below m s = i .safe .booked-recorded v m (i .safe .backed v m s)
 
   inv-sign : (v k : ℕ) → Correct (l .settings) v → k < l .booked → Clear job (heldAt l) (signedAt l) v k → Inv (withLedger w (signedBy l v k)) r
-  unfolding countersigned withVault ackedAt holdersOf
+  unfolding countersigned withVault ackedAt acknowledgersOf
   inv-sign v k c hk cl = record {
     shape = shape-sign v k (i .shape) (c .below);
     safe = subst (λ (h : ℕ → ℕ → Bool). Safe (l .settings) (l .booked) job h (signedAt (signedBy l v k)) (recordedAt (signedBy l v k)) (ackedAt l) (signersOf (signedBy l v k)))
@@ -131,7 +129,7 @@ module _ {w : World} {r : Register} (i : Inv w r) where
   not-correct v f c = true≢false (sym f ∙ c .sound)
 
   inv-countersign : (v k : ℕ) → v < l .settings .n → hasBit (l .settings .faulty) v ≡ true → k < l .booked → Inv (withLedger w (countersigned l v k)) r
-  unfolding countersigned heldAt signedAt ackedAt holdersOf
+  unfolding countersigned heldAt signedAt ackedAt acknowledgersOf
   inv-countersign v k hv f hk = record {
     shape = shape-countersign v k (i .shape) hv;
     safe = safe-countersign (i .safe) v k hk (not-correct v f) (counter-recorded l v k (omega (arith, i .shape .signatures, is-job k hk)) (is-vault v hv)) (counter-ones l v k);
@@ -165,7 +163,7 @@ module _ {w : World} {r : Register} (i : Inv w r) where
   -- ---- a record is booked
   inv-book : (bytes : List ℕ) → examined bytes ≡ Pass → l .booked < 128 → (In bytes (tableOf w) → ⊥)
       → Inv (record { ledger = booking l; booked = w .booked ++ bytes }) (entering r bytes)
-  unfolding booking entering heldAt signedAt recordedAt ackedAt signersOf holdersOf
+  unfolding booking entering heldAt signedAt recordedAt ackedAt signersOf acknowledgersOf
   inv-book bytes e h n =
       let size : length bytes ≡ recordSize = examined-length bytes e in
       record {

@@ -1,28 +1,23 @@
 -- What lending a journal does: where the lent bytes overlap the booked ones they agree, so the booked records that lie inside are
 -- read as they are; a step that books nothing leaves the booked bytes, however short the lent journal, and one that books a record
 -- appends it. Every journal that agrees with the booked bytes is lent by some event, and only such.
--- Assumes nothing.
 use mathlib.Core.Bool.{Bool, cond, false, true}
 use mathlib.Core.List.{List, [], _++_, _∷_, append-assoc}
 use mathlib.Core.Path.{_∙_, _≡_, ap, ap₂, refl, sym}
 use Prim.Native.Nat.{_*_, _+_, _<_, _≤_, suc, zero, ℕ}
-use native.Mathlib.Nat.{le-of-suc-le-suc, not-suc-le-zero, suc-add, zero-add}
+use native.Mathlib.Nat.{le-of-suc-le-suc, not-suc-le-zero}
 use native.Mathlib.Numerals.{add-one}
 use native.Mathlib.Omega.{arith}
 use lib.ListN.{List·getD-eq-default, drop, getD, length, length-append, length-drop, length-take, take}
-use lib.Seq.{drop-append-le, drop-drop, take-append-le, take-at, take-length, take-nil, take-take}
+use lib.Seq.{drop-append-le, drop-drop, take-append-le, take-at, take-length, take-take}
+use Rattle.base.proofs.Lists.{take-drop}
 use Rattle.base.proofs.Reflect.{refuted}
-use Rattle.record.specs.Codec.{jobOf, recordSize}
-use Rattle.ledger.proofs.Gates.{reflect-booked}
+use Rattle.codec.specs.Codec.{jobOf, recordSize}
+use Rattle.journal.proofs.Booked.{reflect-booked}
 use Rattle.ledger.specs.Demand3.{recordsIn}
-use Rattle.ledger.specs.Journal.{isBooked, jobAt, putAt, recordAt, slotAt}
+use Rattle.journal.specs.Journal.{isBooked, jobAt, putAt, recordAt, slotAt}
 use Rattle.ledger.specs.Register.{tabled}
 use Rattle.ledger.specs.Worlds.{lend, overlay}
-
-pub take-drop : (m r : ℕ) (l : List ℕ) → take r (drop m l) ≡ drop m (take (m + r) l)
-take-drop zero r l = rw zero-add
-take-drop (suc m) r [] = take-nil r ∙ sym (ap (drop (suc m)) (take-nil (suc m + r)))
-take-drop (suc m) r (x ∷ l) = rw suc-add (take-drop m r l)
 
 -- ---- the lent journal and the booked bytes
 prefix : (c size : ℕ) (bs xs : List ℕ) → c ≤ length bs → c ≤ length (lend bs size xs) → take c (lend bs size xs) ≡ take c bs

@@ -1,6 +1,5 @@
 -- Checks 11 to 16 decide what specs/Meaning.antt says of them, and checks 11 to 14 pass exactly where the paper's Algorithm 1 with
 -- document 01's mends signs, of a job that passes 6 to 9. The searches over the booked jobs are read as creators and consumers.
--- Assumes nothing.
 use mathlib.Core.Bool.{Bool, cond, false, true}
 use mathlib.Core.Path.{_≡_, refl}
 use Prim.Native.Nat.{_<_, ℕ}
@@ -15,18 +14,17 @@ use Rattle.outcome.specs.declared.Refusal.the-variants.{InputReserved, NotCreat
 use Rattle.outcome.specs.declared.Verdict.{Verdict}
 use Rattle.outcome.specs.declared.Verdict.the-variants.{Fail, Pass}
 use Rattle.record.proofs.Meaning.{reflect-used}
-use Rattle.record.proofs.Tapes.{label-listed, listed-label, made-tape, tape-made}
-use Rattle.record.specs.Conflicts.{labelIn, makesTape}
+use Rattle.conflicts.proofs.Tapes.{label-listed, listed-label, made-tape, tape-made}
+use Rattle.conflicts.specs.Conflicts.{labelIn, makesTape}
 use Rattle.record.specs.Entries.{framesOf, labelOf}
-use Rattle.record.specs.Meaning.{Nowhere}
+use Rattle.checks.specs.Meaning.{Nowhere}
 use Rattle.record.specs.declared.Entry.{Entry}
 use Rattle.record.specs.declared.Job.{Job}
 use Rattle.sets.specs.Jobs.{jobHas}
 use Rattle.sets.specs.declared.job_set.JobSet.{JobSet}
-use Rattle.ledger.specs.Admission.{admission, consumedAt, listedBy, listsAt, madeBefore, madeBy, makesAt, notCreatedAt, remadeAt}
+use Rattle.index.specs.Admission.{admission, consumedAt, listedBy, listsAt, madeBefore, madeBy, makesAt, notCreatedAt, remadeAt}
 use Rattle.ledger.specs.Graph.{Creator, Lister}
 use Rattle.ledger.specs.Meaning.{Admission, ConsumedAt, NotCreatedAt, RemadeAt, admitted, consumed, missing, remade, reserved}
-use Rattle.ledger.specs.Steps.{held}
 
 module _ (job : ℕ → Job) (booked : ℕ) where
   -- ---- the searches

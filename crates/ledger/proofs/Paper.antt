@@ -1,6 +1,5 @@
 -- Checks 11 to 14 are what the paper's Algorithm 1 asks, with document 01's mends: of a job that passes 6 to 9 they pass exactly where
 -- it signs. The entries are read as the lists of tapes that the paper's In and Out are.
--- Assumes nothing.
 use mathlib.Core.List.{List, _++_}
 use mathlib.Core.Logic.{_⊎_, inl, inr, ⊎-elim}
 use mathlib.Core.Path.{_∙_, _≡_, ap, subst, sym}
@@ -13,19 +12,19 @@ use Rattle.base.specs.Lists.{Distinct, In}
 use Rattle.outcome.specs.declared.Verdict.{Verdict}
 use Rattle.outcome.specs.declared.Verdict.the-variants.{Pass}
 use Rattle.record.proofs.Meaning.{reflect-used}
-use Rattle.record.proofs.Tapes.{at-used, checked-sound, used-at}
-use Rattle.record.specs.Checks.{checkOf}
+use Rattle.conflicts.proofs.Tapes.{at-used, checked-well-formed, used-at}
+use Rattle.checks.specs.Checks.{checkOf}
 use Rattle.record.specs.Entries.{framesOf, labelOf}
-use Rattle.record.specs.Meaning.{Nowhere, Used}
-use Rattle.record.specs.Tapes.{inputTapes, labels, outputTapes}
+use Rattle.checks.specs.Meaning.{Nowhere}
+use Rattle.record.specs.Meaning.{Used}
+use Rattle.conflicts.specs.Tapes.{inputTapes, labels, outputTapes}
 use Rattle.record.specs.declared.Entry.{Entry}
 use Rattle.record.specs.declared.Job.{Job}
 use Rattle.sets.specs.declared.job_set.JobSet.{JobSet}
 use Rattle.ledger.proofs.Meaning.{admission-answers, answers-admission, reflect-made}
-use Rattle.ledger.specs.Admission.{admission}
+use Rattle.index.specs.Admission.{admission}
 use Rattle.ledger.specs.Graph.{Algorithm1, Consumer, Creator, Maker, Unblocked}
 use Rattle.ledger.specs.Meaning.{Admission, ConsumedAt, NotCreatedAt, RemadeAt, admitted, consumed, missing, remade, reserved}
-use Rattle.ledger.specs.Steps.{held}
 
 module _ (job : ℕ → Job) (booked : ℕ) (held others : JobSet) (j : Job) where
   -- the place of an input tape, and of an output's label
@@ -82,7 +81,7 @@ module _ (job : ℕ → Job) (booked : ℕ) (held others : JobSet) (j : Job) whe
   -- checks 11 to 14 pass exactly where Algorithm 1 signs
   pub admission-signs : checkOf j ≡ Pass → admission job booked held others j ≡ Pass → Algorithm1 job booked held others j
   admission-signs h e =
-      let s = checked-sound j h in
+      let s = checked-well-formed j h in
       let u = admission-unblocked e in
       let d : Distinct (labels (inputTapes j) ++ labels (outputTapes j)) =
       subst (λ (l : List ℕ). Distinct l) (map-append (λ (t : Entry). t .label) (inputTapes j) (outputTapes j)) (s .distinct) in

@@ -1,85 +1,114 @@
--- Where a proposed record goes, taken apart: what holds where it is known and where it is new.
--- Assumes nothing.
-use mathlib.Core.Bool.{Bool, cond, false, true, true≢false}
+-- What is decided on a proposal, taken apart: one case for each of its answers, and no other answer is meant.
+use mathlib.Core.Bool.{Bool, _&&_, cond, false, true, true≢false}
 use mathlib.Core.List.{List}
-use mathlib.Core.Path.{_∙_, _≡_, ap, refl}
-use Prim.Native.Nat.{_<_, ℕ}
+use mathlib.Core.Logic.{_⊎_, inl, inr, ⊎-elim}
+use mathlib.Core.Path.{_≡_, refl}
+use Prim.Native.Nat.{_*_, _+_, _<_, _≤_, ℕ}
 use native.Mathlib.Omega.{arith}
 use lib.Dec.{ltb}
 use lib.ListN.{length}
-use borrow.Author.Tests.{eqb-true, ltb-false, ltb-true}
-use Rattle.base.proofs.Reflect.{and-true}
-use Rattle.outcome.specs.declared.Refusal.{Refusal}
-use Rattle.outcome.specs.declared.Refusal.the-variants.{Full}
+use borrow.Author.Tests.{eqb-true, lt-ltb, ltb-false, ltb-true}
+use Rattle.base.proofs.Lists.{reflect-same}
+use Rattle.base.proofs.Reflect.{and-true, not-true-false, refuted, refutes}
+use Rattle.base.proofs.Search.{first-complete, first-end-complete, first-end-sound, first-sound, found-none, unfound}
+use Rattle.base.specs.Reflect.{Reflects}
+use Rattle.base.specs.Search.{Least}
+use Rattle.outcome.specs.declared.Refusal.the-variants.{Settings as BadSettings}
 use Rattle.outcome.specs.declared.Verdict.{Verdict}
 use Rattle.outcome.specs.declared.Verdict.the-variants.{Fail, Pass}
-use Rattle.record.proofs.Numbers.{room}
-use Rattle.record.specs.Checks.{examined}
-use Rattle.record.specs.Codec.{recordSize}
-use Rattle.record.specs.Meaning.{passes}
+use Rattle.checks.specs.Checks.{examined}
+use Rattle.codec.specs.Codec.{recordSize}
+use Rattle.journal.specs.Journal.{capacity, equalAt, equalIn, hasRoom, insideOf, slotAt, slots}
 use Rattle.ledger.proofs.Gates.{passed-test, reflect-sane}
-use Rattle.ledger.specs.Journal.{capacity, equalIn, hasRoom, insideOf, slots}
-use Rattle.ledger.specs.Meaning.{KnownAt, NewAt}
+use Rattle.ledger.specs.Decisions.{gated, placing, proposal, settling}
+use Rattle.ledger.specs.Meaning.{KnownAt, NewAt, Proposed, Sane, Unknown, failed, full, insane, known, new}
 use Rattle.ledger.specs.State.{isSane}
-use Rattle.ledger.specs.Steps.{newPlace, placeOf, placed}
+use Rattle.ledger.specs.Steps.{proposeDecision, saneGate}
+use Rattle.ledger.specs.declared.Decision.{Decision}
 use Rattle.ledger.specs.declared.Ledger.{Ledger}
-use Rattle.ledger.specs.declared.Place.{Place}
-use Rattle.ledger.specs.declared.Place.the-variants.{Known, New, Turned}
-
-abbrev isTurned : Place → Bool
-isTurned (Known k) = false
-isTurned New = false
-isTurned (Turned why) = true
-
--- a place that is no refusal comes from checks that pass
-placed-as : (s : Bool) (v : Verdict) (p q : Place) (why : Refusal) → isTurned q ≡ false → cond s (placed v p) (Turned why) ≡ q
-    → (s ≡ true) × ((v ≡ Pass) × (p ≡ q))
-placed-as true Pass p q why t e = (refl, (refl, e))
-placed-as true (Fail r) p q why t e = absurd (true≢false (ap isTurned e ∙ t))
-placed-as false v p q why t e = absurd (true≢false (ap isTurned e ∙ t))
-
-known-at : (a b : Bool) (e k : ℕ) → cond a (Known e) (cond b New (Turned Full)) ≡ Known k → (a ≡ true) × (e ≡ k)
-known-at true b e k h = (refl, cc)
-known-at false true e k h = let z : _≡_ {A = ℕ} 0 1 = cc in absurd (omega arith)
-known-at false false e k h = let z : _≡_ {A = ℕ} 0 1 = cc in absurd (omega arith)
-
-new-at : (a b : Bool) (e : ℕ) → cond a (Known e) (cond b New (Turned Full)) ≡ New → (a ≡ false) × (b ≡ true)
-new-at true b e h = let z : _≡_ {A = ℕ} 0 1 = cc in absurd (omega arith)
-new-at false true e h = (refl, refl)
-new-at false false e h = let z : _≡_ {A = ℕ} 0 1 = cc in absurd (omega arith)
 
 pub examined-length : (bytes : List ℕ) → examined bytes ≡ Pass → length bytes ≡ recordSize
 unfolding examined
 examined-length bytes e = eqb-true _ _ (passed-test _ _ _ e)
 
 module _ (l : Ledger) (journal bytes : List ℕ) where
-  pub placed-known : (k : ℕ) → placeOf l journal bytes ≡ Known k → KnownAt l journal bytes k
-  unfolding placeOf newPlace
-  placed-known k e =
-      let h = placed-as (isSane l) (examined bytes) _ (Known k) _ refl e in
-      let f = known-at (ltb (equalIn journal (l .booked) bytes) (insideOf journal (l .booked))) (hasRoom journal (l .booked)) _ _ (h .1 .1) in
-      record {
-        sane = reflect-sane l .sound (h .0);
-        passes = h .1 .0;
-        found = f .1;
-        inside = omega (arith, f .1, ltb-true (equalIn journal (l .booked) bytes) (insideOf journal (l .booked)) (f .0));
-      }
+  same-at : (i : ℕ) → i < insideOf journal (l .booked) → Reflects (equalAt journal bytes i) (slotAt journal i ≡ bytes)
+  unfolding equalAt
+  same-at i h = reflect-same (slotAt journal i) bytes
 
-  pub placed-new : placeOf l journal bytes ≡ New → NewAt l journal bytes
-  unfolding placeOf newPlace hasRoom
-  placed-new e =
-      let h = placed-as (isSane l) (examined bytes) _ New _ refl e in
-      let f = new-at (ltb (equalIn journal (l .booked) bytes) (insideOf journal (l .booked))) (hasRoom journal (l .booked)) _ (h .1 .1) in
-      let room = and-true _ _ (f .1) in
-      record {
-        sane = reflect-sane l .sound (h .0);
-        passes = h .1 .0;
-        unknown = ltb-false _ _ (f .0);
-        below = ltb-true _ _ (room .0);
-        fits = omega (arith, ltb-true (l .booked) (slots journal) (room .1));
-      }
+  abbrev equal : ℕ
+  equal = equalIn journal (l .booked) bytes
 
-  -- a booked number is below the capacity
-  pub known-fits : (k : ℕ) → KnownAt l journal bytes k → k < capacity
-  unfolding insideOf
-  known-fits k h = omega (arith, h .inside, h .sane .booked)
+  abbrev inside : ℕ
+  inside = insideOf journal (l .booked)
+
+  found : ltb equal inside ≡ true → Least inside (λ i. slotAt journal i ≡ bytes) equal
+  unfolding equalIn
+  found e = first-sound inside same-at equal (ltb-true _ _ e) refl
+
+  none : ltb equal inside ≡ false → Unknown l journal bytes
+  unfolding equalIn
+  none e = first-end-sound inside same-at (unfound (equalAt journal bytes) inside e)
+
+  room : hasRoom journal (l .booked) ≡ true → (l .booked < capacity) × (recordSize * l .booked + recordSize ≤ length journal)
+  unfolding hasRoom
+  room e = let r = and-true _ _ e in (ltb-true _ _ (r .0), omega (arith, ltb-true (l .booked) (slots journal) (r .1)))
+
+  no-room : hasRoom journal (l .booked) ≡ false → (capacity ≤ l .booked) ⊎ (length journal < recordSize * l .booked + recordSize)
+  unfolding hasRoom
+  no-room e = by (ltb (l .booked) capacity) refl (ltb (l .booked) (slots journal)) refl e
+    where
+      by : (a : Bool) → ltb (l .booked) capacity ≡ a → (b : Bool) → ltb (l .booked) (slots journal) ≡ b → (a && b) ≡ false
+          → (capacity ≤ l .booked) ⊎ (length journal < recordSize * l .booked + recordSize)
+      by false p b q h = inl (ltb-false _ _ p)
+      by true p true q h = absurd (true≢false h)
+      by true p false q h = inr (omega (arith, ltb-false (l .booked) (slots journal) q))
+
+  placed : Sane l → examined bytes ≡ Pass → Proposed l journal bytes (placing equal inside (l .booked) (hasRoom journal (l .booked)))
+  unfolding placing
+  placed s p = by (ltb equal inside) refl (hasRoom journal (l .booked)) refl
+    where
+      by : (a : Bool) → ltb equal inside ≡ a → (b : Bool) → hasRoom journal (l .booked) ≡ b
+          → Proposed l journal bytes (placing equal inside (l .booked) (hasRoom journal (l .booked)))
+      by true e b f = simp e (known equal (record { sane = s; passes = p; first = found e }))
+      by false e true f = simp (e, f) (new (record { sane = s; passes = p; unknown = none e; below = room f .0; fits = room f .1 }))
+      by false e false f = simp (e, f) (full (record { sane = s; passes = p; unknown = none e; full = no-room f }))
+
+  pub proposed : Proposed l journal bytes (proposeDecision l journal bytes)
+  unfolding proposeDecision saneGate proposal settling
+  proposed = by (isSane l) refl (examined bytes) refl
+    where
+      by : (a : Bool) → isSane l ≡ a → (v : Verdict) → examined bytes ≡ v
+          → Proposed l journal bytes (gated (cond a Pass (Fail BadSettings)) (gated v (placing equal inside (l .booked) (hasRoom journal (l .booked)))))
+      by true e Pass f = placed (reflect-sane l .sound e) f
+      by true e (Fail why) f = failed why (reflect-sane l .sound e) f
+      by false e v f = insane (refuted (reflect-sane l) e)
+
+  -- and no other answer is meant
+  past : Unknown l journal bytes → ltb equal inside ≡ false
+  unfolding equalIn
+  past u = found-none (equalAt journal bytes) inside (first-end-complete inside same-at u)
+
+  filled : (capacity ≤ l .booked) ⊎ (length journal < recordSize * l .booked + recordSize) → hasRoom journal (l .booked) ≡ false
+  unfolding hasRoom
+  filled h = not-true-false (ltb (l .booked) capacity && ltb (l .booked) (slots journal)) (λ e.
+      let r = and-true _ _ e in
+      let a : l .booked < capacity = ltb-true _ _ (r .0) in
+      let b : l .booked < slots journal = ltb-true _ _ (r .1) in
+      ⊎-elim (λ (x : capacity ≤ l .booked). omega arith) (λ (x : length journal < recordSize * l .booked + recordSize). omega arith) h)
+
+  roomy : NewAt l journal bytes → hasRoom journal (l .booked) ≡ true
+  unfolding hasRoom
+  roomy h = simp (lt-ltb _ _ (h .below), lt-ltb (l .booked) (slots journal) (omega (arith, h .fits)))
+
+  at : (k : ℕ) → KnownAt l journal bytes k → equal ≡ k
+  unfolding equalIn
+  at k h = first-complete inside same-at k (h .first)
+
+  pub means : (d : Decision) → Proposed l journal bytes d → proposeDecision l journal bytes ≡ d
+  unfolding proposeDecision saneGate proposal settling placing
+  means d (insane n) = simp (refutes (reflect-sane l) n)
+  means d (failed why s e) = simp (reflect-sane l .complete s, e)
+  means d (known k h) = simp (reflect-sane l .complete (h .sane), h .passes, at k h, lt-ltb k inside (h .first .below))
+  means d (new h) = simp (reflect-sane l .complete (h .sane), h .passes, past (h .unknown), roomy h)
+  means d (full h) = simp (reflect-sane l .complete (h .sane), h .passes, past (h .unknown), filled (h .full))

@@ -1,5 +1,4 @@
 -- A sane ledger never answers 1: every other refusal has another number, whatever the checks find.
--- Assumes nothing.
 use mathlib.Core.Bool.{Bool, Bool·beq, cond, false, true, true≢false}
 use mathlib.Core.List.{List}
 use mathlib.Core.Path.{_∙_, _≡_, ap, refl, sym}
@@ -16,26 +15,28 @@ use Rattle.outcome.specs.declared.Refusal.{Refusal}
 use Rattle.outcome.specs.declared.Refusal.the-variants.{Full, InputReserved, Malformed, NoVault, NotBooked, NotCreated, NotHeld, NotSigned, OutputReserved, Repeated, Retired, TooFewSigners, Unbalanced, Unsupported, WrongVault}
 use Rattle.outcome.specs.declared.Verdict.{Verdict}
 use Rattle.outcome.specs.declared.Verdict.the-variants.{Fail, Pass}
-use Rattle.record.specs.Checks.{balanced, checkOf, examined, repeatedAt, unsupportedAt, wellFormed}
-use Rattle.record.specs.Codec.{jobOf, recordSize}
-use Rattle.record.specs.Meaning.{repeated, unsupported}
+use Rattle.checks.specs.Checks.{balanced, checkOf, examined, repeatedAt, unsupportedAt, wellFormed}
+use Rattle.codec.specs.Codec.{jobOf, recordSize}
+use Rattle.checks.specs.Meaning.{repeated, unsupported}
 use Rattle.record.specs.declared.Job.{Job}
-use Rattle.sets.specs.Bits.{hasBit, subsetOf}
+use Rattle.sets.specs.Bits.{hasBit, subsetOf, withMember}
 use Rattle.sets.specs.Jobs.{jobHas}
 use Rattle.sets.specs.declared.job_set.JobSet.{JobSet}
-use Rattle.ledger.specs.Admission.{admission, consumedAt, notCreatedAt, remadeAt}
-use Rattle.ledger.specs.Federation.{thresholdOf}
-use Rattle.ledger.specs.Generations.{ageOf, generationsOf, isHeld}
-use Rattle.ledger.specs.Journal.{equalIn, hasRoom, insideOf, isBooked}
+use Rattle.index.specs.Admission.{admission, consumedAt, notCreatedAt, remadeAt}
+use Rattle.federation.specs.Federation.{thresholdOf}
+use Rattle.federation.specs.declared.Settings.{Settings}
+use Rattle.journal.specs.Journal.{isBooked}
 use Rattle.ledger.specs.Meaning.{missing, remade, reserved}
-use Rattle.ledger.specs.State.{acknowledged, countersigned, holdersOf, isSane, signersOf, vaultAt, withVault}
-use Rattle.ledger.specs.Steps.{andThen, answered, bookedGate, certificate, commitChecks, commitOf, committed, consulted, faultyAcknowledgeOf, faultySignOf, held, newPlace, placeOf, placed, preflightOf, preflighted, proposeOf, proposed, settle, showOf, shown, statusOf, vaultGate}
-use Rattle.ledger.specs.Vaults.{admissionAt, consented, signing, vaultPreflight}
+use Rattle.ledger.specs.State.{isSane}
+use Rattle.ledger.specs.Decisions.{ageing, certificate, committing, consent, consenting, gated, placing, preflighting, proposal, receiving, settling}
+use Rattle.ledger.specs.Steps.{bookedGate, commitDecision, faultyAcknowledgeDecision, faultySignDecision, gateOf, generationsDecision, preflightDecision, proposeDecision, saneGate, showDecision, vaultGate}
+use Rattle.ledger.specs.Vaults.{admissionAt, consented, vaultPreflight}
 use Rattle.ledger.specs.Worlds.{Request, commit, faultyAcknowledge, faultySign, generations, preflight, propose, show, stepOf}
+use Rattle.ledger.specs.declared.Consent.the-variants.{Already}
+use Rattle.ledger.specs.declared.Decision.{Decision}
 use Rattle.ledger.specs.declared.Ledger.{Ledger}
-use Rattle.ledger.specs.declared.Place.{Place}
-use Rattle.ledger.specs.declared.Place.the-variants.{Known, New, Turned}
-use Rattle.ledger.specs.declared.Reply.{Reply}
+use Rattle.ledger.specs.declared.Signing.{Signing}
+use Rattle.ledger.specs.declared.Vault.{Vault}
 
 abbrev verdictNumber : Verdict → ℕ
 verdictNumber Pass = 0
@@ -64,9 +65,14 @@ choose : (b : Bool) (x y : Verdict) → NotOne x → NotOne y → NotOne (cond b
 choose true x y p q = p
 choose false x y p q = q
 
-both : (a b : Verdict) → NotOne a → NotOne b → NotOne (andThen a b)
-both Pass b p q = q
-both (Fail why) b p q = p
+-- a decision behind a row of checks
+behind : (g : Verdict) (d : Decision) → NotOne g → Fine (d .outcome) → Fine (gated g d .outcome)
+behind Pass d p q = q
+behind (Fail why) d p q = refuses why p
+
+either : (b : Bool) (d e : Decision) → Fine (d .outcome) → Fine (e .outcome) → Fine (cond b d e .outcome)
+either true d e p q = p
+either false d e p q = q
 
 -- ---- the rows of checks
 checked : (j : Job) → NotOne (checkOf j)
@@ -96,11 +102,11 @@ admits job booked held others j =
     (choose (ltb reserved 8) _ _ (fails (InputReserved reserved) refl)
     (choose (ltb remade 8) _ _ (fails (OutputReserved remade) refl) pass)))
 
-certifies : (l : Ledger) (k signers : ℕ) → NotOne (certificate l k signers)
+certifies : (s : Settings) (recorded signers : ℕ) → NotOne (certificate s recorded signers)
 unfolding certificate
-certifies l k signers =
-    choose (subsetOf signers (signersOf l k)) _ _
-    (choose (leb (thresholdOf (l .settings)) (ones signers)) _ _ pass (fails TooFewSigners refl))
+certifies s recorded signers =
+    choose (subsetOf signers recorded) _ _
+    (choose (leb (thresholdOf s) (ones signers)) _ _ pass (fails TooFewSigners refl))
     (fails NotSigned refl)
 
 module _ (l : Ledger) (journal : List ℕ) (sane : isSane l ≡ true) where
@@ -112,71 +118,51 @@ module _ (l : Ledger) (journal : List ℕ) (sane : isSane l ≡ true) where
   gate k = rw sane (booked-or k)
 
   vault-gate : (v k : ℕ) (faulty : Bool) → NotOne (vaultGate l journal v k faulty)
-  unfolding vaultGate
+  unfolding vaultGate gateOf
   vault-gate v k faulty =
       rw sane
       (choose (ltb v (l .settings .n)) _ _
       (choose (Bool·beq (hasBit (l .settings .faulty) v) faulty) _ _ (booked-or k) (fails WrongVault refl))
       (fails NoVault refl))
 
-  settles : (v : Verdict) (r : Reply) → NotOne v → Fine (r .outcome) → Fine (settle v r l .outcome)
-  settles Pass r p q = q
-  settles (Fail why) r p q = refuses why p
+  sane-gate : NotOne (saneGate l)
+  unfolding saneGate
+  sane-gate = rw sane pass
 
-  shows : (v : Verdict) (o : Outcome) → NotOne v → Fine o → Fine (shown v o)
-  shows Pass o p q = q
-  shows (Fail why) o p q = refuses why p
+  -- ---- what is decided behind them
+  places : (equal inside booked : ℕ) (room : Bool) → Fine (placing equal inside booked room .outcome)
+  unfolding placing
+  places equal inside booked room = either (ltb equal inside) _ _ (done equal) (either room _ _ (done booked) (refuses Full (fails Full refl)))
 
-  -- ---- what passes them
-  places : (p : Place) (d : Verdict) → NotOne d → Fine (proposed p l .outcome) → Fine (proposed (placed d p) l .outcome)
-  places p Pass n f = f
-  places p (Fail why) n f = refuses why n
-
-  new-place : (a b : Bool) (e : ℕ) → Fine (proposed (cond a (Known e) (cond b New (Turned Full))) l .outcome)
-  new-place true b e = done e
-  new-place false true e = done (l .booked)
-  new-place false false e = refuses Full (fails Full refl)
-
-  consents : (v k : ℕ) (d : Verdict) → NotOne d → Fine (preflighted (consented d (vaultAt l v) k .consent) (consented d (vaultAt l v) k .vault) l v k .outcome)
-  consents v k Pass n = done (ones (signersOf (countersigned (withVault l v (signing (vaultAt l v) k)) v k) k))
-  consents v k (Fail why) n = refuses why n
-
-  consults : (v k : ℕ) → Fine (consulted l journal v k .outcome)
-  unfolding consulted vaultPreflight admissionAt
-  consults v k = by (jobHas (vaultAt l v .signed) k) refl
+  consents : (state : Vault) (d : Verdict) (signers v k : ℕ) → NotOne d → Fine (consent state d signers v k .outcome)
+  unfolding consent vaultPreflight
+  consents state d signers v k n = by (jobHas (state .signed) k) d n
     where
-      by : (b : Bool) → jobHas (vaultAt l v .signed) k ≡ b → Fine (consulted l journal v k .outcome)
-      by true e = simp (e) (done (ones (signersOf l k)))
-      by false e = simp (e) (consents v k (admissionAt (vaultAt l v) journal (l .booked) k) (admits _ _ _ _ _))
+      by : (b : Bool) (d : Verdict) → NotOne d
+          → let answer : Signing = cond b (record { consent = Already; vault = state }) (consented d state k) in
+          Fine (consenting (answer .consent) (answer .vault) signers v .outcome)
+      by true d n = done (ones signers)
+      by false Pass n = done (ones (withMember 16 signers v))
+      by false (Fail why) n = refuses why n
 
-  commits : (v k : ℕ) → Fine (committed l v k .outcome)
-  unfolding committed
-  commits v k = by (jobHas (vaultAt l v .held) k)
-    where
-      by : (b : Bool) → Fine (cond b (answered (ones (holdersOf l k)) l) (answered (ones (holdersOf (held l v k) k)) (held l v k)) .outcome)
-      by true = done (ones (holdersOf l k))
-      by false = done (ones (holdersOf (held l v k) k))
+  receives : (state : Vault) (acknowledgers v k : ℕ) → Fine (receiving state acknowledgers v k .outcome)
+  unfolding receiving
+  receives state acknowledgers v k = either (jobHas (state .held) k) _ _ (done (ones acknowledgers)) (done (ones (withMember 16 acknowledgers v)))
 
-  held-or : (b : Bool) (x : ℕ) → Fine (cond b (Done x) (Refused NotHeld))
-  held-or true x = done x
-  held-or false x = refuses NotHeld (fails NotHeld refl)
+  ages : (b : Bool) (age : ℕ) → Fine (ageing b age .outcome)
+  unfolding ageing
+  ages b age = either b _ _ (done age) (refuses NotHeld (fails NotHeld refl))
 
   fine : (q : Request) → Fine (stepOf l journal q .outcome)
-  unfolding proposeOf placeOf newPlace preflightOf commitOf commitChecks faultySignOf faultyAcknowledgeOf showOf generationsOf
-  fine (propose bytes) = rw sane (places (newPlace journal (l .booked) bytes) (examined bytes) (examines bytes)
-      (new-place (ltb (equalIn journal (l .booked) bytes) (insideOf journal (l .booked))) (hasRoom journal (l .booked)) (equalIn journal (l .booked) bytes)))
-  fine (preflight v k) = settles (vaultGate l journal v k false) (consulted l journal v k) (vault-gate v k false) (consults v k)
+  unfolding proposeDecision proposal settling preflightDecision preflighting admissionAt commitDecision committing faultySignDecision faultyAcknowledgeDecision showDecision generationsDecision
+  fine (propose bytes) = behind (saneGate l) _ sane-gate (behind (examined bytes) _ (examines bytes) (places _ _ _ _))
+  fine (preflight v k) = behind (vaultGate l journal v k false) _ (vault-gate v k false) (consents _ _ _ _ _ (admits _ _ _ _ _))
   fine (commit v k signers) =
-      settles (andThen (vaultGate l journal v k false) (certificate l k signers)) (committed l v k)
-      (both _ _ (vault-gate v k false) (certifies l k signers)) (commits v k)
-  fine (faultySign v k) =
-      settles (vaultGate l journal v k true) (answered (ones (signersOf (countersigned l v k) k)) (countersigned l v k))
-      (vault-gate v k true) (done (ones (signersOf (countersigned l v k) k)))
-  fine (faultyAcknowledge v k) =
-      settles (vaultGate l journal v k true) (answered (ones (holdersOf (acknowledged l v k) k)) (acknowledged l v k))
-      (vault-gate v k true) (done (ones (holdersOf (acknowledged l v k) k)))
-  fine (show k) = shows (bookedGate l journal k) (Done (statusOf l k)) (gate k) (done (statusOf l k))
-  fine (generations k) = shows (bookedGate l journal k) _ (gate k) (held-or (isHeld l k) (ageOf l journal k))
+      behind (vaultGate l journal v k false) _ (vault-gate v k false) (behind (certificate _ _ _) _ (certifies _ _ _) (receives _ _ _ _))
+  fine (faultySign v k) = behind (vaultGate l journal v k true) _ (vault-gate v k true) (done _)
+  fine (faultyAcknowledge v k) = behind (vaultGate l journal v k true) _ (vault-gate v k true) (done _)
+  fine (show k) = behind (bookedGate l journal k) _ (gate k) (done _)
+  fine (generations k) = behind (bookedGate l journal k) _ (gate k) (ages _ _)
 
   -- whatever the request
   pub never-one : (q : Request) → numberOf (stepOf l journal q .outcome) ≡ 1 → ⊥

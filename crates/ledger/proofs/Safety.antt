@@ -1,7 +1,6 @@
 -- The invariant of the vaults: what a correct vault signed never conflicts, each input of what it signed was made by a job that it holds,
 -- and what is held was signed by a quorum. It is stated over the relations alone (who holds, signed, has its signature or
 -- acknowledgement recorded), so a change is one more pair in one of them. Two quorums share a correct vault, so no two held jobs conflict.
--- Assumes nothing.
 use mathlib.Core.Bool.{Bool, true}
 use mathlib.Core.Logic.{_≢_, _⊎_, inl, inr, ⊎-elim}
 use mathlib.Core.Path.{_∙_, _≡_, sym}
@@ -10,17 +9,15 @@ use native.Mathlib.Nat.{le-trans}
 use native.Mathlib.Omega.{arith}
 use lib.Count.{ones}
 use Rattle.base.specs.Lists.{In}
-use Rattle.record.specs.Tapes.{inputTapes, outputTapes}
+use Rattle.conflicts.specs.Tapes.{inputTapes, outputTapes}
 use Rattle.record.specs.declared.Entry.{Entry}
 use Rattle.record.specs.declared.Job.{Job}
 use Rattle.sets.proofs.Quorum.{quorums-meet}
 use Rattle.sets.specs.Bits.{hasBit}
 use Rattle.ledger.proofs.Views.{Grown}
 use Rattle.ledger.specs.Demand3.{Apart, Correct}
-use Rattle.ledger.specs.Federation.{thresholdOf}
-use Rattle.ledger.specs.Meaning.{Lawful}
-use Rattle.ledger.specs.Steps.{held}
-use Rattle.ledger.specs.declared.Settings.{Settings}
+use Rattle.federation.specs.Federation.{Lawful, thresholdOf}
+use Rattle.federation.specs.declared.Settings.{Settings}
 
 pub apart-sym : {a c : Job} → Apart a c → Apart c a
 apart-sym h = record { inputs = λ x m n. h .inputs x n m; outputs = λ x m n. h .outputs x n m }

@@ -1,71 +1,93 @@
--- "A refusal alters no set, book or order": whatever the state, the journal and the request, a step that is refused leaves the ledger and
--- the journal as they were.
--- Assumes nothing.
+-- "A refusal alters no set, book or order": whatever the state, the journal and the request, a step that is refused decides that nothing
+-- changes, so it leaves the ledger and the journal as they were.
 use mathlib.Core.Bool.{Bool, cond, false, true, true≢false}
 use mathlib.Core.List.{List}
 use mathlib.Core.Path.{_≡_, refl}
 use Prim.Native.Nat.{ℕ}
 use lib.Count.{ones}
+use lib.Dec.{ltb}
 use Rattle.outcome.specs.declared.Outcome.the-variants.{Done}
+use Rattle.outcome.specs.declared.Refusal.the-variants.{Full, NotHeld}
 use Rattle.outcome.specs.declared.Verdict.{Verdict}
 use Rattle.outcome.specs.declared.Verdict.the-variants.{Fail, Pass}
+use Rattle.checks.specs.Checks.{examined}
 use Rattle.sets.specs.Jobs.{jobHas}
+use Rattle.ledger.specs.Decisions.{ageing, answering, certificate, committing, consent, consenting, gated, placing, preflighting, proposal, receiving, refusing, settling}
 use Rattle.ledger.specs.Register.{isDone}
-use Rattle.ledger.specs.State.{acknowledged, countersigned, holdersOf, signersOf, vaultAt, withVault}
-use Rattle.ledger.specs.Steps.{answered, commitChecks, commitOf, committed, consulted, faultyAcknowledgeOf, faultySignOf, held, journalAfter, journalWith, placeOf, preflightOf, preflighted, proposeOf, proposed, settle, vaultGate}
+use Rattle.ledger.specs.State.{applied}
+use Rattle.ledger.specs.Steps.{bookedGate, commitDecision, faultyAcknowledgeDecision, faultySignDecision, generationsDecision, journalAfter, preflightDecision, proposeDecision, saneGate, showDecision, vaultGate}
 use Rattle.ledger.specs.Vaults.{vaultPreflight}
-use Rattle.ledger.specs.Worlds.{Request, commit, faultyAcknowledge, faultySign, generations, leftBy, preflight, propose, show, stepOf}
+use Rattle.ledger.specs.Worlds.{Request, commit, decisionOf, faultyAcknowledge, faultySign, generations, leftBy, preflight, propose, show, stepOf}
+use Rattle.ledger.specs.declared.Change.{Change}
+use Rattle.ledger.specs.declared.Change.the-variants.{Book, Nothing}
 use Rattle.ledger.specs.declared.Consent.{Consent}
 use Rattle.ledger.specs.declared.Consent.the-variants.{Already, Denied, Fresh}
+use Rattle.ledger.specs.declared.Decision.{Decision}
 use Rattle.ledger.specs.declared.Ledger.{Ledger}
-use Rattle.ledger.specs.declared.Place.{Place}
-use Rattle.ledger.specs.declared.Place.the-variants.{Known, New, Turned}
-use Rattle.ledger.specs.declared.Reply.{Reply}
-use Rattle.ledger.specs.declared.Signing.{Signing}
 use Rattle.ledger.specs.declared.Vault.{Vault}
 
-settled : (l : Ledger) (v : Verdict) (r : Reply) → (isDone (r .outcome) ≡ false → r .ledger ≡ l)
-    → isDone (settle v r l .outcome) ≡ false → settle v r l .ledger ≡ l
-settled l Pass r h e = h e
-settled l (Fail why) r h e = refl
+-- a decision that changes nothing where it refuses
+pub record Quiet (d : Decision) : Type 0 where
+  pub refused : isDone (d .outcome) ≡ false → d .change ≡ Nothing
+
+quiet : (d : Decision) → d .change ≡ Nothing → Quiet d
+quiet d e = record { refused = λ r. e }
 
 -- what is carried out is not refused
-carried : {A : Type 0} (value : ℕ) → isDone (Done value) ≡ false → A
-carried value e = absurd (true≢false e)
+done : (value : ℕ) (c : Change) → Quiet (record { outcome = Done value; change = c })
+done value c = record { refused = λ r. absurd (true≢false r) }
+
+behind : (g : Verdict) (d : Decision) → Quiet d → Quiet (gated g d)
+behind Pass d q = q
+behind (Fail why) d q = quiet (refusing why) refl
+
+either : (b : Bool) (d e : Decision) → Quiet d → Quiet e → Quiet (cond b d e)
+either true d e p q = p
+either false d e p q = q
+
+placed : (equal inside booked : ℕ) (room : Bool) → Quiet (placing equal inside booked room)
+unfolding placing
+placed equal inside booked room =
+    either (ltb equal inside) _ _ (quiet (answering equal) refl) (either room _ _ (done booked Book) (quiet (refusing Full) refl))
+
+consents : (state : Vault) (d : Verdict) (signers v k : ℕ) → Quiet (consent state d signers v k)
+unfolding consent
+consents state d signers v k = let answer = vaultPreflight state d k in by (answer .consent) (answer .vault)
+  where
+    by : (c : Consent) (next : Vault) → Quiet (consenting c next signers v)
+    by Already next = quiet (answering (ones signers)) refl
+    by Fresh next = done _ _
+    by (Denied why) next = quiet (refusing why) refl
+
+received : (state : Vault) (acknowledgers v k : ℕ) → Quiet (receiving state acknowledgers v k)
+unfolding receiving
+received state acknowledgers v k = either (jobHas (state .held) k) _ _ (quiet (answering (ones acknowledgers)) refl) (done _ _)
+
+aged : (b : Bool) (age : ℕ) → Quiet (ageing b age)
+unfolding ageing
+aged b age = either b _ _ (quiet (answering age) refl) (quiet (refusing NotHeld) refl)
 
 module _ (l : Ledger) (journal : List ℕ) where
-  placed-unchanged : (bytes : List ℕ) (p : Place) → isDone (proposed p l .outcome) ≡ false → (proposed p l .ledger ≡ l) × (journalWith p l journal bytes ≡ journal)
-  placed-unchanged bytes (Known k) e = (refl, refl)
-  placed-unchanged bytes New e = carried (l .booked) e
-  placed-unchanged bytes (Turned why) e = (refl, refl)
+  pub quiets : (q : Request) → Quiet (decisionOf l journal q)
+  unfolding proposeDecision proposal settling preflightDecision preflighting commitDecision committing faultySignDecision faultyAcknowledgeDecision showDecision generationsDecision
+  quiets (propose bytes) = behind (saneGate l) _ (behind (examined bytes) _ (placed _ _ _ _))
+  quiets (preflight v k) = behind (vaultGate l journal v k false) _ (consents _ _ _ _ _)
+  quiets (commit v k signers) = behind (vaultGate l journal v k false) _ (behind (certificate _ _ _) _ (received _ _ _ _))
+  quiets (faultySign v k) = behind (vaultGate l journal v k true) _ (done _ _)
+  quiets (faultyAcknowledge v k) = behind (vaultGate l journal v k true) _ (done _ _)
+  quiets (show k) = behind (bookedGate l journal k) _ (quiet (answering _) refl)
+  quiets (generations k) = behind (bookedGate l journal k) _ (aged _ _)
 
-  consulted-unchanged : (v k : ℕ) (s : Signing) → isDone (preflighted (s .consent) (s .vault) l v k .outcome) ≡ false → preflighted (s .consent) (s .vault) l v k .ledger ≡ l
-  consulted-unchanged v k s = by (s .consent) (s .vault)
-    where
-      by : (c : Consent) (x : Vault) → isDone (preflighted c x l v k .outcome) ≡ false → preflighted c x l v k .ledger ≡ l
-      by Already x e = refl
-      by Fresh x e = carried (ones (signersOf (countersigned (withVault l v x) v k) k)) e
-      by (Denied why) x e = refl
-
-  committed-unchanged : (v k : ℕ) → isDone (committed l v k .outcome) ≡ false → committed l v k .ledger ≡ l
-  unfolding committed
-  committed-unchanged v k = by (jobHas (vaultAt l v .held) k)
-    where
-      by : (b : Bool)
-          → isDone (cond b (answered (ones (holdersOf l k)) l) (answered (ones (holdersOf (held l v k) k)) (held l v k)) .outcome) ≡ false
-          → cond b (answered (ones (holdersOf l k)) l) (answered (ones (holdersOf (held l v k) k)) (held l v k)) .ledger ≡ l
-      by true e = refl
-      by false e = carried (ones (holdersOf (held l v k) k)) e
+  left : (q : Request) → decisionOf l journal q .change ≡ Nothing → leftBy l journal q ≡ journal
+  unfolding journalAfter
+  left (propose bytes) e = simp e
+  left (preflight v k) e = refl
+  left (commit v k signers) e = refl
+  left (faultySign v k) e = refl
+  left (faultyAcknowledge v k) e = refl
+  left (show k) e = refl
+  left (generations k) e = refl
 
   pub unchanged : (q : Request) → isDone (stepOf l journal q .outcome) ≡ false → (stepOf l journal q .ledger ≡ l) × (leftBy l journal q ≡ journal)
-  unfolding proposeOf journalAfter preflightOf consulted commitOf faultySignOf faultyAcknowledgeOf
-  unchanged (propose bytes) e = placed-unchanged bytes (placeOf l journal bytes) e
-  unchanged (preflight v k) e =
-      (settled l (vaultGate l journal v k false) (consulted l journal v k) (consulted-unchanged v k (vaultPreflight (vaultAt l v) journal (l .booked) k)) e, refl)
-  unchanged (commit v k signers) e = (settled l (commitChecks l journal v k signers) (committed l v k) (committed-unchanged v k) e, refl)
-  unchanged (faultySign v k) e =
-      (settled l (vaultGate l journal v k true) (answered (ones (signersOf (countersigned l v k) k)) (countersigned l v k)) (carried (ones (signersOf (countersigned l v k) k))) e, refl)
-  unchanged (faultyAcknowledge v k) e =
-      (settled l (vaultGate l journal v k true) (answered (ones (holdersOf (acknowledged l v k) k)) (acknowledged l v k)) (carried (ones (holdersOf (acknowledged l v k) k))) e, refl)
-  unchanged (show k) e = (refl, refl)
-  unchanged (generations k) e = (refl, refl)
+  unfolding applied
+  unchanged q e = let n = quiets q .refused e in (simp n, left q n)

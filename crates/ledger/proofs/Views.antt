@@ -1,6 +1,5 @@
 -- What each change does to the ledger, in words of which vault holds, signed and acknowledged which job. A change of one set adds one
 -- pair to one of these relations and leaves the others; one law over the list and the view says so for all of them.
--- Assumes nothing.
 use mathlib.Core.Bool.{Bool, _||_, cond, false, true}
 use mathlib.Core.List.{List, [], _++_, _∷_}
 use mathlib.Core.Logic.{_≢_, _⊎_, inl, inr, ⊎-elim}
@@ -24,7 +23,8 @@ use Rattle.sets.proofs.Jobs.{job-with-other, job-with-same}
 use Rattle.sets.specs.Bits.{hasBit, withMember}
 use Rattle.sets.specs.Jobs.{jobHas, jobWith}
 use Rattle.sets.specs.declared.job_set.JobSet.{JobSet}
-use Rattle.ledger.specs.State.{arrived, arriving, hasArrived, holdersOf, isArrival, signersOf, vaultAt}
+use Rattle.generations.specs.Generations.{isAt}
+use Rattle.ledger.specs.State.{arrived, arriving, hasArrived, acknowledgersOf, signersOf, vaultAt}
 use Rattle.ledger.specs.declared.Ledger.{Ledger}
 
 -- ---- the relations
@@ -38,7 +38,7 @@ unfoldable pub recordedAt : Ledger → ℕ → ℕ → Bool
 recordedAt l v k = hasBit (signersOf l k) v
 
 unfoldable pub ackedAt : Ledger → ℕ → ℕ → Bool
-ackedAt l v k = hasBit (holdersOf l k) v
+ackedAt l v k = hasBit (acknowledgersOf l k) v
 
 -- s′ is s and m
 pub record Plus (s s′ : ℕ → Bool) (m : ℕ) : Type 0 where
@@ -141,11 +141,11 @@ module _ (xs : List ℕ) (j v : ℕ) where
 
 -- ---- the arrival order
 module _ (l : Ledger) (job : ℕ) where
-  pub arrive-again : hasArrived l job ≡ true → arriving l job ≡ l
+  pub arrive-again : hasArrived (l .order) (l .arrivals) job ≡ true → arriving l job ≡ l
   unfolding arriving
   arrive-again e = simp e
 
-  pub arrive-first : hasArrived l job ≡ false → l .arrivals < 128 → l .arrivals < length (l .order) → arrived (arriving l job) ≡ arrived l ++ (job ∷ [])
+  pub arrive-first : hasArrived (l .order) (l .arrivals) job ≡ false → l .arrivals < 128 → l .arrivals < length (l .order) → arrived (arriving l job) ≡ arrived l ++ (job ∷ [])
   unfolding arriving
   arrive-first e h h′ = simp (e, lt-leb 128 (l .arrivals) h) (rw add-one (take-suc-set (l .order) (l .arrivals) job h′))
 
@@ -161,7 +161,7 @@ module _ (l : Ledger) (job : ℕ) where
 
   pub arrives : Arrives (arriving l job)
   unfolding arriving
-  arrives = by (hasArrived l job) (leb 128 (l .arrivals)) refl
+  arrives = by (hasArrived (l .order) (l .arrivals) job) (leb 128 (l .arrivals)) refl
     where
       by : (a b : Bool) → leb 128 (l .arrivals) ≡ b → Arrives (cond (a || b) l (record {
         settings = l .settings;
@@ -185,8 +185,8 @@ module _ (l : Ledger) (job : ℕ) where
       }
 
 -- a job has arrived exactly where it is in the list of arrivals
-pub reflect-arrived : (l : Ledger) (job : ℕ) → l .arrivals ≤ length (l .order) → Reflects (hasArrived l job) (In job (arrived l))
-unfolding hasArrived isArrival
+pub reflect-arrived : (l : Ledger) (job : ℕ) → l .arrivals ≤ length (l .order) → Reflects (hasArrived (l .order) (l .arrivals) job) (In job (arrived l))
+unfolding hasArrived isAt
 reflect-arrived l job h =
     reflect-as (reflect-any (l .arrivals) (λ i b. reflect-eq (getD (l .order) i 0) job))
     (λ s. subst (λ (x : ℕ). In x (arrived l)) (getD-take (l .arrivals) (l .order) (s .which) 0 (s .below) ∙ s .has)

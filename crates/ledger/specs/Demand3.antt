@@ -12,19 +12,23 @@ use lib.ListN.{drop, length, take}
 use Rattle.base.specs.Lists.{Distinct, In, anyIn, keepIf, total}
 use Rattle.outcome.specs.Figures.{numberOf}
 use Rattle.outcome.specs.declared.Outcome.{Outcome}
-use Rattle.record.specs.Codec.{recordSize}
-use Rattle.record.specs.Tapes.{framesIn, inputTapes, labels, outputTapes}
+use Rattle.outcome.specs.declared.Outcome.the-variants.{Refused}
+use Rattle.outcome.specs.declared.Refusal.{Refusal}
+use Rattle.outcome.specs.declared.Verdict.the-variants.{Pass}
+use Rattle.checks.specs.Checks.{examined}
+use Rattle.codec.specs.Codec.{recordSize}
+use Rattle.conflicts.specs.Tapes.{framesIn, inputTapes, labels, outputTapes}
 use Rattle.record.specs.declared.Entry.{Entry}
 use Rattle.record.specs.declared.Job.{Job}
 use Rattle.sets.specs.Bits.{hasBit}
 use Rattle.sets.specs.Jobs.{jobHas}
-use Rattle.ledger.specs.Federation.{thresholdOf}
-use Rattle.ledger.specs.Meaning.{Lawful}
+use Rattle.federation.specs.Federation.{Lawful, thresholdOf}
+use Rattle.generations.specs.Generations.{ageIn}
 use Rattle.ledger.specs.Register.{Register, accessionOf, feedAll, log, newRegister, tabled}
-use Rattle.ledger.specs.State.{arrived, holdersOf, signersOf, vaultAt}
-use Rattle.ledger.specs.Worlds.{Event, World, afterAll, outcomes, start}
+use Rattle.ledger.specs.State.{arrived, acknowledgersOf, signersOf, vaultAt}
+use Rattle.ledger.specs.Worlds.{Event, World, after, afterAll, outcomes, replyTo, start}
 use Rattle.ledger.specs.declared.Ledger.{Ledger}
-use Rattle.ledger.specs.declared.Settings.{Settings}
+use Rattle.federation.specs.declared.Settings.{Settings}
 
 -- "The others are sound": a vault below n that the faulty set does not name
 pub record Correct (s : Settings) (v : ℕ) : Type 0 where
@@ -61,6 +65,11 @@ standingAlong job ks = standingFrom job [] ks
 abbrev pub accessionedAlong : (ℕ → Job) → List ℕ → ℕ
 accessionedAlong job ks = total (λ k. accessionOf (job k)) ks
 
+-- "their labels are made": the output labels along it
+abbrev pub madeAlong : (ℕ → Job) → List ℕ → List ℕ
+madeAlong job [] = []
+madeAlong job (k ∷ ks) = labels (outputTapes (job k)) ++ madeAlong job ks
+
 -- the job k of the list made the tape, and stands before the job m in it
 pub record MadeBefore (job : ℕ → Job) (ks : List ℕ) (m : ℕ) (t : Entry) (k : ℕ) : Type 0 where
   pub earlier : List ℕ
@@ -75,8 +84,10 @@ pub record OneCreator (job : ℕ → Job) (ks : List ℕ) (m : ℕ) (t : Entry) 
   pub made : MadeBefore job ks m t creator
   pub only : (k : ℕ) → In k ks → In t (outputTapes (job k)) → k ≡ creator
 
--- ---- the statement
-pub record Holds (w : World) (r : Register) : Type 0 where
+-- ---- the statement: of the settings at the start, and of the world and the register at the end
+pub record Holds (s : Settings) (w : World) (r : Register) : Type 0 where
+  -- no step changes the settings
+  pub settings : w .ledger .settings ≡ s
   -- "the register never stops"
   pub running : r .running ≡ true
   -- jobs held and jobs taken, "compared by number and by record"
@@ -85,24 +96,34 @@ pub record Holds (w : World) (r : Register) : Type 0 where
   pub held-taken : (k : ℕ) → Held (w .ledger) k → In k (r .taken)
   pub table : r .table ≡ recordsIn (w .ledger .booked) (w .booked)
   pub records-once : Distinct (r .table)
+  pub checked : (bytes : List ℕ) → In bytes (r .table) → examined bytes ≡ Pass
   pub known : (k : ℕ) → In k (r .taken) → k < length (r .table)
   -- "each job counted once"
   pub once : Distinct (r .taken)
-  -- the tapes standing and the frames accessioned are those that are defined along the arrival order
+  -- the tapes standing, the labels made and the frames accessioned are those that are defined along the arrival order
   pub standing : r .standing ≡ standingAlong (tabled (r .table)) (arrived (w .ledger))
+  pub made : r .made ≡ madeAlong (tabled (r .table)) (arrived (w .ledger))
   pub accessioned : r .accessioned ≡ accessionedAlong (tabled (r .table)) (arrived (w .ledger))
   -- "frames standing equal frames accessioned"
   pub frames : framesIn (r .standing) ≡ r .accessioned
   -- generations rest on it
   pub creators : (k : ℕ) → In k (r .taken) → (t : Entry) → In t (inputTapes (tabled (r .table) k)) → OneCreator (tabled (r .table)) (r .taken) k t
   -- a finished job is certified
-  pub certified : (k : ℕ) → thresholdOf (w .ledger .settings) ≤ ones (holdersOf (w .ledger) k) → thresholdOf (w .ledger .settings) ≤ ones (signersOf (w .ledger) k)
+  pub certified : (k : ℕ) → thresholdOf (w .ledger .settings) ≤ ones (acknowledgersOf (w .ledger) k) → thresholdOf (w .ledger .settings) ≤ ones (signersOf (w .ledger) k)
 
 abbrev pub Demand3 : Type 0
 Demand3 =
     (n b faulty : ℕ) → Lawful (record { n = n; b = b; faulty = faulty }) → (es : List Event)
-    → Holds (afterAll (start n b faulty) es) (feedAll newRegister (log (start n b faulty) es))
+    → Holds (record { n = n; b = b; faulty = faulty }) (afterAll (start n b faulty) es) (feedAll newRegister (log (start n b faulty) es))
     × ((o : Outcome) → In o (outcomes (start n b faulty) es) → numberOf o ≡ 1 → ⊥)
+
+-- "Every other input gets the first matching refusal … and changes nothing": wherever a list has led, a refused step leaves the ledger and
+-- the booked bytes as they were
+abbrev pub RefusedUnchanged : Type 0
+RefusedUnchanged =
+    (n b faulty : ℕ) → Lawful (record { n = n; b = b; faulty = faulty }) → (es : List Event) (e : Event) (why : Refusal)
+    → replyTo (afterAll (start n b faulty) es) e .outcome ≡ Refused why
+    → after (afterAll (start n b faulty) es) e ≡ afterAll (start n b faulty) es
 
 -- ---- for readers
 
@@ -121,3 +142,22 @@ Disjoint =
     (n b faulty : ℕ) → Lawful (record { n = n; b = b; faulty = faulty }) → (es : List Event)
     → (i k : ℕ) → Held (afterAll (start n b faulty) es .ledger) i → Held (afterAll (start n b faulty) es .ledger) k → i ≢ k
     → Apart (bookedJob (afterAll (start n b faulty) es) i) (bookedJob (afterAll (start n b faulty) es) k)
+
+-- the generations of a taken job, by the creators that demand 3 speaks of
+pub record ByCreators (job : ℕ → Job) (ks : List ℕ) (age : ℕ → ℕ) (k : ℕ) : Type 0 where
+  -- "0 for an accession"
+  pub accession : ((t : Entry) → In t (inputTapes (job k)) → ⊥) → age k ≡ 0
+  -- "else one more than the largest among the jobs that created its inputs": one of them is reached, and none has more
+  pub reached : (t : Entry) → In t (inputTapes (job k))
+      → (s : Entry) × (In s (inputTapes (job k)) × ((c : OneCreator job ks k s) × (age k ≡ suc (age (c .creator)))))
+  pub above : (t : Entry) → In t (inputTapes (job k)) → (c : OneCreator job ks k t) → age (c .creator) < age k
+
+-- what kind 8 answers of a job
+abbrev pub ageAt : World → ℕ → ℕ
+ageAt w = ageIn (bookedJob w) (w .ledger .order) (w .ledger .arrivals)
+
+abbrev pub GenerationsByCreators : Type 0
+GenerationsByCreators =
+    (n b faulty : ℕ) → Lawful (record { n = n; b = b; faulty = faulty }) → (es : List Event)
+    → (k : ℕ) → Held (afterAll (start n b faulty) es .ledger) k
+    → ByCreators (bookedJob (afterAll (start n b faulty) es)) (arrived (afterAll (start n b faulty) es .ledger)) (ageAt (afterAll (start n b faulty) es)) k

@@ -1,12 +1,11 @@
-pub mod Admission
+pub mod Decisions
+pub mod Demand2
 pub mod Demand3
-pub mod Federation
-pub mod Generations
+pub mod Given
 pub mod Graph
 pub mod Growth
-pub mod Journal
+pub mod Holders
 pub mod Meaning
-pub mod Memo
 pub mod Register
 pub mod State
 pub mod Steps

@@ -3,45 +3,38 @@ use mathlib.Core.Bool.{Bool, true}
 use mathlib.Core.List.{List}
 use mathlib.Core.Logic.{_⊎_}
 use mathlib.Core.Path.{_≡_}
-use Prim.Native.Nat.{_*_, _+_, _<_, _^_, _≤_, ℕ}
+use Prim.Native.Nat.{_*_, _+_, _<_, _≤_, ℕ}
 use lib.Count.{ones}
-use lib.ListN.{length, set}
-use Rattle.base.specs.Search.{Least}
-use Rattle.outcome.specs.declared.Refusal.the-variants.{InputReserved, NotCreated, OutputReserved, Retired}
+use lib.ListN.{length}
+use Rattle.base.specs.Search.{Every, Least}
+use Rattle.outcome.specs.declared.Outcome.the-variants.{Done}
+use Rattle.outcome.specs.declared.Refusal.{Refusal}
+use Rattle.outcome.specs.declared.Refusal.the-variants.{Full, InputReserved, NotCreated, OutputReserved, Retired, Settings as BadSettings}
 use Rattle.outcome.specs.declared.Verdict.{Verdict}
 use Rattle.outcome.specs.declared.Verdict.the-variants.{Fail, Pass}
-use Rattle.record.specs.Checks.{examined}
-use Rattle.record.specs.Codec.{recordSize}
+use Rattle.checks.specs.Checks.{examined}
+use Rattle.codec.specs.Codec.{recordSize}
 use Rattle.record.specs.Entries.{framesOf, labelOf}
-use Rattle.record.specs.Meaning.{Nowhere, Used}
+use Rattle.checks.specs.Meaning.{Nowhere}
+use Rattle.record.specs.Meaning.{Used}
 use Rattle.record.specs.declared.Job.{Job}
 use Rattle.sets.specs.Bits.{hasBit}
+use Rattle.sets.specs.Quorum.{AtLeast}
 use Rattle.sets.specs.declared.job_set.JobSet.{JobSet}
-use Rattle.ledger.specs.Federation.{thresholdOf}
+use Rattle.federation.specs.Federation.{Lawful, thresholdOf}
 use Rattle.ledger.specs.Graph.{Consumer, Creator, Maker}
-use Rattle.ledger.specs.Journal.{capacity, equalIn, insideOf}
-use Rattle.ledger.specs.State.{signersOf}
-use Rattle.ledger.specs.Steps.{held}
+use Rattle.journal.specs.Journal.{Booked, capacity, insideOf, slotAt}
+use Rattle.federation.specs.declared.Settings.{Settings}
+use Rattle.ledger.specs.Decisions.{answering, refusing}
+use Rattle.ledger.specs.declared.Change.the-variants.{Book}
+use Rattle.ledger.specs.declared.Decision.{Decision}
 use Rattle.ledger.specs.declared.Ledger.{Ledger}
-use Rattle.ledger.specs.declared.Settings.{Settings}
-
--- settings that document 01 allows
-pub record Lawful (s : Settings) : Type 0 where
-  pub vaults : s .n ≤ 16
-  pub few : 3 * s .b < s .n
-  pub below : s .faulty < 2 ^ s .n
-  pub bound : ones (s .faulty) ≤ s .b
 
 -- a state that check 1 lets through
 pub record Sane (l : Ledger) : Type 0 where
   pub lawful : Lawful (l .settings)
   pub booked : l .booked ≤ capacity
   pub arrivals : l .arrivals ≤ capacity
-
--- check 4 passes
-pub record Booked (journal : List ℕ) (booked job : ℕ) : Type 0 where
-  pub inside : recordSize * booked ≤ length journal
-  pub below : job < booked
 
 -- checks 1, 3, 5 and 4 pass, for a step that is for faulty vaults or for correct ones
 pub record Entered (l : Ledger) (journal : List ℕ) (v job : ℕ) (faulty : Bool) : Type 0 where
@@ -50,20 +43,40 @@ pub record Entered (l : Ledger) (journal : List ℕ) (v job : ℕ) (faulty : Boo
   pub role : hasBit (l .settings .faulty) v ≡ faulty
   pub known : Booked journal (l .booked) job
 
--- a proposal is answered with a booked equal
+-- ---- a proposal's answers
+
+-- it is answered with the first booked record inside the journal that has these bytes
 pub record KnownAt (l : Ledger) (journal bytes : List ℕ) (k : ℕ) : Type 0 where
   pub sane : Sane l
   pub passes : examined bytes ≡ Pass
-  pub found : equalIn journal (l .booked) bytes ≡ k
-  pub inside : k < insideOf journal (l .booked)
+  pub first : Least (insideOf journal (l .booked)) (λ i. slotAt journal i ≡ bytes) k
 
--- a proposal is booked: checks 6 to 9 pass, no booked record inside the journal has these bytes, and there is room for one more
+-- no booked record inside the journal has these bytes
+abbrev pub Unknown : Ledger → List ℕ → List ℕ → Type 0
+Unknown l journal bytes = Every (insideOf journal (l .booked)) (λ i. slotAt journal i ≡ bytes → ⊥)
+
+-- it is booked: checks 6 to 9 pass, it is unknown, and there is room for one more
 pub record NewAt (l : Ledger) (journal bytes : List ℕ) : Type 0 where
   pub sane : Sane l
   pub passes : examined bytes ≡ Pass
-  pub unknown : insideOf journal (l .booked) ≤ equalIn journal (l .booked) bytes
+  pub unknown : Unknown l journal bytes
   pub below : l .booked < capacity
   pub fits : recordSize * l .booked + recordSize ≤ length journal
+
+-- there is no room for it
+pub record FullAt (l : Ledger) (journal bytes : List ℕ) : Type 0 where
+  pub sane : Sane l
+  pub passes : examined bytes ≡ Pass
+  pub unknown : Unknown l journal bytes
+  pub full : (capacity ≤ l .booked) ⊎ (length journal < recordSize * l .booked + recordSize)
+
+-- what each decision on a proposal means
+pub data Proposed (l : Ledger) (journal bytes : List ℕ) : Decision → Type 0 where
+  insane : (Sane l → ⊥) → Proposed l journal bytes (refusing BadSettings)
+  failed : (why : Refusal) → Sane l → examined bytes ≡ Fail why → Proposed l journal bytes (refusing why)
+  known : (k : ℕ) → KnownAt l journal bytes k → Proposed l journal bytes (answering k)
+  new : NewAt l journal bytes → Proposed l journal bytes (record { outcome = Done (l .booked); change = Book })
+  full : FullAt l journal bytes → Proposed l journal bytes (refusing Full)
 
 -- ---- checks 11 to 14, at entry i, by creators and consumers
 module _ (job : ℕ → Job) (booked : ℕ) where
@@ -87,7 +100,16 @@ module _ (job : ℕ → Job) (booked : ℕ) where
     remade : (e : ℕ) → Nowhere (NotCreatedAt held j) → Nowhere (ConsumedAt held j) → Nowhere (ConsumedAt others j) → Least 8 (RemadeAt held others j) e
         → Admission held others j (Fail (OutputReserved e))
 
+-- ---- kind 6, by vaults: n − b of them have signed the job, or have acknowledged it
+abbrev pub Quorum : Settings → ℕ → Type 0
+Quorum s votes = AtLeast (thresholdOf s) votes
+
+pub data Status (s : Settings) (signers acknowledgers : ℕ) : ℕ → Type 0 where
+  uncertified : (Quorum s acknowledgers → ⊥) → (Quorum s signers → ⊥) → Status s signers acknowledgers 0
+  certified : (Quorum s acknowledgers → ⊥) → Quorum s signers → Status s signers acknowledgers 1
+  finished : Quorum s acknowledgers → Status s signers acknowledgers 2
+
 -- ---- checks 15 and 16, by vaults: each named signer has signed, and they are at least n − b. Algorithm 2's "valid threshold signature".
-pub record Certificate (l : Ledger) (job signers : ℕ) : Type 0 where
-  pub signed : (v : ℕ) → hasBit signers v ≡ true → hasBit (signersOf l job) v ≡ true
-  pub enough : thresholdOf (l .settings) ≤ ones signers
+pub record Certificate (s : Settings) (recorded signers : ℕ) : Type 0 where
+  pub signed : (v : ℕ) → hasBit signers v ≡ true → hasBit recorded v ≡ true
+  pub enough : thresholdOf s ≤ ones signers

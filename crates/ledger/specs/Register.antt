@@ -10,9 +10,9 @@ use Rattle.outcome.specs.declared.Outcome.{Outcome}
 use Rattle.outcome.specs.declared.Outcome.the-variants.{Done, Refused}
 use Rattle.outcome.specs.declared.Verdict.{Verdict}
 use Rattle.outcome.specs.declared.Verdict.the-variants.{Fail, Pass}
-use Rattle.record.specs.Checks.{examined}
-use Rattle.record.specs.Codec.{jobOf}
-use Rattle.record.specs.Tapes.{framesIn, inputTapes, labels, outputTapes, sameTape}
+use Rattle.checks.specs.Checks.{examined}
+use Rattle.codec.specs.Codec.{jobOf}
+use Rattle.conflicts.specs.Tapes.{framesIn, inputTapes, labels, outputTapes, sameTape}
 use Rattle.record.specs.declared.Entry.{Entry}
 use Rattle.record.specs.declared.Job.{Job}
 use Rattle.ledger.specs.Worlds.{Event, Request, World, after, commit, faultyAcknowledge, faultySign, generations, preflight, propose, replyTo, show}

@@ -1,16 +1,19 @@
 -- What the ledger keeps: the settings, how many records are booked, for each job the vaults whose signature and whose
--- acknowledgement are recorded, the arrival order, and the vaults. Each change goes through one definition here.
+-- acknowledgement are recorded, the arrival order, and the vaults. What a step changes is applied by one definition, at the end.
 use mathlib.Core.Bool.{Bool, cond, _&&_, _||_}
 use mathlib.Core.List.{List}
 use Prim.Native.Nat.{ℕ, _+_}
-use lib.Dec.{eqb, leb}
+use lib.Dec.{leb}
 use lib.ListN.{getD, set, replicate, take}
 use Rattle.base.specs.Search.{anyBelow}
 use Rattle.sets.specs.Bits.{withMember}
 use Rattle.ledger.specs.declared.Vault.{Vault}
+use Rattle.ledger.specs.declared.Change.{Change}
+use Rattle.ledger.specs.declared.Change.the-variants.{Book, Hold, Nothing, RecordAcknowledgement, RecordSignature, Sign}
 use Rattle.ledger.specs.declared.Ledger.{Ledger}
-use Rattle.ledger.specs.Federation.{isLawful}
-use Rattle.ledger.specs.Journal.{capacity}
+use Rattle.federation.specs.Federation.{isLawful}
+use Rattle.journal.specs.Journal.{capacity}
+use Rattle.generations.specs.Generations.{isAt}
 use Rattle.ledger.specs.Vaults.{newVault}
 
 -- ---- views
@@ -22,19 +25,16 @@ vaultAt l v = getD (l .vaults) v newVault
 unfoldable pub signersOf : Ledger → ℕ → ℕ
 signersOf l job = getD (l .signatures) job 0
 
-unfoldable pub holdersOf : Ledger → ℕ → ℕ
-holdersOf l job = getD (l .acknowledgements) job 0
+unfoldable pub acknowledgersOf : Ledger → ℕ → ℕ
+acknowledgersOf l job = getD (l .acknowledgements) job 0
 
 -- the jobs in arrival order
 abbrev pub arrived : Ledger → List ℕ
 arrived l = take (l .arrivals) (l .order)
 
-unfoldable pub isArrival : Ledger → ℕ → ℕ → Bool
-isArrival l job i = eqb (getD (l .order) i 0) job
-
--- the job is in the arrival order
-unfoldable pub hasArrived : Ledger → ℕ → Bool
-hasArrived l job = anyBelow (l .arrivals) (isArrival l job)
+-- the job is among the first n
+unfoldable pub hasArrived : List ℕ → ℕ → ℕ → Bool
+hasArrived order n job = anyBelow n (isAt order job)
 
 -- a state that a run can reach has lawful settings and counts within the capacity
 unfoldable pub isSane : Ledger → Bool
@@ -89,7 +89,7 @@ acknowledged l v job =
       booked = l .booked;
       arrivals = l .arrivals;
       signatures = l .signatures;
-      acknowledgements = set (l .acknowledgements) job (withMember 16 (holdersOf l job) v);
+      acknowledgements = set (l .acknowledgements) job (withMember 16 (acknowledgersOf l job) v);
       order = l .order;
       vaults = l .vaults;
     }
@@ -110,7 +110,7 @@ withVault l v state =
 -- "Arrival order is the order in which jobs are first held by a sound vault": a job that has not arrived goes to its end
 unfoldable pub arriving : Ledger → ℕ → Ledger
 arriving l job =
-    cond (hasArrived l job || leb capacity (l .arrivals)) l
+    cond (hasArrived (l .order) (l .arrivals) job || leb capacity (l .arrivals)) l
     (record {
       settings = l .settings;
       booked = l .booked;
@@ -120,3 +120,12 @@ arriving l job =
       order = set (l .order) (l .arrivals) job;
       vaults = l .vaults;
     })
+
+-- the one place where a ledger changes, by the vault and the job that the step names
+unfoldable pub applied : Ledger → Change → ℕ → ℕ → Ledger
+applied l Nothing v job = l
+applied l Book v job = booking l
+applied l (Sign state) v job = countersigned (withVault l v state) v job
+applied l (Hold state) v job = arriving (acknowledged (withVault l v state) v job) job
+applied l RecordSignature v job = countersigned l v job
+applied l RecordAcknowledgement v job = acknowledged l v job

@@ -5,11 +5,11 @@ use Prim.Native.Nat.{ℕ}
 use Rattle.outcome.specs.declared.Verdict.{Verdict}
 use Rattle.outcome.specs.declared.Verdict.the-variants.{Pass, Fail}
 use Rattle.sets.specs.Jobs.{jobHas, jobWith, jobWithout}
+use Rattle.journal.specs.Journal.{jobAt}
+use Rattle.index.specs.Admission.{admission}
 use Rattle.ledger.specs.declared.Vault.{Vault}
 use Rattle.ledger.specs.declared.Signing.{Signing}
 use Rattle.ledger.specs.declared.Consent.the-variants.{Already, Fresh, Denied}
-use Rattle.ledger.specs.Journal.{jobAt}
-use Rattle.ledger.specs.Admission.{admission}
 
 -- "both empty at first"
 abbrev pub newVault : Vault
@@ -33,6 +33,6 @@ consented (Fail why) v k = record { consent = Denied why; vault = v }
 
 -- "A job signed here before is accepted again and changes nothing. Otherwise the vault signs if and only if checks 11 to
 -- 14 pass."
-unfoldable pub vaultPreflight : Vault → List ℕ → ℕ → ℕ → Signing
-vaultPreflight v journal booked k =
-    cond (jobHas (v .signed) k) (record { consent = Already; vault = v }) (consented (admissionAt v journal booked k) v k)
+unfoldable pub vaultPreflight : Vault → Verdict → ℕ → Signing
+vaultPreflight v admission k =
+    cond (jobHas (v .signed) k) (record { consent = Already; vault = v }) (consented admission v k)

@@ -4,10 +4,10 @@ use mathlib.Core.List.{List, [], _++_, _∷_}
 use Prim.Native.Nat.{_*_, ℕ}
 use lib.ListN.{drop, length, take}
 use Rattle.outcome.specs.declared.Outcome.{Outcome}
-use Rattle.record.specs.Codec.{recordSize}
-use Rattle.ledger.specs.Generations.{generationsOf}
+use Rattle.codec.specs.Codec.{recordSize}
 use Rattle.ledger.specs.State.{newLedger}
-use Rattle.ledger.specs.Steps.{commitOf, faultyAcknowledgeOf, faultySignOf, journalAfter, preflightOf, proposeOf, showOf}
+use Rattle.ledger.specs.Steps.{carried, commitDecision, faultyAcknowledgeDecision, faultySignDecision, generationsDecision, journalAfter, preflightDecision, proposeDecision, showDecision}
+use Rattle.ledger.specs.declared.Decision.{Decision}
 use Rattle.ledger.specs.declared.Ledger.{Ledger}
 use Rattle.ledger.specs.declared.Reply.{Reply}
 
@@ -21,18 +21,37 @@ pub data Request : Type 0 where
   show : ℕ → Request
   generations : ℕ → Request
 
--- a step that only reads
-abbrev pub reads : Outcome → Ledger → Reply
-reads outcome l = record { outcome = outcome; ledger = l }
+-- the vault and the job that a step names, 0 where it names none
+abbrev pub vaultIn : Request → ℕ
+vaultIn (propose bytes) = 0
+vaultIn (preflight v job) = v
+vaultIn (commit v job signers) = v
+vaultIn (faultySign v job) = v
+vaultIn (faultyAcknowledge v job) = v
+vaultIn (show job) = 0
+vaultIn (generations job) = 0
 
+abbrev pub jobIn : Request → ℕ
+jobIn (propose bytes) = 0
+jobIn (preflight v job) = job
+jobIn (commit v job signers) = job
+jobIn (faultySign v job) = job
+jobIn (faultyAcknowledge v job) = job
+jobIn (show job) = job
+jobIn (generations job) = job
+
+abbrev pub decisionOf : Ledger → List ℕ → Request → Decision
+decisionOf l journal (propose bytes) = proposeDecision l journal bytes
+decisionOf l journal (preflight v job) = preflightDecision l journal v job
+decisionOf l journal (commit v job signers) = commitDecision l journal v job signers
+decisionOf l journal (faultySign v job) = faultySignDecision l journal v job
+decisionOf l journal (faultyAcknowledge v job) = faultyAcknowledgeDecision l journal v job
+decisionOf l journal (show job) = showDecision l journal job
+decisionOf l journal (generations job) = generationsDecision l journal job
+
+-- every step is a decision carried out: the right sides are those of `proposeOf` to `generationsOf`, which the contracts cite
 abbrev pub stepOf : Ledger → List ℕ → Request → Reply
-stepOf l journal (propose bytes) = proposeOf l journal bytes
-stepOf l journal (preflight v job) = preflightOf l journal v job
-stepOf l journal (commit v job signers) = commitOf l journal v job signers
-stepOf l journal (faultySign v job) = faultySignOf l journal v job
-stepOf l journal (faultyAcknowledge v job) = faultyAcknowledgeOf l journal v job
-stepOf l journal (show job) = reads (showOf l journal job) l
-stepOf l journal (generations job) = reads (generationsOf l journal job) l
+stepOf l journal q = carried l (decisionOf l journal q) (vaultIn q) (jobIn q)
 
 -- the lent journal after a step: only a proposal writes it
 abbrev pub leftBy : Ledger → List ℕ → Request → List ℕ

@@ -1,30 +1,40 @@
-// What the ledger keeps, read and changed one thing at a time, and the checks that several kinds of step share.
+// What the ledger keeps, and the one place where it changes.
 ghost use mathlib.Core.Path.{_≡_};
 ghost use Prim.Native.Nat.{_<_, _≤_};
-ghost use Rattle.ledger.specs.Journal.{recordAt};
-ghost use Rattle.ledger.specs.State.{
-  signersOf,
-  holdersOf,
-  isArrival,
-  hasArrived,
-  isSane,
-  newLedger,
-  booking,
-  countersigned,
-  acknowledged,
-  withVault,
-  arriving,
-};
-ghost use Rattle.ledger.specs.Steps.{newOf, bookedGate, vaultGate};
+ghost use lib.ListN.{length};
+ghost use Rattle.journal.specs.Journal.{recordAt};
+ghost use Rattle.generations.specs.Generations.{isAt};
+ghost use Rattle.ledger.specs.State.{applied, arriving, hasArrived, isSane, newLedger};
+ghost use Rattle.ledger.specs.Steps.{newOf};
+ghost use Rattle.ledger.specs.Given.{Placed};
+use crate::Change;
 use crate::Ledger;
 use crate::Reply;
-use crate::Settings;
 use crate::Vault;
-use crate::journal;
-use crate::journal::CAPACITY;
+use federation::Settings;
+use journal::CAPACITY;
 use outcome::Outcome;
 use outcome::Refusal;
-use outcome::Verdict;
+
+fn is_arrival(order: &[u8], job: u8, i: usize) -> bool
+    requires { ⌜ i < length (now order) ⌝ }
+    ensures { λ r. ⌜ r ≡ isAt (now (order .entry)) job i ⌝ }
+{
+    order[i] == job
+}
+
+// Whether the job is among the first n of the arrival order.
+fn has_arrived(order: &[u8], n: usize, job: u8) -> bool
+    requires { ⌜ n ≤ length (now order) ⌝ }
+    ensures { λ r. ⌜ r ≡ hasArrived (now (order .entry)) n job ⌝ }
+{
+    for i in 0..n {
+        if is_arrival(order, job, i) {
+            return true;
+        }
+    }
+    false
+}
 
 impl Ledger {
     fn empty(n: u8, b: u8, faulty: u16) -> Ledger
@@ -86,138 +96,54 @@ impl Ledger {
         journal::lookup(journal, self.booked, job as usize)
     }
 
-    // Checks 1 and 4.
-    pub(crate) fn booked_gate(self, journal: &[u8], job: u8) -> Verdict
-        ensures { λ r. ⌜ r ≡ bookedGate self (now (journal .entry)) job ⌝ }
-    {
-        if !self.is_sane() {
-            return Verdict::Fail(Refusal::Settings);
-        }
-        if journal::is_booked(journal, self.booked, job as usize) {
-            return Verdict::Pass;
-        }
-        Verdict::Fail(Refusal::NotBooked)
-    }
-
-    // Checks 1, 3, 5 and 4, of a step that is for faulty vaults or for correct ones.
-    pub(crate) fn vault_gate(self, journal: &[u8], vault: u8, job: u8, faulty: bool) -> Verdict
-        ensures { λ r. ⌜ r ≡ vaultGate self (now (journal .entry)) vault job faulty ⌝ }
-    {
-        if !self.is_sane() {
-            return Verdict::Fail(Refusal::Settings);
-        }
-        let settings = self.settings;
-        if vault >= settings.n {
-            return Verdict::Fail(Refusal::NoVault);
-        }
-        if sets::vaults::has(settings.faulty, vault) != faulty {
-            return Verdict::Fail(Refusal::WrongVault);
-        }
-        if journal::is_booked(journal, self.booked, job as usize) {
-            return Verdict::Pass;
-        }
-        Verdict::Fail(Refusal::NotBooked)
-    }
-
-    // The vaults whose signature of the job is recorded.
-    pub(crate) fn signers(self, job: u8) -> u16
-        requires { ⌜ job < 128 ⌝ }
-        ensures { λ r. ⌜ r ≡ signersOf self job ⌝ }
-    {
-        let j = job as usize;
-        self.signatures[j]
-    }
-
-    // The vaults whose acknowledgement of the job is recorded.
-    pub(crate) fn holders(self, job: u8) -> u16
-        requires { ⌜ job < 128 ⌝ }
-        ensures { λ r. ⌜ r ≡ holdersOf self job ⌝ }
-    {
-        let j = job as usize;
-        self.acknowledgements[j]
-    }
-
-    // One record more is booked.
-    pub(crate) fn book(self) -> Ledger
-        requires { ⌜ self .booked < 128 ⌝ }
-        ensures { λ r. ⌜ r ≡ booking self ⌝ }
-    {
-        let mut next = self;
-        next.booked = self.booked + 1;
-        next
-    }
-
-    // The vault's signature of the job is recorded.
-    pub(crate) fn countersign(self, vault: u8, job: u8) -> Ledger
-        requires { ⌜ job < 128 ⌝ }
-        ensures { λ r. ⌜ r ≡ countersigned self vault job ⌝ }
-    {
-        let j = job as usize;
-        let signers = sets::vaults::with(self.signers(job), vault);
-        let mut next = self;
-        next.signatures[j] = signers;
-        next
-    }
-
-    // The vault's acknowledgement of the job is recorded.
-    pub(crate) fn acknowledge(self, vault: u8, job: u8) -> Ledger
-        requires { ⌜ job < 128 ⌝ }
-        ensures { λ r. ⌜ r ≡ acknowledged self vault job ⌝ }
-    {
-        let j = job as usize;
-        let holders = sets::vaults::with(self.holders(job), vault);
-        let mut next = self;
-        next.acknowledgements[j] = holders;
-        next
-    }
-
-    // The vault is in another state.
-    pub(crate) fn with_vault(self, vault: u8, state: Vault) -> Ledger
-        requires { ⌜ vault < 16 ⌝ }
-        ensures { λ r. ⌜ r ≡ withVault self vault state ⌝ }
-    {
-        let v = vault as usize;
-        let mut next = self;
-        next.vaults[v] = state;
-        next
-    }
-
-    pub(crate) fn is_arrival(self, job: u8, i: usize) -> bool
-        requires { ⌜ i < 128 ⌝ }
-        ensures { λ r. ⌜ r ≡ isArrival self job i ⌝ }
-    {
-        self.order[i] == job
-    }
-
-    // Whether the job is in the arrival order.
-    fn has_arrived(self, job: u8) -> bool
-        requires { ⌜ self .arrivals ≤ 128 ⌝ }
-        ensures { λ r. ⌜ r ≡ hasArrived self job ⌝ }
-    {
-        let n = self.arrivals;
-        for i in 0..n {
-            if self.is_arrival(job, i) {
-                return true;
-            }
-        }
-        false
-    }
-
     // The job goes to the end of the arrival order, unless it is there.
-    pub(crate) fn arrive(self, job: u8) -> Ledger
+    fn arrive(mut self, job: u8) -> Ledger
         requires { ⌜ self .arrivals ≤ 128 ⌝ }
         ensures { λ r. ⌜ r ≡ arriving self job ⌝ }
     {
-        if self.has_arrived(job) {
+        let n = self.arrivals;
+        if has_arrived(&self.order, n, job) {
             return self;
         }
-        let at = self.arrivals;
-        if at >= CAPACITY {
+        if n >= CAPACITY {
             return self;
         }
-        let mut next = self;
-        next.order[at] = job;
-        next.arrivals = at + 1;
-        next
+        self.order[n] = job;
+        self.arrivals = n + 1;
+        self
+    }
+
+    // The one place where a ledger changes. Called behind checks 1, 3 and 4: by the operations and by the run.
+    pub fn apply(mut self, change: Change, vault: u8, job: u8) -> Ledger
+        requires { ⌜ Placed self vault job ⌝ }
+        ensures { λ r. ⌜ r ≡ applied self change vault job ⌝ }
+    {
+        let v = vault as usize;
+        let j = job as usize;
+        match change {
+            Change::Nothing => self,
+            Change::Book => {
+                self.booked = self.booked + 1;
+                self
+            }
+            Change::Sign(state) => {
+                self.vaults[v] = state;
+                self.signatures[j] = sets::vaults::with(self.signatures[j], vault);
+                self
+            }
+            Change::Hold(state) => {
+                self.vaults[v] = state;
+                self.acknowledgements[j] = sets::vaults::with(self.acknowledgements[j], vault);
+                self.arrive(job)
+            }
+            Change::RecordSignature => {
+                self.signatures[j] = sets::vaults::with(self.signatures[j], vault);
+                self
+            }
+            Change::RecordAcknowledgement => {
+                self.acknowledgements[j] = sets::vaults::with(self.acknowledgements[j], vault);
+                self
+            }
+        }
     }
 }

@@ -1,28 +1,17 @@
 // The custody ledger: the vaults' sets of jobs, the recorded signatures and acknowledgements, and one operation for each
 // kind of step. Every operation takes any arguments and any journal; its promise is one equation with a definition of
-// specs/Steps.antt or specs/Generations.antt, refused steps included.
-mod admission;
+// specs/Steps.antt, refused steps included. A step is decided from small pieces, and what it changes is applied in one place.
+mod booking;
 mod books;
-mod commit;
-mod faulty;
-mod federation;
-mod generations;
-pub mod journal;
-mod preflight;
-mod propose;
-mod show;
+pub mod decisions;
+mod indexed;
+mod steps;
 mod vaults;
 
+use federation::Settings;
 use outcome::Outcome;
 use outcome::Refusal;
 use sets::JobSet;
-
-// n vaults, at most b of them faulty, and which are.
-pub struct Settings {
-    pub n: u8,
-    pub b: u8,
-    pub faulty: u16,
-}
 
 // The jobs that a vault holds and those that it signed.
 pub struct Vault {
@@ -42,6 +31,21 @@ pub struct Signing {
     pub vault: Vault,
 }
 
+// What a step changes: a vault that signs or holds comes back in its new state.
+pub enum Change {
+    Nothing,
+    Book,
+    Sign(Vault),
+    Hold(Vault),
+    RecordSignature,
+    RecordAcknowledgement,
+}
+
+pub struct Decision {
+    pub outcome: Outcome,
+    pub change: Change,
+}
+
 // signatures and acknowledgements have a set of vaults for each job, order the jobs in the order of their arrival.
 pub struct Ledger {
     pub settings: Settings,
@@ -57,11 +61,4 @@ pub struct Ledger {
 pub struct Reply {
     pub outcome: Outcome,
     pub ledger: Ledger,
-}
-
-// Where a proposed record belongs.
-pub enum Place {
-    Known(usize),
-    New,
-    Turned(Refusal),
 }

@@ -1,11 +1,9 @@
 // A vault's own part of preflight and commit: its two sets go in and come back.
 ghost use mathlib.Core.Path.{_≡_};
-ghost use Rattle.ledger.specs.Vaults.{newVault, signing, holding, admissionAt, vaultPreflight};
+ghost use Rattle.ledger.specs.Vaults.{newVault, signing, holding, vaultPreflight};
 use crate::Consent;
 use crate::Signing;
 use crate::Vault;
-use crate::admission;
-use crate::journal;
 use outcome::Verdict;
 use sets::JobSet;
 
@@ -38,22 +36,9 @@ impl Vault {
         Vault { held, signed }
     }
 
-    fn admit(self, journal: &[u8], booked: usize, job: usize) -> Verdict
-        ensures { λ r. ⌜ r ≡ admissionAt self (now (journal .entry)) booked job ⌝ }
-    {
-        let others = self.signed.without(job);
-        admission::admit(
-            journal,
-            booked,
-            self.held,
-            others,
-            journal::job_at(journal, booked, job),
-        )
-    }
-
-    // Signs the job where checks 11 to 14 pass. One that was signed before is accepted again.
-    pub fn preflight(self, journal: &[u8], booked: usize, job: usize) -> Signing
-        ensures { λ r. ⌜ r ≡ vaultPreflight self (now (journal .entry)) booked job ⌝ }
+    // Signs the job where checks 11 to 14, whose verdict is given, pass. One that was signed before is accepted again.
+    pub fn preflight(self, admission: Verdict, job: usize) -> Signing
+        ensures { λ r. ⌜ r ≡ vaultPreflight self admission job ⌝ }
     {
         if self.signed.has(job) {
             return Signing {
@@ -61,8 +46,7 @@ impl Vault {
                 vault: self,
             };
         }
-        let verdict = self.admit(journal, booked, job);
-        match verdict {
+        match admission {
             Verdict::Pass => Signing {
                 consent: Consent::Fresh,
                 vault: self.sign(job),

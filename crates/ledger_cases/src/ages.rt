@@ -1,15 +1,15 @@
 // Generations, asked of each job before and after it is held.
 use ledger::Ledger;
 use record::Job;
-use telling::jobs;
-use telling::tell;
+use scenario::jobs;
+use scenario::steps;
 
 fn aged(l: Ledger, journal: &mut [u8], name: &[u8], number: u8, job: Job) -> Ledger {
-    let l = tell::propose(l, journal, name, job);
-    tell::generations(l, journal, number);
-    let l = tell::preflight(l, journal, 0, number);
-    let l = tell::commit(l, journal, 0, number, 1);
-    tell::generations(l, journal, number);
+    let l = steps::propose(l, journal, name, job);
+    steps::generations(l, journal, number);
+    let l = steps::preflight(l, journal, 0, number);
+    let l = steps::commit(l, journal, 0, number, 1);
+    steps::generations(l, journal, number);
     l
 }
 
@@ -25,7 +25,7 @@ fn masters(journal: &mut [u8]) -> Ledger {
 // A copy, the copy with a master, and that with the other master: the largest counts, whichever input it is.
 pub(crate) fn ages() {
     let mut journal = [0u8; 700];
-    tell::heading(b"generations");
+    steps::heading(b"generations");
     let l = masters(&mut journal);
     let copy = jobs::tape(b"DDDDDDL7", 1000);
     let both = jobs::tape(b"EEEEEEL7", 1300);
@@ -36,5 +36,5 @@ pub(crate) fn ages() {
     let all = jobs::tape(b"FFFFFFL7", 1800);
     let last = jobs::merger(jobs::tape(b"BBBBBBL7", 500), both, all);
     let l = aged(l, &mut journal, b"all", 4, last);
-    tell::generations(l, &journal, 5);
+    steps::generations(l, &journal, 5);
 }

@@ -1,11 +1,11 @@
 // Settings that document 01 allows and settings that it refuses.
 use ledger::Ledger;
-use telling::jobs;
-use telling::tell;
+use scenario::jobs;
+use scenario::steps;
 
 fn set(name: &[u8], n: u8, b: u8, faulty: u16) {
     let outcome = Ledger::new(n, b, faulty).outcome;
-    tell::step(name, outcome);
+    steps::line(name, outcome);
 }
 
 fn allowed() {
@@ -35,21 +35,21 @@ fn refused() {
 }
 
 pub(crate) fn settings() {
-    tell::heading(b"settings");
+    steps::heading(b"settings");
     allowed();
     refused();
 }
 
 // Every step on a ledger with refused settings.
 pub(crate) fn unlawful() {
-    tell::heading(b"unlawful");
+    steps::heading(b"unlawful");
     let mut journal = [0u8; 200];
     let new = Ledger::new(3, 1, 0).ledger;
-    let l = tell::propose(new, &mut journal, b"master", jobs::master());
-    let l = tell::preflight(l, &journal, 0, 0);
-    let l = tell::commit(l, &journal, 0, 0, 3);
-    let l = tell::sign(l, &journal, 0, 0);
-    let l = tell::acknowledge(l, &journal, 0, 0);
-    tell::show(l, &journal, 0);
-    tell::lookup(l, &journal, 0);
+    let l = steps::propose(new, &mut journal, b"master", jobs::master());
+    let l = steps::preflight(l, &journal, 0, 0);
+    let l = steps::commit(l, &journal, 0, 0, 3);
+    let l = steps::sign(l, &journal, 0, 0);
+    let l = steps::acknowledge(l, &journal, 0, 0);
+    steps::show(l, &journal, 0);
+    steps::lookup(l, &journal, 0);
 }

@@ -1,6 +1,5 @@
 -- No two cases have one number: the outcome is found again from its number and its value. So what is printed of a
 -- step, the two figures, tells its outcome, and a definition that speaks of a number speaks of one case.
--- Assumes nothing.
 use mathlib.Core.Path.{_≡_, refl, sym, ap, ap₂, _∙_}
 use mathlib.Core.Bool.{cond}
 use Prim.Native.Nat.{ℕ}

@@ -1,7 +1,4 @@
-pub mod Jobs
+pub mod Eight
 pub mod Meaning
-pub mod Numbers
 pub mod Ranges
-pub mod RoundTrip
 pub mod Table
-pub mod Tapes

@@ -1,9 +1,7 @@
 -- `isBetween` decides that a number lies in a range.
--- Assumes nothing.
 use mathlib.Core.Bool.{Bool, true}
 use mathlib.Core.Path.{_∙_, _≡_, sym}
 use Prim.Native.Nat.{_≤_, ℕ}
-use lib.Pow.{high, low}
 use Rattle.base.proofs.Reflect.{reflect-and, reflect-le}
 use Rattle.base.specs.Reflect.{Reflects}
 use Rattle.record.specs.Labels.{isBetween}

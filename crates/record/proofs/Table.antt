@@ -1,6 +1,5 @@
 -- The two constant tables say what the house table's rows list: one computed test over both, turned into the rule at
 -- each drive and medium. A medium past the last column is in no row.
--- Assumes nothing.
 -- as in src/drives.rt
 use mathlib.Core.Bool.{Bool, _&&_, cond, false, not, true}
 use mathlib.Core.List.{List, [], _∷_}
@@ -9,7 +8,6 @@ use Prim.Native.Nat.{_-_, _<_, _≤_, ℕ}
 use native.Mathlib.Omega.{arith}
 use lib.Dec.{ltb}
 use lib.ListN.{getD}
-use lib.Pow.{high, low}
 use borrow.Author.Tests.{le-leb, ltb-true, ne-eqb, not-true}
 use Rattle.base.proofs.Reflect.{and-true}
 use Rattle.base.proofs.Search.{all-at}

@@ -1,15 +1,9 @@
--- What each check means, said without a search. proofs/Meaning.antt shows that the checks decide these claims.
-use mathlib.Core.Bool.{false, true}
+-- What a used entry is, and a label, said without a search. proofs/Meaning.antt shows that the tests decide these claims.
 use mathlib.Core.Logic.{_⊎_}
 use mathlib.Core.Path.{_≡_}
-use Prim.Native.Nat.{_+_, _-_, _<_, _≤_, ℕ}
-use Rattle.base.specs.Search.{Every, Least, Some, sumFrom}
-use Rattle.outcome.specs.declared.Refusal.the-variants.{Malformed, Repeated, Unbalanced, Unsupported}
-use Rattle.outcome.specs.declared.Verdict.{Verdict}
-use Rattle.outcome.specs.declared.Verdict.the-variants.{Fail, Pass}
-use Rattle.record.specs.Drives.{supports}
-use Rattle.record.specs.Entries.{framesOf, labelOf, usedFrames}
-use Rattle.record.specs.Labels.{charAt, mediumOf}
+use Prim.Native.Nat.{_-_, _<_, _≤_, ℕ}
+use Rattle.base.specs.Search.{Every}
+use Rattle.record.specs.Labels.{charAt}
 use Rattle.record.specs.declared.Job.{Job}
 
 -- an input that the job counts, or an output
@@ -24,53 +18,3 @@ pub record Label (label : ℕ) : Type 0 where
   pub name : Every 6 (λ i. Alphanumeric (charAt label i))
   pub letter : charAt label 6 ≡ 76
   pub digit : (53 ≤ charAt label 7) × (charAt label 7 ≤ 57)
-
--- 6
-pub record WellFormed (j : Job) : Type 0 where
-  pub drive : (5 ≤ j .drive) × (j .drive ≤ 9)
-  pub inputs : ((j .kind ≡ 0) × (j .inputs ≡ 0)) ⊎ ((j .kind ≡ 1) × ((1 ≤ j .inputs) × (j .inputs ≤ 4)))
-  pub outputs : (1 ≤ j .outputs) × (j .outputs ≤ 4)
-  pub used : Every 8 (λ i. Used j i → Label (labelOf j i) × (1 ≤ framesOf j i))
-  pub unused : Every 8 (λ i. (Used j i → ⊥) → (labelOf j i ≡ 0) × (framesOf j i ≡ 0))
-
--- 7, at entry i: it is used, and an earlier used entry has its label
-abbrev pub RepeatedAt : Job → ℕ → Type 0
-RepeatedAt j i = Used j i × Some i (λ k. Used j k × (labelOf j k ≡ labelOf j i))
-
--- 8, at entry i: it is used, and the drive does not write it, an output of a migration, or read it, any other
-abbrev pub UnsupportedAt : Job → ℕ → Type 0
-UnsupportedAt j i =
-    Used j i
-    × ((((4 ≤ i) × (j .kind ≡ 1)) × (supports true (j .drive) (mediumOf (labelOf j i)) ≡ false))
-    ⊎ ((((4 ≤ i) × (j .kind ≡ 1)) → ⊥) × (supports false (j .drive) (mediumOf (labelOf j i)) ≡ false)))
-
--- 9: in a migration the frames of the inputs are those of the outputs
-abbrev pub Balanced : Job → Type 0
-Balanced j = j .kind ≡ 1 → sumFrom (usedFrames j) 0 4 ≡ sumFrom (usedFrames j) 4 4
-
--- none of 8 entries has P
-abbrev pub Nowhere : (ℕ → Type 0) → Type 0
-Nowhere P = Every 8 (λ i. P i → ⊥)
-
--- what each answer of checks 6 to 9 means: the first check that fails, at the first entry that offends
-pub data Answer (j : Job) : Verdict → Type 0 where
-  passes : WellFormed j → Nowhere (RepeatedAt j) → Nowhere (UnsupportedAt j) → Balanced j → Answer j Pass
-  malformed : (WellFormed j → ⊥) → Answer j (Fail Malformed)
-  repeated : (e : ℕ) → WellFormed j → Least 8 (RepeatedAt j) e → Answer j (Fail (Repeated e))
-  unsupported : (e : ℕ) → WellFormed j → Nowhere (RepeatedAt j) → Least 8 (UnsupportedAt j) e → Answer j (Fail (Unsupported e))
-  unbalanced : WellFormed j → Nowhere (RepeatedAt j) → Nowhere (UnsupportedAt j) → (Balanced j → ⊥) → Answer j (Fail Unbalanced)
-
--- a half has the label
-abbrev pub LabelIn : ℕ → Job → ℕ → Type 0
-LabelIn half j label = Some 4 (λ i. Used j (half + i) × (labelOf j (half + i) ≡ label))
-
--- an output is the tape, label and frames
-abbrev pub MakesTape : Job → ℕ → ℕ → Type 0
-MakesTape j label frames = Some 4 (λ i. (Used j (4 + i) × (labelOf j (4 + i) ≡ label)) × (framesOf j (4 + i) ≡ frames))
-
--- a label that both jobs have in one half
-abbrev pub SharesIn : ℕ → Job → Job → Type 0
-SharesIn half a b = (label : ℕ) × (LabelIn half a label × LabelIn half b label)
-
-abbrev pub Conflicting : Job → Job → Type 0
-Conflicting a b = SharesIn 0 a b ⊎ SharesIn 4 a b

@@ -1,20 +1,8 @@
-// Job records: a hundred bytes and the job that they say, the checks that need the record alone (6 to 9), and
-// when two jobs conflict.
-mod checks;
-mod codec;
-mod conflicts;
-mod drives;
-mod entries;
-mod labels;
+// Jobs: their entries, the labels and tapes in them, and the house table of drives.
+pub mod drives;
+pub mod entries;
+pub mod labels;
 
-pub use checks::check;
-pub use checks::examine;
-pub use codec::RECORD;
-pub use codec::read;
-pub use codec::write;
-pub use conflicts::conflict;
-pub use conflicts::lists;
-pub use conflicts::makes_tape;
 pub use entries::frames;
 pub use entries::label;
 pub use entries::used;

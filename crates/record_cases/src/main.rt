@@ -102,7 +102,7 @@ fn report(verdict: Verdict) {
 }
 
 fn examined(bytes: &[u8; 100]) -> Verdict {
-    record::examine(bytes)
+    checks::examine(bytes)
 }
 
 fn nudge(bytes: &mut [u8; 100], at: usize, step: u8) {
@@ -114,7 +114,7 @@ fn nudge(bytes: &mut [u8; 100], at: usize, step: u8) {
 // The record, with one byte moved by a step.
 fn off_by(job: Job, name: &[u8], at: usize, step: u8) {
     let mut bytes = [0u8; 100];
-    record::write(job, &mut bytes);
+    codec::write(job, &mut bytes);
     nudge(&mut bytes, at, step);
     io::write_all(STDOUT_FILENO, name);
     io::write_all(STDOUT_FILENO, b" ");
@@ -225,13 +225,13 @@ fn first(bytes: &[u8], n: usize, name: &[u8]) {
     io::write_all(STDOUT_FILENO, name);
     io::write_all(STDOUT_FILENO, b" 100 0 ");
     if n <= bytes.len() {
-        report(record::examine(&bytes[0..n]));
+        report(checks::examine(&bytes[0..n]));
     }
 }
 
 fn lengths() {
     let mut bytes = [0u8; 101];
-    record::write(migration(), &mut bytes);
+    codec::write(migration(), &mut bytes);
     let all: &[u8] = &bytes;
     first(all, 0, b"empty");
     first(all, 99, b"short");

@@ -1,95 +1,115 @@
--- What the run's loop does at each way out is the run of specs/Run.antt: a run that has ended stays as it is, so its text after as many
--- steps as there are bytes is its text where it ended.
--- Assumes nothing.
-use mathlib.Core.Bool.{false, true}
-use mathlib.Core.List.{List, _++_}
-use mathlib.Core.Path.{_∙_, _≡_, refl}
-use Prim.Native.Nat.{_+_, _<_, _≤_, ℕ}
-use native.Mathlib.Decide.{le-ind}
-use native.Mathlib.Numerals.{add-one}
+-- What a run has still to print, at its start, at its end, and at a step.
+use mathlib.Core.Bool.{Bool, cond, false, true}
+use mathlib.Core.List.{List, [], _++_, append-nil}
+use mathlib.Core.Path.{_∙_, _≡_, ap, refl, sym}
+use Prim.Native.Nat.{_+_, _-_, _<_, _≤_, suc, zero, ℕ}
 use native.Mathlib.Omega.{arith}
-use lib.Dec.{leb, ltb}
-use lib.ListN.{getD, length, replicate}
-use borrow.Author.Tests.{le-leb, leb-true, lt-leb, ltb-true}
+use lib.Dec.{leb}
+use lib.ListN.{length}
+use borrow.Author.Tests.{le-leb, leb-true, lt-leb}
 use Rattle.base.proofs.Reflect.{and-true}
-use Rattle.ledger.specs.Federation.{isLawful}
-use Rattle.ledger.specs.State.{newLedger}
-use Rattle.ledger.specs.declared.Ledger.{Ledger}
-use Rattle.ledger.specs.declared.Settings.{Settings}
-use Rattle.ledger.specs.declared.Reply.{Reply}
-use Rattle.engine.proofs.Beginning.{ledger-new}
-use Rattle.engine.specs.Layout.{ledgerIn}
-use Rattle.outcome.specs.Figures.{numberOf, valueOf}
-use Rattle.runfile.specs.Run.{Run, after, carriedOut, cutShort, ended, going, isHeader, isWhole, opened, opens, runText, turn}
-use Rattle.runfile.specs.Steps.{bodySize, commandAt, journalBy, replyOf, wordAt}
-use Rattle.runfile.specs.Text.{lineOf}
-
-still : (input : List ℕ) (r : Run) → ended input r ≡ true → (k : ℕ) → turn input k r ≡ r
-unfolding turn
-still input r h k = simp h
-
-rest : (input : List ℕ) (k : ℕ) → ended input (after input k) ≡ true → (j : ℕ) → k ≤ j → after input j ≡ after input k
-unfolding after
-rest input k h j l =
-    le-ind (λ (m : ℕ). after input m ≡ after input k) refl (λ m g e. rw e (still input (after input k) h m)) j l
+use Rattle.federation.specs.Federation.{isLawful}
+use Rattle.outcome.specs.declared.Outcome.{Outcome}
+use Rattle.outcome.specs.declared.Outcome.the-variants.{Refused}
+use Rattle.outcome.specs.declared.Refusal.the-variants.{Settings as BadSettings}
+use Rattle.text.specs.Text.{lineFor}
+use Rattle.runfile.specs.Run.{Run, begins, commandOf, ended, headerSize, isHeader, lastFrom, longest, opened, opens, runNext, runText, textFrom, textNext, textOf, turn}
+use Rattle.runfile.specs.Steps.{endOf, kindAt, listed, replyOf}
+use Rattle.runfile.specs.declared.Kind.{Kind}
+use Rattle.runfile.specs.declared.Kind.the-variants.{Commit, Draw, FaultyAcknowledge, FaultySign, Generations, Preflight, Propose, Show, Unknown}
 
 -- ---- the header
-pub refused-run : (input : List ℕ) → opens input ≡ false → runText input ≡ lineOf 0 1 0
-unfolding runText
-refused-run input h = simp h
-
-pub header-long : (input : List ℕ) → isHeader input ≡ true → 9 ≤ length input
+pub header-long : (input : List ℕ) → isHeader input ≡ true → headerSize ≤ length input
 unfolding isHeader
-header-long input e = leb-true 9 (length input) (and-true (leb 9 (length input)) _ e .0)
+header-long input e = leb-true headerSize (length input) (and-true (leb headerSize (length input)) _ e .0)
 
 -- what check 1 has made sure of
 pub record Open (input : List ℕ) : Type 0 where
-  pub few : length input ≤ 65536
-  pub headed : 9 ≤ length input
+  pub few : length input ≤ longest
+  pub headed : headerSize ≤ length input
   pub lawful : isLawful (opened input .settings) ≡ true
 
 pub open-when : (input : List ℕ) → opens input ≡ true → Open input
 unfolding opens
 open-when input o =
-    let h = and-true (leb (length input) 65536) _ o in
+    let h = and-true (leb (length input) longest) _ o in
     let g = and-true (isHeader input) _ (h .1) in
-    record { few = leb-true (length input) 65536 (h .0); headed = header-long input (g .0); lawful = g .1 }
+    record { few = leb-true (length input) longest (h .0); headed = header-long input (g .0); lawful = g .1 }
 
--- the tables that a run begins with are those of a new ledger with the header's settings
-pub opened-is : (input : List ℕ) (s : Settings) → s ≡ opened input .settings → ledgerIn s (replicate 578 0) ≡ opened input
-unfolding opened newLedger
-opened-is input s e = rw e (ledger-new (getD input 5 0) (getD input 6 0) (wordAt input 7))
+pub opened-run : (input : List ℕ) → opens input ≡ true → runText input ≡ textFrom input (begins input)
+unfolding runText
+opened-run input o = rw o
 
 -- ---- the end
-whole : (input : List ℕ) (k : ℕ) → opens input ≡ true → k ≤ length input → ended input (after input k) ≡ true → runText input ≡ after input k .text
+none-next : (n : ℕ) (input : List ℕ) (r : Run) → length input ≤ r .pos → textNext n input r ≡ []
+unfolding textNext
+none-next zero input r h = refl
+none-next (suc n) input r h = simp (le-leb _ _ h)
+
+pub none-left : (input : List ℕ) (r : Run) → length input ≤ r .pos → textFrom input r ≡ []
+unfolding textFrom
+none-left input r h = none-next (length input - r .count) input r h
+
+pub none-after : (input : List ℕ) (r : Run) → length input ≤ r .pos → lastFrom input r ≡ r
+unfolding lastFrom runNext
+none-after input r h = by (length input - r .count)
+  where
+    by : (n : ℕ) → runNext n input r ≡ r
+    by zero = refl
+    by (suc n) = simp (le-leb _ _ h)
+
+-- the text of an input that check 1 turns back, before a run that has nothing left to read
+pub refused-run : (input : List ℕ) → opens input ≡ false → (r : Run) → length input ≤ r .pos → runText input ≡ lineFor 0 (Refused BadSettings) ++ textFrom input r
 unfolding runText
-whole input k o g h = simp (o, rest input k h (length input) g)
+refused-run input o r h = rw (o, none-left input r h) (sym (append-nil (lineFor 0 (Refused BadSettings))))
 
-module _ (input : List ℕ) (k pos : ℕ) (ledger : Ledger) (journal text : List ℕ) (is : after input k ≡ going pos ledger journal text) (open· : opens input ≡ true) where
-  pub done : k ≤ length input → length input ≤ pos → runText input ≡ text
-  unfolding ended
-  done g l = whole input k open· g (simp (is, le-leb _ _ l)) ∙ simp is
+-- each step reads at least its kind, or is the last: so a run has no more steps than bytes
+reads-on : (kind : Kind) (pos size n : ℕ) → size ≤ pos + suc n → size ≤ endOf kind pos size + n
+reads-on Propose pos size n h = omega arith
+reads-on Preflight pos size n h = omega arith
+reads-on Commit pos size n h = omega arith
+reads-on FaultySign pos size n h = omega arith
+reads-on FaultyAcknowledge pos size n h = omega arith
+reads-on Show pos size n h = omega arith
+reads-on Draw pos size n h = omega arith
+reads-on Generations pos size n h = omega arith
+reads-on Unknown pos size n h = omega arith
 
-  module _ (left : pos < length input) (n : ℕ) (size : n ≡ bodySize (getD input pos 0)) where
-    after-next : (r : Run) → turn input k (going pos ledger journal text) ≡ r → after input (k + 1) ≡ r
-    unfolding after
-    after-next r h = rw add-one (simp (is, h))
+pub runs-out : (n : ℕ) (input : List ℕ) (r : Run) → length input ≤ r .pos + n → ended input (runNext n input r) ≡ true
+unfolding runNext turn
+runs-out zero input r h = le-leb (length input) (r .pos) (omega (arith, h))
+runs-out (suc n) input r h =
+    by (ended input r) refl (runs-out n input (turn input r) (reads-on (kindAt input (r .pos)) (r .pos) (length input) n h))
+  where
+    by : (b : Bool) → ended input r ≡ b → ended input (runNext n input (turn input r)) ≡ true → ended input (cond b r (runNext n input (turn input r))) ≡ true
+    by true e later = e
+    by false e later = later
 
-    pub unreadable : k < length input → isWhole n pos (length input) ≡ false → runText input ≡ text ++ lineOf (k + 1) 2 0
-    unfolding turn ended
-    unreadable g z =
-        let e = after-next (cutShort (going pos ledger journal text) k) (simp (lt-leb _ _ left, ← size, z)) in
-        whole input (k + 1) open· (omega arith) (simp e) ∙ simp e
+-- ---- a step
+-- the text of the next step comes first
+pub next-text : (input : List ℕ) (r : Run) → r .pos < length input → r .count < length input
+    → textFrom input r ≡ textOf (r .count + 1) (r .ledger) (r .journal) (commandOf input r) ++ textFrom input (turn input r)
+unfolding textFrom textNext turn
+next-text input r h g =
+    let n : length input - r .count ≡ suc (length input - (r .count + 1)) = omega arith in
+    rw n (simp (lt-leb _ _ h))
 
-    pub next : isWhole n pos (length input) ≡ true
-        → (r : Reply) → r ≡ replyOf ledger journal (commandAt (getD input pos 0) input (pos + 1))
-        → (j : List ℕ) → j ≡ journalBy ledger journal (commandAt (getD input pos 0) input (pos + 1))
-        → (a b : ℕ) → a ≡ numberOf (r .outcome) → b ≡ valueOf (r .outcome)
-        → after input (k + 1) ≡ going (pos + n + 1) (r .ledger) j (text ++ lineOf (k + 1) a b)
-    unfolding turn ended carriedOut
-    next z r e j f a b p q = after-next _ (simp (lt-leb _ _ left, ← size, z, ← e, ← f, p, q))
+-- it ends where it would
+pub next-last : (input : List ℕ) (r : Run) → r .pos < length input → r .count < length input → lastFrom input r ≡ lastFrom input (turn input r)
+unfolding lastFrom runNext turn
+next-last input r h g =
+    let n : length input - r .count ≡ suc (length input - (r .count + 1)) = omega arith in
+    rw n (simp (lt-leb _ _ h))
 
--- a whole step has a body, and lies inside
-pub whole-step : (n pos size : ℕ) → isWhole n pos size ≡ true → (0 < n) × (pos + n < size)
-unfolding isWhole
-whole-step n pos size e = let h = and-true (ltb 0 n) _ e in (ltb-true 0 n (h .0), ltb-true (pos + n) size (h .1))
+-- a run that was carried on by one step, whose answer was o
+pub step-text : (input : List ℕ) (r r′ : Run) (o : Outcome) → r .pos < length input → r .count < length input
+    → o ≡ replyOf (r .ledger) (r .journal) (commandOf input r) .outcome → r′ ≡ turn input r
+    → textFrom input r ≡ lineFor (r .count + 1) o ++ textFrom input r′
+unfolding listed
+step-text input r r′ o h g e t =
+    next-text input r h g
+    ∙ ap (λ (x : List ℕ). x ++ textFrom input (turn input r)) (append-nil (lineFor (r .count + 1) (replyOf (r .ledger) (r .journal) (commandOf input r) .outcome)))
+    ∙ rw (e, t)
+
+pub step-last : (input : List ℕ) (r r′ : Run) → r .pos < length input → r .count < length input → r′ ≡ turn input r → lastFrom input r ≡ lastFrom input r′
+step-last input r r′ h g t = next-last input r h g ∙ ap (lastFrom input) (sym t)

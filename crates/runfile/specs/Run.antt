@@ -1,14 +1,18 @@
--- The whole run: the header, then a line for each step. "Refusal 1 prints `0 1 0` and nothing else; refusal 2 prints its line and ends."
-use mathlib.Core.Bool.{Bool, _&&_, cond, false, true}
+-- The whole run: the header, then a text for each step. "Refusal 1 prints `0 1 0` and nothing else; refusal 2 prints its line and ends."
+use mathlib.Core.Bool.{Bool, _&&_, cond}
 use mathlib.Core.List.{List, [], _++_}
-use Prim.Native.Nat.{_+_, suc, zero, ℕ}
-use lib.Dec.{eqb, leb, ltb}
+use Prim.Native.Nat.{_*_, _+_, _-_, suc, zero, ℕ}
+use lib.Dec.{eqb, leb}
 use lib.ListN.{getD, length, replicate}
-use Rattle.ledger.specs.Federation.{isLawful}
+use Rattle.outcome.specs.declared.Outcome.the-variants.{Refused}
+use Rattle.outcome.specs.declared.Refusal.the-variants.{Settings as BadSettings}
+use Rattle.federation.specs.Federation.{isLawful}
+use Rattle.codec.specs.Codec.{recordSize}
+use Rattle.journal.specs.Journal.{capacity}
 use Rattle.ledger.specs.State.{newLedger}
 use Rattle.ledger.specs.declared.Ledger.{Ledger}
-use Rattle.runfile.specs.Steps.{Command, bodySize, commandAt, journalBy, replyOf, wordAt}
-use Rattle.runfile.specs.Text.{lineFor, lineOf}
+use Rattle.runfile.specs.Steps.{Command, journalBy, listed, nextAt, replyOf, stepAt, wordAt}
+use Rattle.text.specs.Text.{lineFor}
 
 -- "reads standard input, at most 65,536 bytes"
 abbrev pub longest : ℕ
@@ -27,56 +31,63 @@ isHeader input =
 unfoldable pub opened : List ℕ → Ledger
 opened input = newLedger (getD input 5 0) (getD input 6 0) (wordAt input 7)
 
+-- the run's own journal has room for all the records that can be booked
+abbrev pub journalSize : ℕ
+journalSize = recordSize * capacity
+
 -- a run begins, unless check 1 turns the input back: "header or settings wrong, or file too long"
 unfoldable pub opens : List ℕ → Bool
 opens input = leb (length input) longest && (isHeader input && isLawful (opened input .settings))
 
--- a run on its way: where it reads, the ledger and the book, the text so far, and whether refusal 2 has ended it
+-- a run on its way: where it reads, how many steps it has carried out, the ledger and the book
 pub record Run : Type 0 where
   pub pos : ℕ
+  pub count : ℕ
   pub ledger : Ledger
   pub journal : List ℕ
-  pub text : List ℕ
-  pub over : Bool
 
-abbrev pub going : ℕ → Ledger → List ℕ → List ℕ → Run
-going pos ledger journal text = record { pos = pos; ledger = ledger; journal = journal; text = text; over = false }
+abbrev pub begins : List ℕ → Run
+begins input = record { pos = headerSize; count = 0; ledger = opened input; journal = replicate journalSize 0 }
 
--- "2: kind of step unknown, or its body cut short"
-abbrev pub cutShort : Run → ℕ → Run
-cutShort r k = record { pos = r .pos; ledger = r .ledger; journal = r .journal; text = r .text ++ lineOf (k + 1) 2 0; over = true }
-
--- nothing is left to do
-unfoldable pub ended : List ℕ → Run → Bool
-ended input r = cond (r .over) true (leb (length input) (r .pos))
-
--- a step at pos with a body of n bytes, in a file of so many: its kind is known and its body is all there
-unfoldable pub isWhole : ℕ → ℕ → ℕ → Bool
-isWhole n pos size = ltb 0 n && ltb (pos + n) size
-
--- the step at pos can be read
-abbrev pub isReadable : List ℕ → ℕ → Bool
-isReadable input pos = isWhole (bodySize (getD input pos 0)) pos (length input)
+-- nothing is left to read
+abbrev pub ended : List ℕ → Run → Bool
+ended input r = leb (length input) (r .pos)
 
 abbrev pub commandOf : List ℕ → Run → Command
-commandOf input r = commandAt (getD input (r .pos) 0) input (r .pos + 1)
+commandOf input r = stepAt input (r .pos)
 
--- the step after k others, carried out, with its line
-unfoldable pub carriedOut : List ℕ → ℕ → Run → Run
-carriedOut input k r =
-    let reply = replyOf (r .ledger) (r .journal) (commandOf input r) in
-    going (r .pos + bodySize (getD input (r .pos) 0) + 1) (reply .ledger) (journalBy (r .ledger) (r .journal) (commandOf input r))
-    (r .text ++ lineFor (k + 1) (reply .outcome))
+-- what is printed for step number k: its line, and the lines that it lists
+abbrev pub textOf : ℕ → Ledger → List ℕ → Command → List ℕ
+textOf k l journal c = lineFor k (replyOf l journal c .outcome) ++ listed l journal c
 
--- the step after k others
-unfoldable pub turn : List ℕ → ℕ → Run → Run
-turn input k r = cond (ended input r) r (cond (isReadable input (r .pos)) (carriedOut input k r) (cutShort r k))
+-- the next step carried out
+unfoldable pub turn : List ℕ → Run → Run
+turn input r = record {
+  pos = nextAt input (r .pos);
+  count = r .count + 1;
+  ledger = replyOf (r .ledger) (r .journal) (commandOf input r) .ledger;
+  journal = journalBy (r .ledger) (r .journal) (commandOf input r);
+}
 
--- the run after k steps
-unfoldable pub after : List ℕ → ℕ → Run
-after input zero = going headerSize (opened input) (replicate 12800 0) []
-after input (suc k) = turn input k (after input k)
+-- the text of the next n steps, of fewer where the run ends before
+unfoldable pub textNext : ℕ → List ℕ → Run → List ℕ
+textNext zero input r = []
+textNext (suc n) input r =
+    cond (ended input r) [] (textOf (r .count + 1) (r .ledger) (r .journal) (commandOf input r) ++ textNext n input (turn input r))
 
--- the text for any input: there are no more steps than bytes
+-- what a run that has come so far has still to print: it has no more steps than bytes
+unfoldable pub textFrom : List ℕ → Run → List ℕ
+textFrom input r = textNext (length input - r .count) input r
+
+-- the run after the next n steps
+unfoldable pub runNext : ℕ → List ℕ → Run → Run
+runNext zero input r = r
+runNext (suc n) input r = cond (ended input r) r (runNext n input (turn input r))
+
+-- where it will end
+unfoldable pub lastFrom : List ℕ → Run → Run
+lastFrom input r = runNext (length input - r .count) input r
+
+-- the text for any input
 unfoldable pub runText : List ℕ → List ℕ
-runText input = cond (opens input) (after input (length input) .text) (lineOf 0 1 0)
+runText input = cond (opens input) (textFrom input (begins input)) (lineFor 0 (Refused BadSettings))

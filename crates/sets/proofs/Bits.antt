@@ -1,12 +1,12 @@
 -- The laws of sets as numbers, stated once over the width: the sets of vaults are the case of 16 bits, and the two words
 -- of a set of jobs that of 64. Bit i + 1 of s is bit i of s / 2, so each law on bits is an induction on the bit or on
 -- the width with arithmetic on halves and remainders; each law on members is one on bits.
--- Assumes nothing.
 use mathlib.Core.Bool.{Bool, _&&_, _||_, cond, false, not, true, true≢false}
 use mathlib.Core.Logic.{_≢_}
 use mathlib.Core.Path.{_∙_, _≡_, ap, refl, sym}
 use Prim.Native.Nat.{_%_, _*_, _+_, _-_, _/_, _<_, _^_, _≤_, max, min, suc, zero, ℕ}
-use native.Mathlib.Nat.{add-comm, div-div-eq-div-mul, div-eq-of-lt, div-mul-le-self, div-one, le-refl, le-trans, mod-le, mul-assoc, mul-comm, mul-le-mul-right, one-mul, pow-suc, sub-zero, zero-mul}
+use native.Mathlib.Nat.{add-comm, div-div-eq-div-mul, div-eq-of-lt, div-mul-le-self, div-one, le-refl, le-trans, mod-le, mul-assoc, mul-comm}
+use native.Mathlib.Nat.{mul-le-mul-right, one-mul, pow-suc, sub-zero, zero-mul}
 use native.Mathlib.Numerals.{add-one}
 use native.Mathlib.Omega.{arith}
 use lib.Arith.{lt-one}

@@ -1,5 +1,4 @@
 -- Worked values, computed: the number 11 is 1011 in binary, the set of the vaults 0, 1 and 3.
--- Assumes nothing.
 use mathlib.Core.Path.{_≡_, refl}
 use mathlib.Core.Bool.{true, false}
 use lib.Count.{ones}

@@ -1,6 +1,5 @@
 -- The laws of sets of jobs. A job is a bit of one of the two words, or of none from 128 on; in each case the law is the
 -- one that `Bits` has for a word, and the other word is as it was.
--- Assumes nothing.
 use mathlib.Core.Bool.{Bool, _&&_, _||_, cond, false, not, true, true≢false}
 use mathlib.Core.Logic.{_≢_, _⊎_, inl, inr, ⊎-elim}
 use mathlib.Core.Path.{_∙_, _≡_, ap, ap₂, refl, sym}
@@ -14,7 +13,8 @@ use Rattle.base.proofs.Reflect.{reflect-as, reflect-or, reflect-true, reflects-
 use Rattle.base.proofs.Search.{reflect-any, sum-append, sum-from, sum-same}
 use Rattle.base.specs.Reflect.{Reflects}
 use Rattle.base.specs.Search.{Every, Some, anyBelow, sumFrom}
-use Rattle.sets.proofs.Bits.{bit-of-has, has-common, has-none, has-union, has-with-other, has-with-same, has-without-other, has-without-same, members-same, ones-counts, ones-with, reflect-some, with-again, with-lt, without-absent, without-lt}
+use Rattle.sets.proofs.Bits.{bit-of-has, has-common, has-none, has-union, has-with-other, has-with-same, has-without-other, has-without-same}
+use Rattle.sets.proofs.Bits.{members-same, ones-counts, ones-with, reflect-some, with-again, with-lt, without-absent, without-lt}
 use Rattle.sets.specs.Bits.{bit, hasBit, withBit, withoutBit}
 use Rattle.sets.specs.Jobs.{InWords, changeAt, jobCount, jobHas, jobUnion, jobWith, jobWithout, jobsMeet, noJobs}
 use Rattle.sets.specs.declared.job_set.JobSet.{JobSet}
@@ -114,7 +114,8 @@ pub job-without-absent : (s : JobSet) (i : ℕ) → jobHas s i ≡ false → job
 unfolding jobHas jobWithout
 job-without-absent s i h = go (ltb i 64) (ltb i 128) refl refl h
   where
-    go : (a b : Bool) → ltb i 64 ≡ a → ltb i 128 ≡ b → cond a (hasBit (s .low) i) (cond b (hasBit (s .high) (i - 64)) false) ≡ false → changeAt withoutBit s i ≡ s
+    go : (a b : Bool) → ltb i 64 ≡ a → ltb i 128 ≡ b → cond a (hasBit (s .low) i) (cond b (hasBit (s .high) (i - 64)) false) ≡ false
+        → changeAt withoutBit s i ≡ s
     go true b ea eb e = simp (ea, without-absent (s .low) i e)
     go false true ea eb e = simp (ea, eb, without-absent (s .high) (i - 64) e)
     go false false ea eb e = simp (ea, eb)
@@ -149,7 +150,8 @@ meets-any a b w =
         → Some 64 (λ i. hasBit (bitAnd (a .low) (b .low)) i ≡ true) ⊎ Some 64 (λ i. hasBit (bitAnd (a .high) (b .high)) i ≡ true)
     into m = by (ltb (m .which) 64) refl
       where
-        by : (t : Bool) → ltb (m .which) 64 ≡ t → Some 64 (λ i. hasBit (bitAnd (a .low) (b .low)) i ≡ true) ⊎ Some 64 (λ i. hasBit (bitAnd (a .high) (b .high)) i ≡ true)
+        by : (t : Bool) → ltb (m .which) 64 ≡ t
+            → Some 64 (λ i. hasBit (bitAnd (a .low) (b .low)) i ≡ true) ⊎ Some 64 (λ i. hasBit (bitAnd (a .high) (b .high)) i ≡ true)
         by true e = let h = ltb-true (m .which) 64 e in inl (record { which = m .which; below = h; has = sym (low (m .which) h) ∙ m .has })
         by false e =
             let h : m .which - 64 < 64 = omega (arith, ltb-false (m .which) 64 e, m .below) in

@@ -2,3 +2,4 @@ pub mod Bits
 pub mod Jobs
 pub mod Quorum
 pub mod Cases
+pub mod Size

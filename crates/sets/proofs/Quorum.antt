@@ -2,7 +2,6 @@
 -- 3b < n. The two have 2n - 2b members between them, so that at least n - 2b vaults stand in both; that is more than b,
 -- and no more than b of those can be faulty. The proof goes through the bits, the lowest first: where the lowest
 -- vault is not the one that is looked for, the rest of the vaults still have members enough.
--- Assumes nothing.
 use mathlib.Core.Path.{_≡_, refl, ap, _∙_}
 use mathlib.Core.Bool.{Bool, true, false}
 use Prim.Native.Nat.{ℕ, zero, suc, _+_, _-_, _/_, _%_, _^_, _<_}

@@ -1,12 +1,13 @@
 //! A run file in the making, and the ledger that its steps lead to.
 
-use super::random::Random;
 use crate::engine::Engine;
+use crate::random::Random;
 use crate::record::{Bytes, Label, Tape};
 use crate::refusal::Answer;
-use crate::settings::{header, Settings};
+use crate::settings::{Settings, MOST_VAULTS};
 use crate::step::Step;
 use crate::watch::along_arrival;
+use crate::write::{self, header, set_of};
 
 pub struct Builder {
     pub random: Random,
@@ -20,7 +21,7 @@ pub fn federation(random: &mut Random) -> (u8, u8, u16) {
     let n = if random.chance(60) {
         random.between(1, 7)
     } else {
-        random.between(1, 16)
+        random.between(1, MOST_VAULTS)
     };
     let most = (n - 1) / 3;
     let b = if random.chance(70) {
@@ -33,12 +34,10 @@ pub fn federation(random: &mut Random) -> (u8, u8, u16) {
     } else {
         random.between(0, b)
     };
-    let mut vaults: Vec<u64> = (0..n).collect();
+    let mut vaults: Vec<u8> = (0..n as u8).collect();
     random.shuffle(&mut vaults);
-    let set = vaults[..faulty as usize]
-        .iter()
-        .fold(0u16, |set, vault| set | 1 << vault);
-    (n as u8, b as u8, set)
+    vaults.truncate(faulty as usize);
+    (n as u8, b as u8, set_of(vaults))
 }
 
 impl Builder {
@@ -63,24 +62,23 @@ impl Builder {
 
     /// Proposes a record; its number if it was booked.
     pub fn propose(&mut self, record: Bytes) -> Option<u8> {
-        let record = Box::new(record);
-        let answer = self.step(Step::Propose { record });
+        let answer = self.step(write::propose(record));
         answer.ok().map(|job| job as u8)
     }
 
     /// The vault's signature: a preflight or a faulty vault's own step.
     pub fn sign(&mut self, vault: u8, job: u8) -> Answer {
         if self.is_faulty(vault) {
-            self.step(Step::FaultySignature { vault, job })
+            self.step(write::faulty_signature(vault, job))
         } else {
-            self.step(Step::Preflight { vault, job })
+            self.step(write::preflight(vault, job))
         }
     }
 
     /// A commit with the real signers or a faulty acknowledgement.
     pub fn hold(&mut self, vault: u8, job: u8) -> Answer {
         if self.is_faulty(vault) {
-            self.step(Step::FaultyAcknowledgement { vault, job })
+            self.step(write::faulty_acknowledgement(vault, job))
         } else {
             let signers = self.signers(job);
             self.commit(vault, job, signers)
@@ -88,11 +86,7 @@ impl Builder {
     }
 
     pub fn commit(&mut self, vault: u8, job: u8, signers: u16) -> Answer {
-        self.step(Step::Commit {
-            vault,
-            job,
-            signers,
-        })
+        self.step(write::commit(vault, job, signers))
     }
 
     /// Some of the vaults sign, in any order.
@@ -145,7 +139,7 @@ impl Builder {
     /// The set of all that signed the job.
     pub fn signers(&self, job: u8) -> u16 {
         match self.engine.signatures.get(usize::from(job)) {
-            Some(vaults) => vaults.iter().fold(0, |set, vault| set | 1 << vault),
+            Some(vaults) => set_of(vaults.iter().map(|vault| *vault as u8)),
             None => 0,
         }
     }

@@ -3,11 +3,15 @@
 use super::build::Builder;
 use super::records::*;
 use super::traffic::look_at_all;
-use crate::record::Tape;
-use crate::step::Step;
+use crate::engine::BOOK_RECORDS;
+use crate::record::{Bytes, Tape};
+use crate::write::{accession, generations, migration};
 
 pub fn chains(builder: &mut Builder) {
-    let depth = *builder.random.pick(&[3, 10, 40, 127, 128, 129]);
+    let depth =
+        *builder
+            .random
+            .pick(&[3, 10, 40, BOOK_RECORDS - 1, BOOK_RECORDS, BOOK_RECORDS + 1]);
     let fresh = *builder.random.pick(&[0, 3, 10]);
     let mut last = begin(builder);
     // The tape of one frame that the job before the last left over.
@@ -36,7 +40,7 @@ fn begin(builder: &mut Builder) -> Tape {
         label,
         frames: 1_000_000,
     };
-    push_certain(builder, accession_of(7, &[tape]));
+    push_certain(builder, accession(7, &[tape]));
     tape
 }
 
@@ -58,12 +62,12 @@ fn link(builder: &mut Builder, inputs: &[Tape]) -> Option<(Tape, Tape)> {
     } else {
         [small, big]
     };
-    push_certain(builder, migration_of(drive, inputs, &outputs));
+    push_certain(builder, migration(drive, inputs, &outputs));
     Some((big, small))
 }
 
 /// Proposed, signed by all and held by all, so that the chain goes on.
-fn push_certain(builder: &mut Builder, record: crate::record::Bytes) {
+fn push_certain(builder: &mut Builder, record: Bytes) {
     let Some(job) = builder.propose(record) else {
         return;
     };
@@ -74,6 +78,6 @@ fn push_certain(builder: &mut Builder, record: crate::record::Bytes) {
         let _ = builder.hold(vault, job);
     }
     if builder.random.chance(20) {
-        let _ = builder.step(Step::Generations { job });
+        let _ = builder.step(generations(job));
     }
 }

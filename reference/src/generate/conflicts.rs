@@ -3,13 +3,15 @@
 use super::build::Builder;
 use super::records::*;
 use super::traffic::{look_at_all, odd_commit, repeat};
-use crate::record::{medium, reads, Bytes, Tape};
+use crate::record::{medium, parse, reads, Bytes, Tape};
+use crate::settings::MOST_VAULTS;
+use crate::write::{accession, migration};
 
 pub fn conflicts(builder: &mut Builder) {
     let rounds = builder.random.between(1, 6);
     for _ in 0..rounds {
         for _ in 0..builder.random.between(1, 2) {
-            let record = accession(builder);
+            let record = new_accession(builder);
             builder.push(record);
         }
         let rivals = rivals(builder);
@@ -34,7 +36,7 @@ fn rivals(builder: &mut Builder) -> Vec<Bytes> {
         5 => same_inputs_and_outputs(builder, &tapes),
         6 => overlapping(builder, &standing),
         _ => (0..builder.random.between(2, 3))
-            .filter_map(|_| migration(builder, &tapes))
+            .filter_map(|_| new_migration(builder, &tapes))
             .collect(),
     }
 }
@@ -50,7 +52,7 @@ fn same_accession(builder: &mut Builder) -> Vec<Bytes> {
     // The labels may all be the same: then another drive makes another job.
     let drive_6_reads = others.iter().all(|t| reads(6, medium(&t.label)));
     let drive = if drive_6_reads { 6 } else { 7 };
-    vec![accession_of(7, &outputs), accession_of(drive, &others)]
+    vec![accession(7, &outputs), accession(drive, &others)]
 }
 
 /// One to `most` new tapes that the drive reads and writes.
@@ -69,7 +71,7 @@ fn fresh_tapes(builder: &mut Builder, drive: u8, most: u64) -> Vec<Tape> {
 
 /// A migration, and an accession of some of its output labels.
 fn same_outputs(builder: &mut Builder, tapes: &[Tape]) -> Vec<Bytes> {
-    let Some(moved) = migration(builder, tapes) else {
+    let Some(moved) = new_migration(builder, tapes) else {
         return Vec::new();
     };
     let mut outputs = outputs_of(&moved);
@@ -78,11 +80,11 @@ fn same_outputs(builder: &mut Builder, tapes: &[Tape]) -> Vec<Bytes> {
     let Some(drive) = drive_for(&mut builder.random, &outputs) else {
         return vec![moved];
     };
-    vec![moved, accession_of(drive, &outputs)]
+    vec![moved, accession(drive, &outputs)]
 }
 
 fn outputs_of(bytes: &Bytes) -> Vec<Tape> {
-    let record = crate::record::parse(bytes).expect("made well-formed");
+    let record = parse(bytes).expect("made well-formed");
     record.outputs.iter().map(|output| output.tape).collect()
 }
 
@@ -107,8 +109,8 @@ fn label_in_use(builder: &mut Builder) -> Vec<Bytes> {
         outputs.push(Tape { label, frames: 7 });
     }
     builder.random.shuffle(&mut outputs);
-    let mut rivals = vec![accession_of(drive, &outputs)];
-    rivals.extend(migration(builder, &[used]));
+    let mut rivals = vec![accession(drive, &outputs)];
+    rivals.extend(new_migration(builder, &[used]));
     builder.random.shuffle(&mut rivals);
     rivals
 }
@@ -122,8 +124,8 @@ fn other_frames(builder: &mut Builder, tapes: &[Tape]) -> Vec<Bytes> {
             tape.frames = frames(&mut builder.random);
         }
     }
-    let mut rivals: Vec<Bytes> = migration(builder, &wrong).into_iter().collect();
-    rivals.extend(migration(builder, tapes));
+    let mut rivals: Vec<Bytes> = new_migration(builder, &wrong).into_iter().collect();
+    rivals.extend(new_migration(builder, tapes));
     rivals
 }
 
@@ -144,12 +146,12 @@ fn retired_already(builder: &mut Builder) -> Vec<Bytes> {
         inputs.extend(some_tapes(&mut builder.random, &standing, 2));
         builder.random.shuffle(&mut inputs);
     }
-    migration(builder, &inputs).into_iter().collect()
+    new_migration(builder, &inputs).into_iter().collect()
 }
 
 /// Rivals for inputs and outputs at once.
 fn same_inputs_and_outputs(builder: &mut Builder, tapes: &[Tape]) -> Vec<Bytes> {
-    let Some(first) = migration(builder, tapes) else {
+    let Some(first) = new_migration(builder, tapes) else {
         return Vec::new();
     };
     let outputs = outputs_of(&first);
@@ -158,7 +160,7 @@ fn same_inputs_and_outputs(builder: &mut Builder, tapes: &[Tape]) -> Vec<Bytes> 
     let others = share(&mut builder.random, total, &labels);
     let mut inputs = tapes.to_vec();
     builder.random.shuffle(&mut inputs);
-    vec![first, migration_of(first[1], &inputs, &others)]
+    vec![first, migration(first[1], &inputs, &others)]
 }
 
 /// Migrations that share some of their inputs.
@@ -166,7 +168,7 @@ fn overlapping(builder: &mut Builder, standing: &[Tape]) -> Vec<Bytes> {
     let mut rivals = Vec::new();
     for _ in 0..3 {
         let tapes = some_tapes(&mut builder.random, standing, 4);
-        rivals.extend(migration(builder, &tapes));
+        rivals.extend(new_migration(builder, &tapes));
     }
     rivals
 }
@@ -229,7 +231,7 @@ fn settle(builder: &mut Builder, jobs: &[u8]) {
             repeat(builder, *job);
         }
         if builder.random.chance(30) {
-            let everyone = u16::MAX >> (16 - builder.engine.settings.n);
+            let everyone = u16::MAX >> (MOST_VAULTS - builder.engine.settings.n);
             let vault = builder.any_vault();
             let _ = builder.commit(vault, *job, everyone);
         }

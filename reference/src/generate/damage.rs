@@ -1,10 +1,15 @@
 //! Records that fail checks 6 to 9 on purpose, and damaged files.
 
 use super::build::Builder;
-use super::random::Random;
 use super::records::*;
 use super::traffic::{action, look_at_all};
-use crate::record::{Bytes, Tape, ENTRY_BYTES, FIRST_OUTPUT};
+use super::FAMILIES;
+use crate::random::Random;
+use crate::record::{
+    entry_start, Bytes, Tape, FIRST_OUTPUT, HEAD_BYTES, LABEL_BYTES, RECORD_BYTES,
+};
+use crate::settings::HEADER_BYTES;
+use crate::write::migration;
 
 pub fn damaged_records(builder: &mut Builder) {
     for _ in 0..builder.random.between(8, 30) {
@@ -32,7 +37,7 @@ pub fn damaged_record(builder: &mut Builder) -> Bytes {
         2 => wrong_count(random, &mut record),
         3 => wrong_frames(random, &mut record),
         4 => wrong_label(random, &mut record),
-        5 => record[random.between(4, 99) as usize] = 1,
+        5 => record[random.between(HEAD_BYTES as u64, RECORD_BYTES as u64 - 1) as usize] = 1,
         6 | 7 => equal_labels(random, &mut record),
         8 | 9 => other_media(random, &mut record),
         10 => {
@@ -44,7 +49,7 @@ pub fn damaged_record(builder: &mut Builder) -> Bytes {
             wrong_frames(random, &mut record);
         }
         12 => {
-            let at = random.below(100) as usize;
+            let at = random.below(RECORD_BYTES as u64) as usize;
             record[at] ^= 1 << random.below(8);
         }
         _ => return wide_sums(builder),
@@ -54,7 +59,7 @@ pub fn damaged_record(builder: &mut Builder) -> Bytes {
 
 fn right_record(builder: &mut Builder) -> Bytes {
     if builder.random.chance(30) {
-        return accession(builder);
+        return new_accession(builder);
     }
     let mut inputs = Vec::new();
     for _ in 0..builder.random.between(1, 4) {
@@ -62,7 +67,7 @@ fn right_record(builder: &mut Builder) -> Bytes {
         let frames = frames(&mut builder.random);
         inputs.push(Tape { label, frames });
     }
-    migration(builder, &inputs).expect("drives 7 and 8 read medium 7")
+    new_migration(builder, &inputs).expect("drives 7 and 8 read medium 7")
 }
 
 /// Five inputs, none, one too few or one too many.
@@ -79,18 +84,14 @@ fn wrong_count(random: &mut Random, record: &mut Bytes) {
 
 /// The numbers of the used entries, as far as the counts are right.
 fn used(record: &Bytes) -> Vec<usize> {
-    let half = |first: usize, count: u8| first..first + usize::from(count.min(4));
+    let half = |first: usize, count: u8| first..first + usize::from(count).min(FIRST_OUTPUT);
     half(0, record[2])
         .chain(half(FIRST_OUTPUT, record[3]))
         .collect()
 }
 
-fn place(entry: usize) -> usize {
-    4 + entry * ENTRY_BYTES
-}
-
 fn wrong_frames(random: &mut Random, record: &mut Bytes) {
-    let at = place(*random.pick(&used(record))) + 8;
+    let at = entry_start(*random.pick(&used(record))) + LABEL_BYTES;
     let right = u32::from_le_bytes(record[at..at + 4].try_into().unwrap());
     let wrong = match random.below(4) {
         0 | 1 => 0,
@@ -103,28 +104,28 @@ fn wrong_frames(random: &mut Random, record: &mut Bytes) {
 /// A byte just outside (or just inside) what a label may have there.
 fn wrong_label(random: &mut Random, record: &mut Bytes) {
     let entry = *random.pick(&used(record));
-    let byte = random.below(8) as usize;
+    let byte = random.below(LABEL_BYTES as u64) as usize;
     let near: &[u8] = match byte {
         6 => b"KMl1",
         7 => b"4:L\x055",
         _ => b"/09:@AZ[az \x00\xff",
     };
-    record[place(entry) + byte] = *random.pick(near);
+    record[entry_start(entry) + byte] = *random.pick(near);
 }
 
 /// One or two used entries get the label of another.
 fn equal_labels(random: &mut Random, record: &mut Bytes) {
     for _ in 0..random.between(1, 2) {
-        let from = place(*random.pick(&used(record)));
-        let to = place(*random.pick(&used(record)));
-        record.copy_within(from..from + 8, to);
+        let from = entry_start(*random.pick(&used(record)));
+        let to = entry_start(*random.pick(&used(record)));
+        record.copy_within(from..from + LABEL_BYTES, to);
     }
 }
 
 /// One or more used entries get another medium.
 fn other_media(random: &mut Random, record: &mut Bytes) {
     for _ in 0..random.between(1, 3) {
-        let at = place(*random.pick(&used(record))) + 7;
+        let at = entry_start(*random.pick(&used(record))) + LABEL_BYTES - 1;
         record[at] = *random.pick(b"56789");
     }
 }
@@ -153,19 +154,19 @@ fn wide_sums(builder: &mut Builder) -> Bytes {
             inputs[2].frames = little;
             outputs[0].frames = little;
             return if choice == 2 {
-                migration_of(7, &inputs[..3], &outputs[..1])
+                migration(7, &inputs[..3], &outputs[..1])
             } else {
-                migration_of(8, &outputs[..1], &inputs[..3])
+                migration(8, &outputs[..1], &inputs[..3])
             };
         }
     }
-    migration_of(7, inputs, outputs)
+    migration(7, inputs, outputs)
 }
 
 /// A file of another family.
 fn another(random: &mut Random, own: u64) -> Vec<u8> {
-    let mut seed = random.next();
-    while (17..24).contains(&(seed % 24)) || seed % 24 == own {
+    let mut seed = random.word();
+    while (17..FAMILIES).contains(&(seed % FAMILIES)) || seed % FAMILIES == own {
         seed = seed.wrapping_add(5);
     }
     super::file(seed)
@@ -176,7 +177,7 @@ pub fn damaged_file(random: &mut Random, own: u64) -> Vec<u8> {
     let mut file = another(random, own);
     for _ in 0..random.between(1, 3) {
         let length = file.len() as u64;
-        let span = *random.pick(&[9, 120, 400, length]);
+        let span = *random.pick(&[HEADER_BYTES as u64, 120, 400, length]);
         let at = random.below(span.min(length)) as usize;
         file[at] = match random.below(3) {
             0 => random.byte(),

@@ -8,20 +8,22 @@ mod conflicts;
 mod damage;
 mod edges;
 mod orphans;
-mod random;
 mod records;
 mod traffic;
 mod wild;
 
+use crate::random::Random;
 use build::Builder;
-use random::Random;
 
-/// The run file of a seed. The seed's rest modulo 24 chooses the family.
+/// A seed's rest modulo this chooses the family of its file.
+const FAMILIES: u64 = 24;
+
+/// The run file of a seed.
 pub fn file(seed: u64) -> Vec<u8> {
     let mut random = Random::new(seed);
     // Counts a family's files, for families that go through a list.
-    let turn = seed / 24;
-    match seed % 24 {
+    let turn = seed / FAMILIES;
+    match seed % FAMILIES {
         0..=4 => with(random, traffic::traffic),
         5..=9 => with(random, conflicts::conflicts),
         10..=12 => with(random, orphans::orphans),

@@ -4,11 +4,12 @@ use super::build::Builder;
 use super::records::*;
 use super::traffic::look_at_all;
 use crate::record::Tape;
+use crate::write::accession;
 
 pub fn orphans(builder: &mut Builder) {
     for _ in 0..builder.random.between(1, 4) {
         let without = left_out(builder);
-        let record = accession(builder);
+        let record = new_accession(builder);
         let Some(parent) = builder.propose(record) else {
             return;
         };
@@ -58,7 +59,7 @@ fn made_by(builder: &Builder, job: u8) -> Vec<Tape> {
 /// A job made from some of these tapes, proposed.
 fn family(builder: &mut Builder, tapes: &[Tape]) -> Option<u8> {
     let inputs = some_tapes(&mut builder.random, tapes, 4);
-    let record = migration(builder, &inputs)?;
+    let record = new_migration(builder, &inputs)?;
     builder.propose(record)
 }
 
@@ -75,7 +76,7 @@ fn after(builder: &mut Builder, parent: u8, child: u8, without: &[u8]) {
         let mut again = parents_tapes.clone();
         again[0].frames = frames(&mut builder.random);
         if let Some(drive) = drive_for(&mut builder.random, &again) {
-            jobs.extend(builder.propose(accession_of(drive, &again)));
+            jobs.extend(builder.propose(accession(drive, &again)));
         }
     }
     builder.random.shuffle(&mut jobs);

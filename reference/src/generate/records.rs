@@ -1,24 +1,11 @@
 //! Records that pass checks 6 to 9.
 
 use super::build::Builder;
-use super::random::Random;
+use crate::random::Random;
 use crate::record::{medium, reads, writes, Bytes, Label, Tape};
-use crate::whole::{record, Written};
+use crate::write::{accession, migration};
 
 const MOST: u64 = u32::MAX as u64;
-
-fn written(tapes: &[Tape]) -> Vec<Written<'_>> {
-    let one = |tape: &Tape| tape.frames as u32;
-    tapes.iter().map(|tape| (&tape.label, one(tape))).collect()
-}
-
-pub fn accession_of(drive: u8, outputs: &[Tape]) -> Bytes {
-    record(0, drive, &[], &written(outputs))
-}
-
-pub fn migration_of(drive: u8, inputs: &[Tape], outputs: &[Tape]) -> Bytes {
-    record(1, drive, &written(inputs), &written(outputs))
-}
 
 pub fn frames(random: &mut Random) -> u64 {
     match random.below(8) {
@@ -50,7 +37,7 @@ pub fn drive_for(random: &mut Random, tapes: &[Tape]) -> Option<u8> {
 }
 
 /// An accession of one to four new tapes.
-pub fn accession(builder: &mut Builder) -> Bytes {
+pub fn new_accession(builder: &mut Builder) -> Bytes {
     let drive = builder.random.between(5, 9) as u8;
     let count = builder.random.between(1, 4);
     let media = media_read(drive);
@@ -62,11 +49,11 @@ pub fn accession(builder: &mut Builder) -> Bytes {
             Tape { label, frames }
         })
         .collect();
-    accession_of(drive, &outputs)
+    accession(drive, &outputs)
 }
 
 /// A migration of these tapes to new ones, if a drive reads them all.
-pub fn migration(builder: &mut Builder, inputs: &[Tape]) -> Option<Bytes> {
+pub fn new_migration(builder: &mut Builder, inputs: &[Tape]) -> Option<Bytes> {
     let drive = drive_for(&mut builder.random, inputs)?;
     let total: u64 = inputs.iter().map(|tape| tape.frames).sum();
     let fewest = total.div_ceil(MOST);
@@ -79,7 +66,7 @@ pub fn migration(builder: &mut Builder, inputs: &[Tape]) -> Option<Bytes> {
         })
         .collect();
     let outputs = share(&mut builder.random, total, &labels);
-    Some(migration_of(drive, inputs, &outputs))
+    Some(migration(drive, inputs, &outputs))
 }
 
 /// Shares the total out among the labels, each between 1 and the most.

@@ -1,8 +1,9 @@
 //! Traffic that makes sense, with its repeats and small mistakes.
 
 use super::build::Builder;
-use super::records::{accession, migration, some_tapes};
-use crate::step::Step;
+use super::records::{new_accession, new_migration, some_tapes};
+use crate::settings::MOST_VAULTS;
+use crate::write::{draw, faulty_acknowledgement, faulty_signature, generations, preflight, show};
 
 pub fn traffic(builder: &mut Builder) {
     let actions = builder.random.between(5, 60);
@@ -15,12 +16,12 @@ pub fn action(builder: &mut Builder) {
     let job = recent_job(builder);
     match builder.random.below(24) {
         0..=2 => {
-            let record = accession(builder);
+            let record = new_accession(builder);
             builder.push(record);
         }
         3..=7 => migrate(builder),
         8 => {
-            let record = accession(builder);
+            let record = new_accession(builder);
             builder.propose(record);
         }
         9 => builder.sign_around(job, 60),
@@ -63,7 +64,7 @@ fn migrate(builder: &mut Builder) {
         return;
     }
     let inputs = some_tapes(&mut builder.random, &tapes, 4);
-    if let Some(record) = migration(builder, &inputs) {
+    if let Some(record) = new_migration(builder, &inputs) {
         builder.push(record);
     }
 }
@@ -72,14 +73,14 @@ fn migrate(builder: &mut Builder) {
 pub fn odd_commit(builder: &mut Builder, job: u8) {
     let vault = builder.any_vault();
     let real = builder.signers(job);
-    let one = 1u16 << builder.random.below(16);
+    let one = 1u16 << builder.random.below(MOST_VAULTS);
     let signers = match builder.random.below(8) {
         0 | 1 => fewer(builder, real, 0),
         2 | 3 => fewer(builder, real, 1),
         4 => real ^ one,
         5 => real.swap_bytes(),
         6 => fewer(builder, real, 2) | one,
-        _ => builder.random.next() as u16,
+        _ => builder.random.word() as u16,
     };
     let _ = builder.commit(vault, job, signers);
 }
@@ -127,33 +128,33 @@ pub fn misplaced(builder: &mut Builder, job: u8) {
     };
     let signers = builder.signers(job);
     let _ = match builder.random.below(4) {
-        0 => builder.step(Step::Preflight { vault, job }),
+        0 => builder.step(preflight(vault, job)),
         1 => builder.commit(vault, job, signers),
-        2 => builder.step(Step::FaultySignature { vault, job }),
-        _ => builder.step(Step::FaultyAcknowledgement { vault, job }),
+        2 => builder.step(faulty_signature(vault, job)),
+        _ => builder.step(faulty_acknowledgement(vault, job)),
     };
     if builder.random.chance(30) {
-        let _ = builder.step(Step::Show { job });
-        let _ = builder.step(Step::Generations { job });
+        let _ = builder.step(show(job));
+        let _ = builder.step(generations(job));
     }
 }
 
 /// Steps that change nothing.
 pub fn look(builder: &mut Builder, job: u8) {
     let _ = match builder.random.below(5) {
-        0 | 1 => builder.step(Step::Show { job }),
+        0 | 1 => builder.step(show(job)),
         2 => {
             let u = builder.random.below(builder.engine.settings.n + 2) as u8;
-            builder.step(Step::Draw { u })
+            builder.step(draw(u))
         }
-        _ => builder.step(Step::Generations { job }),
+        _ => builder.step(generations(job)),
     };
 }
 
 /// Shows every booked job and asks for its generations.
 pub fn look_at_all(builder: &mut Builder) {
     for job in 0..builder.engine.book.len() as u8 {
-        let _ = builder.step(Step::Show { job });
-        let _ = builder.step(Step::Generations { job });
+        let _ = builder.step(show(job));
+        let _ = builder.step(generations(job));
     }
 }

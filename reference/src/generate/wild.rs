@@ -2,9 +2,9 @@
 
 use super::build::Builder;
 use super::damage::damaged_record;
-use super::records::accession;
+use super::records::new_accession;
 use super::traffic::{action, odd_commit};
-use crate::step::{decode, Step};
+use crate::step::{decode, kind, Step, KINDS};
 
 /// Wild steps, and perhaps an unknown kind at the end.
 pub fn wild(builder: &mut Builder) {
@@ -13,7 +13,9 @@ pub fn wild(builder: &mut Builder) {
         let mut last: Vec<u8> = (0..builder.random.below(6))
             .map(|_| builder.random.byte())
             .collect();
-        last.insert(0, *builder.random.pick(&[0, 1, 2, 3, 9, 10, 128, 255]));
+        let unknown = KINDS.len() as u8 + 1;
+        let kinds = [0, 1, 2, 3, unknown, unknown + 1, 128, 255];
+        last.insert(0, *builder.random.pick(&kinds));
         builder.bytes.extend(last);
     }
 }
@@ -28,7 +30,7 @@ pub fn tame(builder: &mut Builder) {
                 odd_commit(builder, job);
             }
             2 => {
-                let record = accession(builder);
+                let record = new_accession(builder);
                 builder.propose(record);
             }
             3 => {
@@ -45,7 +47,7 @@ pub fn tame(builder: &mut Builder) {
 
 /// A step of any kind but 1; its bytes are mostly near what is in use.
 fn any_step(builder: &mut Builder) -> Step {
-    let kind = builder.random.between(2, 8) as u8;
+    let (kind, _) = *builder.random.pick(&KINDS[1..]);
     let n = builder.engine.settings.n;
     let booked = builder.engine.book.len() as u64;
     let near = |builder: &mut Builder, bound: u64| {
@@ -55,7 +57,7 @@ fn any_step(builder: &mut Builder) -> Step {
             builder.random.below(bound + 1) as u8
         }
     };
-    let first = if kind < 6 {
+    let first = if kind < kind::SHOW {
         near(builder, n)
     } else {
         near(builder, booked.max(n))
@@ -64,10 +66,12 @@ fn any_step(builder: &mut Builder) -> Step {
     let real = builder.signers(job);
     let signers = match builder.random.below(3) {
         0 => real,
-        1 => real & builder.random.next() as u16,
-        _ => builder.random.next() as u16 & builder.random.next() as u16,
+        1 => real & builder.random.word() as u16,
+        _ => builder.random.word() as u16 & builder.random.word() as u16,
     };
     let [low, high] = signers.to_le_bytes();
     let bytes = [kind, first, job, low, high];
-    decode(&bytes).expect("kinds 2 to 8 have short bodies").0
+    decode(&bytes)
+        .expect("all but a proposal have short bodies")
+        .0
 }

@@ -3,31 +3,7 @@
 
 use reference::record::Bytes;
 use reference::step::Step;
-pub use reference::whole::{commit, propose, record, run_file};
-
-pub fn preflight(vault: u8, job: u8) -> Step {
-    Step::Preflight { vault, job }
-}
-
-pub fn faulty_signature(vault: u8, job: u8) -> Step {
-    Step::FaultySignature { vault, job }
-}
-
-pub fn faulty_acknowledgement(vault: u8, job: u8) -> Step {
-    Step::FaultyAcknowledgement { vault, job }
-}
-
-pub fn show(job: u8) -> Step {
-    Step::Show { job }
-}
-
-pub fn draw(u: u8) -> Step {
-    Step::Draw { u }
-}
-
-pub fn generations(job: u8) -> Step {
-    Step::Generations { job }
-}
+pub use reference::write::*;
 
 /// An accession of one tape, with a drive that reads its medium.
 pub fn accession(label: &[u8; 8], frames: u32) -> Bytes {

@@ -1,5 +1,4 @@
 -- The divisor is positive and no larger than n!, so that the product fits.
--- Assumes nothing.
 use native.Mathlib.Omega.{arith}
 use borrow.Author.Needs.{needs}
 use borrow.Author.Tests.{le-ltb, lt-ltb}
@@ -11,15 +10,6 @@ use Rattle.draw.proofs.choose.Tie as tie
 returns : tie.Need-returns
 unfolding choose
 returns c = simp (lt-ltb _ _ (c .if1 .taken))
-
-factorial-requires : tie.Need-factorial-requires
-factorial-requires c κs = search needs
-
-factorial-requires-2 : tie.Need-factorial-requires-2
-factorial-requires-2 c κs = search needs
-
-factorial-requires-3 : tie.Need-factorial-requires-3
-factorial-requires-3 c κs = search needs
 
 mul-result : tie.Need-mul-result
 mul-result c =
@@ -34,16 +24,22 @@ div-result c = rw (c .before .factorial2 .ensures, c .factorial3 .ensures) (divi
 
 returns-2 : tie.Need-returns-2
 unfolding choose
-returns-2 c = simp (le-ltb _ _ (c .before .before .before .if1 .left), c .before .before .factorial .ensures, c .before .factorial2 .ensures, c .factorial3 .ensures)
+returns-2 c =
+    simp (
+      le-ltb _ _ (c .before .before .before .if1 .left),
+      c .before .before .factorial .ensures,
+      c .before .factorial2 .ensures,
+      c .factorial3 .ensures,
+    )
 
 pub choose-spec : {M : Type 1} → statement M
 choose-spec =
     tie.close
     (tie.spec
     returns
-    factorial-requires
-    factorial-requires-2
-    factorial-requires-3
+    (λ c κs. search needs)
+    (λ c κs. search needs)
+    (λ c κs. search needs)
     mul-result
     div-result
     returns-2)

@@ -1,5 +1,4 @@
 -- The product so far is the factorial of the counter, and the next one fits as 16! does.
--- Assumes nothing.
 use mathlib.Core.Path.{_∙_, _≡_, ap, sym}
 use Prim.Native.Nat.{_-_, _≤_}
 use native.Mathlib.Omega.{arith}
@@ -19,17 +18,8 @@ loop-holds : tie.Need-loop-holds Inv-loop μ-loop
 unfolding factorial
 loop-holds c = search needs
 
-add-product : tie.Need-add-product Inv-loop μ-loop
-add-product c = search needs
-
 mul-product : tie.Need-mul-product Inv-loop μ-loop
 mul-product c = rw (c .before .loop .inv .1) (omega (arith, next-fits (c .before .loop .i) (omega arith)))
-
-add-i : tie.Need-add-i Inv-loop μ-loop
-add-i c = search needs
-
-loop-less : tie.Need-loop-less Inv-loop μ-loop
-loop-less c = search needs
 
 loop-again : tie.Need-loop-again Inv-loop μ-loop
 loop-again c = (omega arith, rw (c .before .loop .inv .1) (sym (factorial-next (c .before .loop .i))))
@@ -44,9 +34,9 @@ factorial-spec =
     Inv-loop
     μ-loop
     loop-holds
-    add-product
+    (λ c. search needs)
     mul-product
-    add-i
-    loop-less
+    (λ c. search needs)
+    (λ c. search needs)
     loop-again
     returns)

@@ -1,45 +1,27 @@
--- The job against the likely ones, with itself, and then in the sieve.
--- Assumes nothing.
-use denote.Ref.{now}
+-- The entries are entered and the record is filed.
 use borrow.Author.Needs.{needs}
-use Rattle.ledger.specs.Journal.{jobAt}
-use Rattle.index.proofs.Steps.{entered, sifted}
+use Rattle.index.proofs.Tables.{indexed-next, indexed-size}
 use Rattle.index.proofs.entering.enter.Statement.{statement}
 use Rattle.index.proofs.entering.enter.Tie as tie
 
-job-at-requires : tie.Need-job-at-requires
-job-at-requires c κs = search needs
-
-likely-requires : tie.Need-likely-requires
-likely-requires c κs = search needs
-
-against-requires : tie.Need-against-requires
-against-requires c κs = search needs
-
-pair-requires : tie.Need-pair-requires
-pair-requires c κs = search needs
-
-sift-requires : tie.Need-sift-requires
-sift-requires c κs = search needs
-
-same-length : tie.Need-same-length
-same-length c = search needs
-
-same-length-2 : tie.Need-same-length-2
-same-length-2 c = search needs
+file-requires : tie.Need-file-requires
+file-requires c κs =
+    let p = c .before .before .before .before .before .before .before .before .before .before .before .before .pre in
+    (p .0 .few, indexed-size _ _ _ _ _ (p .2) .2)
 
 returns : tie.Need-returns
-returns c = let g = c .before .before .before .before .before .before .before .before .before .before .before .before .before .before .before .before .before .before .args in let a = c .before .before .before .before .before .before .before .before .before .before .before .before .before .before .job-at .ensures in (entered _ _ _ _ _ _ _ _ a (c .before .before .before .before .before .before .before .before .before .before .before .before .likely .ensures) (c .before .before .before .before .before .before .before .before .before .before .against .ensures) (c .before .before .before .before .before .before .pair .ensures), sifted (jobAt (now (g .journal)) (g .booked)) _ _ _ _ a (c .before .before .sift .ensures))
+returns c =
+    let d = c .before .before .before .before .before .before .before .before in
+    let p = d .before .before .before .before .before .before .before .pre in
+    indexed-next _ _ _ _ _ (p .2) _ _ _ _ (p .0) (p .1) (d .enter-entries .ensures) (c .before .before .file .ensures)
 
 pub enter-spec : {M : Type 1} → statement M
 enter-spec =
     tie.close
     (tie.spec
-    job-at-requires
-    likely-requires
-    against-requires
-    pair-requires
-    sift-requires
-    same-length
-    same-length-2
+    (λ c κs. search needs)
+    file-requires
+    (λ c. search needs)
+    (λ c. search needs)
+    (λ c. search needs)
     returns)

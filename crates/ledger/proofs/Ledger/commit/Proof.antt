@@ -1,40 +1,31 @@
--- The checks decide: behind them the vault and the job are ones that the arrays have.
--- Assumes nothing.
-use mathlib.Core.Path.{_∙_, sym}
-use borrow.Author.Needs.{needs}
-use Rattle.ledger.proofs.Gates.{arrivals-within, first-passed, job-below, vault-below}
+use Rattle.ledger.proofs.Gates.{ways}
 use Rattle.ledger.proofs.Ledger.commit.Statement.{statement}
-use Rattle.ledger.specs.Steps.{commitChecks, commitOf}
 use Rattle.ledger.proofs.Ledger.commit.Tie as tie
+use Rattle.ledger.specs.State.{acknowledgersOf, signersOf}
+use Rattle.ledger.specs.Steps.{commitDecision, commitOf}
+use borrow.Author.Needs.{needs}
 
-commit-checks-requires : tie.Need-commit-checks-requires
-commit-checks-requires c κs = search needs
+ruleset by = (ways, needs)
 
-enum-told : tie.Need-enum-told
-enum-told c = search needs
+element-copy-out-state : tie.Need-element-copy-out-state
+element-copy-out-state c = search by
 
-committed-requires : tie.Need-committed-requires
-unfolding commitChecks
-committed-requires c κs = let g = first-passed _ _ (sym (c .before .before .commit-checks .ensures) ∙ c .enum-told .given .1) in ((vault-below _ _ _ _ _ g, job-below _ _ _ _ _ g), arrivals-within _ _ _ _ _ g)
+element-copy-out-commit : tie.Need-element-copy-out-commit
+element-copy-out-commit c = search by
 
-enum-known-checks : tie.Need-enum-known-checks
-enum-known-checks c = search needs
+element-copy-out-commit-2 : tie.Need-element-copy-out-commit-2
+element-copy-out-commit-2 c = search by
+
+carry-requires : tie.Need-carry-requires
+carry-requires c κs = search by
 
 returns : tie.Need-returns
-unfolding commitOf
-returns c = simp (← c .before .before .before .commit-checks .ensures, c .before .enum-told .given .1) (c .committed .ensures)
+unfolding commitOf commitDecision acknowledgersOf signersOf
+returns c = search by depth 8
 
 returns-2 : tie.Need-returns-2
-unfolding commitOf
-returns-2 c = simp (← c .before .before .before .commit-checks .ensures, c .before .checks .given .1)
+unfolding commitOf commitDecision
+returns-2 c = search by depth 8
 
 pub commit-spec : {M : Type 1} → statement M
-commit-spec =
-    tie.close
-    (tie.spec
-    commit-checks-requires
-    enum-told
-    committed-requires
-    enum-known-checks
-    returns
-    returns-2)
+commit-spec = tie.close (tie.spec (λ c κs. search needs) (λ c. search needs) (λ c. search needs) element-copy-out-state (λ c. search needs) element-copy-out-commit (λ c. search needs) element-copy-out-commit-2 (λ c κs. search needs) carry-requires (λ c. search needs) (λ c κs. search needs) returns returns-2)

@@ -1,47 +1,25 @@
--- The gate decides: behind it the job is one that the array of acknowledgements has.
--- Assumes nothing.
-use mathlib.Core.Path.{_∙_, sym}
-use borrow.Author.Needs.{needs}
-use Rattle.ledger.proofs.Gates.{job-below}
+use Rattle.ledger.proofs.Gates.{ways}
 use Rattle.ledger.proofs.Ledger.faulty_acknowledge.Statement.{statement}
-use Rattle.ledger.specs.Steps.{faultyAcknowledgeOf}
 use Rattle.ledger.proofs.Ledger.faulty_acknowledge.Tie as tie
+use Rattle.ledger.specs.State.{acknowledgersOf}
+use Rattle.ledger.specs.Steps.{faultyAcknowledgeDecision, faultyAcknowledgeOf}
+use borrow.Author.Needs.{needs}
 
-vault-gate-requires : tie.Need-vault-gate-requires
-vault-gate-requires c κs = search needs
+ruleset by = (ways, needs)
 
-enum-told : tie.Need-enum-told
-enum-told c = search needs
+element-copy-out-cast : tie.Need-element-copy-out-cast
+element-copy-out-cast c = search by
 
-acknowledge-requires : tie.Need-acknowledge-requires
-acknowledge-requires c κs = job-below _ _ _ _ _ (sym (c .before .before .vault-gate .ensures) ∙ c .enum-told .given .1)
-
-holders-requires : tie.Need-holders-requires
-holders-requires c κs = job-below _ _ _ _ _ (sym (c .before .before .before .vault-gate .ensures) ∙ c .before .enum-told .given .1)
-
-size-requires : tie.Need-size-requires
-size-requires c κs = search needs
-
-enum-known-gate : tie.Need-enum-known-gate
-enum-known-gate c = search needs
+carry-requires : tie.Need-carry-requires
+carry-requires c κs = search by
 
 returns : tie.Need-returns
-unfolding faultyAcknowledgeOf
-returns c = simp (← c .before .before .before .before .before .vault-gate .ensures, c .before .before .before .enum-told .given .1, c .size .ensures, c .before .holders .ensures, c .before .before .acknowledge .ensures)
+unfolding faultyAcknowledgeOf faultyAcknowledgeDecision acknowledgersOf
+returns c = search by depth 8
 
 returns-2 : tie.Need-returns-2
-unfolding faultyAcknowledgeOf
-returns-2 c = simp (← c .before .before .before .vault-gate .ensures, c .before .gate .given .1)
+unfolding faultyAcknowledgeOf faultyAcknowledgeDecision
+returns-2 c = search by depth 8
 
 pub faulty-acknowledge-spec : {M : Type 1} → statement M
-faulty-acknowledge-spec =
-    tie.close
-    (tie.spec
-    vault-gate-requires
-    enum-told
-    acknowledge-requires
-    holders-requires
-    size-requires
-    enum-known-gate
-    returns
-    returns-2)
+faulty-acknowledge-spec = tie.close (tie.spec (λ c κs. search needs) (λ c. search needs) (λ c. search needs) element-copy-out-cast (λ c κs. search needs) carry-requires (λ c. search needs) (λ c κs. search needs) returns returns-2)

@@ -1,33 +1,21 @@
--- The gate decides: behind it the counts are within the capacity.
--- Assumes nothing.
-use mathlib.Core.Path.{_∙_, sym}
-use borrow.Author.Needs.{needs}
-use Rattle.ledger.proofs.Gates.{booked-entered}
-use Rattle.ledger.specs.Generations.{generationsOf}
+use Rattle.ledger.proofs.Gates.{ways}
 use Rattle.ledger.proofs.Ledger.generations.Statement.{statement}
 use Rattle.ledger.proofs.Ledger.generations.Tie as tie
+use Rattle.ledger.specs.Steps.{generationsDecision}
+use borrow.Author.Needs.{needs}
 
-booked-gate-requires : tie.Need-booked-gate-requires
-booked-gate-requires c κs = search needs
+ruleset by = (ways, needs)
 
-enum-told : tie.Need-enum-told
-enum-told c = search needs
-
-held-age-requires : tie.Need-held-age-requires
-held-age-requires c κs = let h = booked-entered _ _ _ (sym (c .before .before .booked-gate .ensures) ∙ c .enum-told .given .1) in (h .0 .lawful .vaults, h .0 .arrivals)
-
-enum-known-gate : tie.Need-enum-known-gate
-enum-known-gate c = search needs
+generations-requires : tie.Need-generations-requires
+generations-requires c κs = search by
 
 returns : tie.Need-returns
-unfolding generationsOf
-returns c = simp (← c .before .before .before .booked-gate .ensures, c .before .enum-told .given .1, c .held-age .ensures)
+unfolding generationsDecision
+returns c = search by depth 8
 
 returns-2 : tie.Need-returns-2
-unfolding generationsOf
-returns-2 c = simp (← c .before .before .before .booked-gate .ensures, c .before .gate .given .1)
+unfolding generationsDecision
+returns-2 c = search by depth 8
 
 pub generations-spec : {M : Type 1} → statement M
-generations-spec =
-    tie.close
-    (tie.spec booked-gate-requires enum-told held-age-requires enum-known-gate returns returns-2)
+generations-spec = tie.close (tie.spec (λ c κs. search needs) (λ c. search needs) (λ c. search needs) generations-requires (λ c. search needs) returns returns-2)

@@ -1,13 +1,8 @@
--- Each return is one way through the tests of `isSane`.
--- Assumes nothing.
-use borrow.Author.Needs.{needs}
 use Rattle.base.proofs.Tests.{chain}
 use Rattle.ledger.proofs.Ledger.is_sane.Statement.{statement}
-use Rattle.ledger.specs.State.{isSane}
 use Rattle.ledger.proofs.Ledger.is_sane.Tie as tie
-
-is-lawful-requires : tie.Need-is-lawful-requires
-is-lawful-requires c κs = search needs
+use Rattle.ledger.specs.State.{isSane}
+use borrow.Author.Needs.{needs}
 
 returns : tie.Need-returns
 unfolding isSane
@@ -22,4 +17,4 @@ unfolding isSane
 returns-3 c = search chain depth 8
 
 pub is-sane-spec : {M : Type 1} → statement M
-is-sane-spec = tie.close (tie.spec is-lawful-requires returns returns-2 returns-3)
+is-sane-spec = tie.close (tie.spec (λ c κs. search needs) returns returns-2 returns-3)

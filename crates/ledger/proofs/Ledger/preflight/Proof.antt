@@ -1,33 +1,31 @@
--- The gate decides: behind it the vault is asked, and it is a vault and a job that the arrays have.
--- Assumes nothing.
-use mathlib.Core.Path.{_∙_, sym}
-use borrow.Author.Needs.{needs}
-use Rattle.ledger.proofs.Gates.{job-below, vault-below}
+use Rattle.ledger.proofs.Gates.{ways}
 use Rattle.ledger.proofs.Ledger.preflight.Statement.{statement}
-use Rattle.ledger.specs.Steps.{preflightOf}
 use Rattle.ledger.proofs.Ledger.preflight.Tie as tie
+use Rattle.ledger.specs.State.{signersOf}
+use Rattle.ledger.specs.Steps.{preflightDecision, preflightOf}
+use borrow.Author.Needs.{needs}
 
-vault-gate-requires : tie.Need-vault-gate-requires
-vault-gate-requires c κs = search needs
+ruleset by = (ways, needs)
 
-enum-told : tie.Need-enum-told
-enum-told c = search needs
+element-copy-out-state : tie.Need-element-copy-out-state
+element-copy-out-state c = search by
 
-consult-requires : tie.Need-consult-requires
-consult-requires c κs = let g = sym (c .before .before .vault-gate .ensures) ∙ c .enum-told .given .1 in (vault-below _ _ _ _ _ g, job-below _ _ _ _ _ g)
+element-copy-out-preflight : tie.Need-element-copy-out-preflight
+element-copy-out-preflight c = search by
 
-enum-known-gate : tie.Need-enum-known-gate
-enum-known-gate c = search needs
+preflight-requires : tie.Need-preflight-requires
+preflight-requires c κs = search by
+
+carry-requires : tie.Need-carry-requires
+carry-requires c κs = search by
 
 returns : tie.Need-returns
-unfolding preflightOf
-returns c = simp (← c .before .before .before .vault-gate .ensures, c .before .enum-told .given .1) (c .consult .ensures)
+unfolding preflightOf preflightDecision signersOf
+returns c = search by depth 8
 
 returns-2 : tie.Need-returns-2
-unfolding preflightOf
-returns-2 c = simp (← c .before .before .before .vault-gate .ensures, c .before .gate .given .1)
+unfolding preflightOf preflightDecision
+returns-2 c = search by depth 8
 
 pub preflight-spec : {M : Type 1} → statement M
-preflight-spec =
-    tie.close
-    (tie.spec vault-gate-requires enum-told consult-requires enum-known-gate returns returns-2)
+preflight-spec = tie.close (tie.spec (λ c κs. search needs) (λ c. search needs) (λ c. search needs) element-copy-out-state (λ c. search needs) element-copy-out-preflight preflight-requires carry-requires (λ c. search needs) (λ c κs. search needs) returns returns-2)

@@ -1,34 +1,25 @@
--- The gate decides: behind it the job is one that the arrays have.
--- Assumes nothing.
-use mathlib.Core.Path.{_∙_, sym}
-use native.Mathlib.Omega.{arith}
-use borrow.Author.Needs.{needs}
-use Rattle.ledger.proofs.Gates.{booked-entered}
+use Rattle.ledger.proofs.Gates.{ways}
 use Rattle.ledger.proofs.Ledger.show.Statement.{statement}
-use Rattle.ledger.specs.Steps.{showOf}
 use Rattle.ledger.proofs.Ledger.show.Tie as tie
+use Rattle.ledger.specs.State.{acknowledgersOf, signersOf}
+use Rattle.ledger.specs.Steps.{showDecision}
+use borrow.Author.Needs.{needs}
 
-booked-gate-requires : tie.Need-booked-gate-requires
-booked-gate-requires c κs = search needs
+ruleset by = (ways, needs)
 
-enum-told : tie.Need-enum-told
-enum-told c = search needs
+element-copy-out-show : tie.Need-element-copy-out-show
+element-copy-out-show c = search by
 
-status-requires : tie.Need-status-requires
-status-requires c κs = let h = booked-entered _ _ _ (sym (c .before .before .booked-gate .ensures) ∙ c .enum-told .given .1) in omega (arith, h .0 .booked, h .1 .below)
-
-enum-known-gate : tie.Need-enum-known-gate
-enum-known-gate c = search needs
+element-copy-out-show-2 : tie.Need-element-copy-out-show-2
+element-copy-out-show-2 c = search by
 
 returns : tie.Need-returns
-unfolding showOf
-returns c = simp (← c .before .before .before .booked-gate .ensures, c .before .enum-told .given .1, c .status .ensures)
+unfolding showDecision acknowledgersOf signersOf
+returns c = search by depth 8
 
 returns-2 : tie.Need-returns-2
-unfolding showOf
-returns-2 c = simp (← c .before .before .before .booked-gate .ensures, c .before .gate .given .1)
+unfolding showDecision
+returns-2 c = search by depth 8
 
 pub show-spec : {M : Type 1} → statement M
-show-spec =
-    tie.close
-    (tie.spec booked-gate-requires enum-told status-requires enum-known-gate returns returns-2)
+show-spec = tie.close (tie.spec (λ c κs. search needs) (λ c. search needs) (λ c. search needs) element-copy-out-show (λ c. search needs) element-copy-out-show-2 (λ c κs. search needs) (λ c. search needs) returns returns-2)

@@ -1,16 +1,12 @@
 -- A drive is a number between 5 and 9.
--- Assumes nothing.
 use borrow.Author.Needs.{needs}
 use Rattle.record.proofs.drives.is_drive.Statement.{statement}
 use Rattle.record.specs.Drives.{isDrive}
 use Rattle.record.proofs.drives.is_drive.Tie as tie
-
-between-requires : tie.Need-between-requires
-between-requires c κs = search needs
 
 returns : tie.Need-returns
 unfolding isDrive
 returns c = c .between .ensures
 
 pub is-drive-spec : {M : Type 1} → statement M
-is-drive-spec = tie.close (tie.spec between-requires returns)
+is-drive-spec = tie.close (tie.spec (λ c κs. search needs) returns)

@@ -1,5 +1,4 @@
 -- Outside the table the answer is no; inside it is the cell, which the table's rule says is right.
--- Assumes nothing.
 use mathlib.Core.Bool.{false, true}
 use native.Mathlib.Omega.{arith}
 use borrow.Author.Needs.{needs}
@@ -21,29 +20,8 @@ returns-2 c = search tests
 returns-3 : tie.Need-returns-3
 returns-3 c = supports-none _ _ _ (c .before .before .if1 .left) (c .before .if2 .left) (c .if3 .taken)
 
-cast-row : tie.Need-cast-row
-cast-row c = search needs
-
-mul-result : tie.Need-mul-result
-mul-result c = search needs
-
-index-1-result : tie.Need-index-1-result
-index-1-result c = search needs
-
-index-2-result : tie.Need-index-2-result
-index-2-result c = search needs
-
 returns-4 : tie.Need-returns-4
 returns-4 c = simp (c .before .if4 .taken) (supports-cell true _ _ (omega arith) (omega arith) (omega arith))
-
-mul-result-2 : tie.Need-mul-result-2
-mul-result-2 c = search needs
-
-index-1-result-2 : tie.Need-index-1-result-2
-index-1-result-2 c = search needs
-
-index-2-result-2 : tie.Need-index-2-result-2
-index-2-result-2 c = search needs
 
 returns-5 : tie.Need-returns-5
 returns-5 c = simp (c .before .if4 .left) (supports-cell false _ _ (omega arith) (omega arith) (omega arith))
@@ -55,12 +33,12 @@ supports-spec =
     returns
     returns-2
     returns-3
-    cast-row
-    mul-result
-    index-1-result
-    index-2-result
+    (λ c. search needs)
+    (λ c. search needs)
+    (λ c. search needs)
+    (λ c. search needs)
     returns-4
-    mul-result-2
-    index-1-result-2
-    index-2-result-2
+    (λ c. search needs)
+    (λ c. search needs)
+    (λ c. search needs)
     returns-5)

@@ -1,19 +1,12 @@
 -- Each return is one way through the tests of `labelOf`.
--- Assumes nothing.
 use mathlib.Core.Path.{_≡_, ap, refl}
 use lib.ListN.{length}
 use borrow.Author.Needs.{needs}
-use Rattle.record.proofs.Jobs.{entry-past, length-mapped}
+use Rattle.record.proofs.Eight.{entry-past, length-mapped}
 use Rattle.record.proofs.entries.label.Statement.{statement}
 use Rattle.record.specs.Entries.{labelOf}
 use Rattle.record.specs.declared.Entry.{Entry}
 use Rattle.record.proofs.entries.label.Tie as tie
-
-mul-result : tie.Need-mul-result
-mul-result c = search needs
-
-element-copy-out-result : tie.Need-element-copy-out-result
-element-copy-out-result c = search needs
 
 returns : tie.Need-returns
 unfolding labelOf
@@ -21,7 +14,9 @@ returns c = refl
 
 returns-2 : tie.Need-returns-2
 unfolding labelOf
-returns-2 c = let n : length (c .before .args .t1 .entries) ≡ 8 = search length-mapped in ap (λ (e : Entry). e .label) (entry-past (c .before .args .t1) (c .before .args .i) n (c .if1 .left))
+returns-2 c =
+    let n : length (c .before .args .t1 .entries) ≡ 8 = search length-mapped in
+    ap (λ (e : Entry). e .label) (entry-past (c .before .args .t1) (c .before .args .i) n (c .if1 .left))
 
 pub label-spec : {M : Type 1} → statement M
-label-spec = tie.close (tie.spec mul-result element-copy-out-result returns returns-2)
+label-spec = tie.close (tie.spec (λ c. search needs) (λ c. search needs) returns returns-2)

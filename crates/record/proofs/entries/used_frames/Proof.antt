@@ -1,16 +1,9 @@
 -- Each return is one way through the tests of `usedFrames`.
--- Assumes nothing.
 use borrow.Author.Needs.{needs}
 use Rattle.base.proofs.Tests.{chain}
 use Rattle.record.proofs.entries.used_frames.Statement.{statement}
 use Rattle.record.specs.Entries.{usedFrames}
 use Rattle.record.proofs.entries.used_frames.Tie as tie
-
-used-requires : tie.Need-used-requires
-used-requires c κs = search needs
-
-frames-requires : tie.Need-frames-requires
-frames-requires c κs = search needs
 
 returns : tie.Need-returns
 unfolding usedFrames
@@ -21,4 +14,4 @@ unfolding usedFrames
 returns-2 c = search chain depth 8
 
 pub used-frames-spec : {M : Type 1} → statement M
-used-frames-spec = tie.close (tie.spec used-requires frames-requires returns returns-2)
+used-frames-spec = tie.close (tie.spec (λ c κs. search needs) (λ c κs. search needs) returns returns-2)

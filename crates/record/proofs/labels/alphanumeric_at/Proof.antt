@@ -1,23 +1,13 @@
 -- Each return is one way through the tests of `isAlphanumeric`.
--- Assumes nothing.
 use borrow.Author.Needs.{needs}
 use Rattle.base.proofs.Tests.{chain}
 use Rattle.record.proofs.labels.alphanumeric_at.Statement.{statement}
 use Rattle.record.specs.Labels.{isAlphanumeric}
 use Rattle.record.proofs.labels.alphanumeric_at.Tie as tie
 
-char-at-requires : tie.Need-char-at-requires
-char-at-requires c κs = search needs
-
-between-requires : tie.Need-between-requires
-between-requires c κs = search needs
-
 returns : tie.Need-returns
 unfolding isAlphanumeric
 returns c = search (chain, ← c .before .before .char-at .ensures) depth 8
-
-between-requires-2 : tie.Need-between-requires-2
-between-requires-2 c κs = search needs
 
 returns-2 : tie.Need-returns-2
 unfolding isAlphanumeric
@@ -25,4 +15,4 @@ returns-2 c = search (chain, ← c .before .before .before .char-at .ensures) de
 
 pub alphanumeric-at-spec : {M : Type 1} → statement M
 alphanumeric-at-spec =
-    tie.close (tie.spec char-at-requires between-requires returns between-requires-2 returns-2)
+    tie.close (tie.spec (λ c κs. search needs) (λ c κs. search needs) returns (λ c κs. search needs) returns-2)

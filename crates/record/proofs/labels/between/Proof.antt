@@ -1,5 +1,4 @@
 -- Each return is one way through the tests of `isBetween`.
--- Assumes nothing.
 use Rattle.base.proofs.Tests.{tests}
 use Rattle.record.proofs.labels.between.Statement.{statement}
 use Rattle.record.specs.Labels.{isBetween}

@@ -1,16 +1,9 @@
 -- Each return is one way through the tests of `isLabel`.
--- Assumes nothing.
 use borrow.Author.Needs.{needs}
 use Rattle.base.proofs.Tests.{chain}
 use Rattle.record.proofs.labels.is_label.Statement.{statement}
 use Rattle.record.specs.Labels.{isLabel}
 use Rattle.record.proofs.labels.is_label.Tie as tie
-
-named-requires : tie.Need-named-requires
-named-requires c κs = search needs
-
-medium-of-requires : tie.Need-medium-of-requires
-medium-of-requires c κs = search needs
 
 returns : tie.Need-returns
 unfolding isLabel
@@ -21,4 +14,4 @@ unfolding isLabel
 returns-2 c = search chain depth 8
 
 pub is-label-spec : {M : Type 1} → statement M
-is-label-spec = tie.close (tie.spec named-requires medium-of-requires returns returns-2)
+is-label-spec = tie.close (tie.spec (λ c κs. search needs) (λ c κs. search needs) returns returns-2)

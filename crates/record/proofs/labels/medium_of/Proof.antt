@@ -1,5 +1,4 @@
 -- Each return is one way through the tests of `mediumOf`.
--- Assumes nothing.
 use borrow.Author.Needs.{needs}
 use Rattle.base.proofs.Tests.{chain}
 use Rattle.record.proofs.Ranges.{between-true}
@@ -7,24 +6,12 @@ use Rattle.record.proofs.labels.medium_of.Statement.{statement}
 use Rattle.record.specs.Labels.{mediumOf}
 use Rattle.record.proofs.labels.medium_of.Tie as tie
 
-char-at-requires : tie.Need-char-at-requires
-char-at-requires c κs = search needs
-
 returns : tie.Need-returns
 unfolding mediumOf
 returns c = search (chain, ← c .before .char-at .ensures) depth 8
 
-char-at-requires-2 : tie.Need-char-at-requires-2
-char-at-requires-2 c κs = search needs
-
-between-requires : tie.Need-between-requires
-between-requires c κs = search needs
-
 sub-result : tie.Need-sub-result
 sub-result c = between-true 53 57 _ _ (c .before .between .ensures) (c .if2 .taken) .0
-
-cast-result : tie.Need-cast-result
-cast-result c = search needs
 
 returns-2 : tie.Need-returns-2
 unfolding mediumOf
@@ -38,11 +25,11 @@ pub medium-of-spec : {M : Type 1} → statement M
 medium-of-spec =
     tie.close
     (tie.spec
-    char-at-requires
+    (λ c κs. search needs)
     returns
-    char-at-requires-2
-    between-requires
+    (λ c κs. search needs)
+    (λ c κs. search needs)
     sub-result
-    cast-result
+    (λ c. search needs)
     returns-2
     returns-3)

@@ -5,9 +5,6 @@ use Rattle.sets.proofs.Bits.{or-shl, member-below, member-beyond}
 use Rattle.sets.proofs.vaults.with.Statement.{statement}
 use Rattle.sets.proofs.vaults.with.Tie as tie
 
-shl-result : tie.Need-shl-result
-shl-result c = search needs
-
 returns : tie.Need-returns
 returns c =
     or-shl 16 (c .before .args .set) (c .before .args .vault) (c .if1 .taken)
@@ -17,4 +14,4 @@ returns-2 : tie.Need-returns-2
 returns-2 c = sym (member-beyond 16 (c .before .args .set) (c .before .args .vault) (c .if1 .left))
 
 pub with-spec : {M : Type 1} → statement M
-with-spec = tie.close (tie.spec shl-result returns returns-2)
+with-spec = tie.close (tie.spec (λ c. search needs) returns returns-2)

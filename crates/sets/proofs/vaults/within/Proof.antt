@@ -10,9 +10,6 @@ use Rattle.sets.proofs.Bits.{one-shl}
 use Rattle.sets.proofs.vaults.within.Statement.{statement}
 use Rattle.sets.proofs.vaults.within.Tie as tie
 
-shl-result : tie.Need-shl-result
-shl-result c = search needs
-
 returns : tie.Need-returns
 returns c = ap (ltb (c .before .args .set)) (one-shl 32 (c .before .args .n) (omega arith))
 
@@ -20,4 +17,4 @@ returns-2 : tie.Need-returns-2
 returns-2 c = sym (lt-ltb (c .before .args .set) (2 ^ c .before .args .n) (omega (arith, pow-mono (c .if1 .left))))
 
 pub within-spec : {M : Type 1} → statement M
-within-spec = tie.close (tie.spec shl-result returns returns-2)
+within-spec = tie.close (tie.spec (λ c. search needs) returns returns-2)

@@ -4,12 +4,9 @@ use Rattle.sets.specs.Bits.{hasBit}
 use Rattle.sets.proofs.words.has.Statement.{statement}
 use Rattle.sets.proofs.words.has.Tie as tie
 
-shr-result : tie.Need-shr-result
-shr-result c = search needs
-
 returns : tie.Need-returns
 unfolding hasBit
 returns c = search needs
 
 pub has-spec : {M : Type 1} → statement M
-has-spec = tie.close (tie.spec shr-result returns)
+has-spec = tie.close (tie.spec (λ c. search needs) returns)

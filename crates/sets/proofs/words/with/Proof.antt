@@ -4,11 +4,8 @@ use Rattle.sets.proofs.Bits.{or-shl}
 use Rattle.sets.proofs.words.with.Statement.{statement}
 use Rattle.sets.proofs.words.with.Tie as tie
 
-shl-result : tie.Need-shl-result
-shl-result c = search needs
-
 returns : tie.Need-returns
 returns c = or-shl 64 (c .args .word) (c .args .bit) (c .pre)
 
 pub with-spec : {M : Type 1} → statement M
-with-spec = tie.close (tie.spec shl-result returns)
+with-spec = tie.close (tie.spec (λ c. search needs) returns)

@@ -7,12 +7,6 @@ use Rattle.sets.proofs.Bits.{bit-le, bit-shl}
 use Rattle.sets.proofs.words.without.Statement.{statement}
 use Rattle.sets.proofs.words.without.Tie as tie
 
-shr-result : tie.Need-shr-result
-shr-result c = search needs
-
-shl-result : tie.Need-shl-result
-shl-result c = search needs
-
 sub-result : tie.Need-sub-result
 sub-result c = rw (bit-shl 64 (c .args .word) (c .args .bit) (c .pre)) (bit-le (c .args .word) (c .args .bit))
 
@@ -21,4 +15,4 @@ unfolding withoutBit
 returns c = ap (λ (m : ℕ). c .args .word - m) (bit-shl 64 (c .args .word) (c .args .bit) (c .pre))
 
 pub without-spec : {M : Type 1} → statement M
-without-spec = tie.close (tie.spec shr-result shl-result sub-result returns)
+without-spec = tie.close (tie.spec (λ c. search needs) (λ c. search needs) sub-result returns)

@@ -5,15 +5,9 @@ use Rattle.sets.specs.Jobs.{jobHas}
 use Rattle.sets.proofs.job_set.JobSet.has.Statement.{statement}
 use Rattle.sets.proofs.job_set.JobSet.has.Tie as tie
 
-has-requires : tie.Need-has-requires
-has-requires c κs = search needs
-
 returns : tie.Need-returns
 unfolding jobHas
 returns c = simp (c .has .ensures, lt-ltb _ _ (c .before .if1 .taken))
-
-has-requires-2 : tie.Need-has-requires-2
-has-requires-2 c κs = search needs
 
 returns-2 : tie.Need-returns-2
 unfolding jobHas
@@ -24,4 +18,4 @@ unfolding jobHas
 returns-3 c = simp (le-ltb _ _ (c .before .if1 .left), le-ltb _ _ (c .if2 .left))
 
 pub has-spec : {M : Type 1} → statement M
-has-spec = tie.close (tie.spec has-requires returns has-requires-2 returns-2 returns-3)
+has-spec = tie.close (tie.spec (λ c κs. search needs) returns (λ c κs. search needs) returns-2 returns-3)

@@ -1,5 +1,4 @@
 -- The low words decide, or else the high words.
--- Assumes nothing.
 use mathlib.Core.Bool.{not}
 use mathlib.Core.Path.{ap, refl}
 use borrow.Author.Tests.{eq-eqb, ne-eqb}

@@ -5,15 +5,9 @@ use Rattle.sets.specs.Jobs.{jobWith}
 use Rattle.sets.proofs.job_set.JobSet.with.Statement.{statement}
 use Rattle.sets.proofs.job_set.JobSet.with.Tie as tie
 
-with-requires : tie.Need-with-requires
-with-requires c κs = search needs
-
 returns : tie.Need-returns
 unfolding jobWith
 returns c = simp (c .with .ensures, lt-ltb _ _ (c .before .if1 .taken))
-
-with-requires-2 : tie.Need-with-requires-2
-with-requires-2 c κs = search needs
 
 returns-2 : tie.Need-returns-2
 unfolding jobWith
@@ -24,4 +18,4 @@ unfolding jobWith
 returns-3 c = simp (le-ltb _ _ (c .before .if1 .left), le-ltb _ _ (c .if2 .left))
 
 pub with-spec : {M : Type 1} → statement M
-with-spec = tie.close (tie.spec with-requires returns with-requires-2 returns-2 returns-3)
+with-spec = tie.close (tie.spec (λ c κs. search needs) returns (λ c κs. search needs) returns-2 returns-3)

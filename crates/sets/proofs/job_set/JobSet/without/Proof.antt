@@ -5,15 +5,9 @@ use Rattle.sets.specs.Jobs.{jobWithout}
 use Rattle.sets.proofs.job_set.JobSet.without.Statement.{statement}
 use Rattle.sets.proofs.job_set.JobSet.without.Tie as tie
 
-without-requires : tie.Need-without-requires
-without-requires c κs = search needs
-
 returns : tie.Need-returns
 unfolding jobWithout
 returns c = simp (c .without .ensures, lt-ltb _ _ (c .before .if1 .taken))
-
-without-requires-2 : tie.Need-without-requires-2
-without-requires-2 c κs = search needs
 
 returns-2 : tie.Need-returns-2
 unfolding jobWithout
@@ -24,4 +18,4 @@ unfolding jobWithout
 returns-3 c = simp (le-ltb _ _ (c .before .if1 .left), le-ltb _ _ (c .if2 .left))
 
 pub without-spec : {M : Type 1} → statement M
-without-spec = tie.close (tie.spec without-requires returns without-requires-2 returns-2 returns-3)
+without-spec = tie.close (tie.spec (λ c κs. search needs) returns (λ c κs. search needs) returns-2 returns-3)

@@ -1,0 +1,24 @@
+//! The proved library with too little room for its text.
+
+use reference::run::LONGEST_LINE;
+
+const UNTOUCHED: u8 = 0xA5;
+
+/// What is written must be the text's beginning, and nothing behind the room
+/// may be touched; with a line's room to spare the text must be whole.
+pub fn check(input: &[u8], expected: &[u8]) -> Result<(), String> {
+    let enough = expected.len() + LONGEST_LINE;
+    for room in 0..=enough {
+        let mut out = vec![UNTOUCHED; enough + 1];
+        let length = proved::call(input, &mut out[..room]);
+        let written = length.min(room);
+        let right = length <= expected.len()
+            && (room < enough || length == expected.len())
+            && out[..written] == expected[..written]
+            && out[room..].iter().all(|byte| *byte == UNTOUCHED);
+        if !right {
+            return Err(format!("with room for {room} bytes the library is wrong"));
+        }
+    }
+    Ok(())
+}

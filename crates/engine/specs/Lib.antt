@@ -1,4 +1,0 @@
-pub mod Ages
-pub mod Books
-pub mod Kept
-pub mod Layout

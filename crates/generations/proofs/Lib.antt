@@ -1,0 +1,4 @@
+pub mod Ages
+pub mod Creators
+pub mod Meaning
+pub mod Memos

@@ -1,0 +1,3 @@
+pub mod Generations
+pub mod Meaning
+pub mod Memo

@@ -1,0 +1,237 @@
+-- The tables of the first places and records are those of one place or record more after each store, so they have their chains, numbers and bits;
+-- and they depend on these jobs alone.
+use mathlib.Core.Bool.{Bool, cond, false, true}
+use mathlib.Core.List.{List}
+use mathlib.Core.Path.{_∙_, _≡_, ap, refl, sym}
+use Prim.Native.Nat.{_%_, _*_, _+_, _/_, _<_, _≤_, suc, zero, ℕ}
+use native.Mathlib.Nat.{le-refl, mod-lt}
+use native.Mathlib.Numerals.{add-one}
+use native.Mathlib.Omega.{arith}
+use lib.ListN.{length}
+use Rattle.base.proofs.Search.{first-le}
+use Rattle.codec.specs.Codec.{jobOf, recordSize}
+use Rattle.record.specs.Entries.{framesOf, isUsed, labelOf}
+use Rattle.record.specs.declared.Job.{Job}
+use Rattle.journal.proofs.Putting.{put-length, slot-before}
+use Rattle.journal.specs.Journal.{capacity, jobAt, putAt, recordAt}
+use Rattle.outcome.specs.declared.Verdict.{Verdict}
+use Rattle.sets.specs.Jobs.{InWords}
+use Rattle.sets.specs.declared.job_set.JobSet.{JobSet}
+use Rattle.index.proofs.Admits.{by-index}
+use Rattle.index.proofs.Begins.{entered-new, label-alike, number-alike, used-alike}
+use Rattle.index.proofs.Books.{entered-booked}
+use Rattle.index.proofs.Enters.{marked-next, marked-same, numbered-next, numbered-same, place-frames, place-label, place-used}
+use Rattle.index.proofs.Files.{filed-new, filed-next}
+use Rattle.index.specs.Admission.{admission}
+use Rattle.index.specs.Checks.{Tables, admissionBy}
+use Rattle.index.specs.Entering.{Entries, numbersOf, numbersWith, setsOf, setsWith}
+use Rattle.index.specs.Index.{Blank, HasRecord, Indexed, IndexedEntries, IndexedRecords}
+use Rattle.index.specs.Places.{Entered, Numbered, Sought, UsedEntry, bucketOf, buckets, framesAt, isMatch}
+use Rattle.index.specs.Places.{labelAt, numberAt, numbersSize, places, setsSize, slotJob, usedAt}
+use Rattle.index.specs.Records.{Filed, recordsOf, recordsSize, recordsWith, sumOf}
+
+-- ---- what the tables of any jobs have
+module _ (job : ℕ → Job) where
+  number-low : (exact : Bool) (m : ℕ) → numberAt job exact m ≤ m
+  unfolding numberAt
+  number-low exact m = first-le (isMatch job exact (labelAt job m) (framesAt job m)) m
+
+  bucket-low : (label : ℕ) → bucketOf label < buckets
+  unfolding bucketOf
+  bucket-low label = mod-lt label (omega arith)
+
+  pub tables-entered : (m : ℕ) → m ≤ places → Entered job m (numbersOf job m) (setsOf job m)
+  unfolding numbersOf setsOf
+  tables-entered zero h = entered-new job
+  tables-entered (suc m) h = by (usedAt job m) refl (tables-entered m (omega arith))
+    where
+      label : ℕ
+      label = numberAt job false m
+
+      tape : ℕ
+      tape = numberAt job true m
+
+      b : ℕ
+      b = bucketOf (labelAt job m)
+
+      by : (t : Bool) → usedAt job m ≡ t → Entered job m (numbersOf job m) (setsOf job m)
+          → Entered job (suc m) (cond t (numbersWith (numbersOf job m) m label tape b) (numbersOf job m))
+          (cond t (setsWith (setsOf job m) label tape (m / 8) (m % 8)) (setsOf job m))
+      by true u t = record {
+        numbered =
+            numbered-next job m (numbersOf job m) (t .numbered) h u label tape b
+            (number-low false m) (number-low true m) (bucket-low (labelAt job m)) refl refl refl;
+        marked =
+            marked-next job m (setsOf job m) (t .marked) h u label tape (m / 8) (m % 8) refl refl refl refl (number-low false m) (number-low true m);
+      }
+      by false u t = record {
+        numbered = numbered-same job m u (numbersOf job m) (t .numbered);
+        marked = marked-same job m u (setsOf job m) (t .marked);
+      }
+
+  pub tables-filed : (n : ℕ) → n ≤ capacity → Filed job n (recordsOf job n)
+  unfolding recordsOf
+  tables-filed zero h = filed-new job
+  tables-filed (suc n) h = filed-next job n (recordsOf job n) (tables-filed n (omega arith)) h (job n) refl
+
+  -- ---- one place more
+  module _ (m : ℕ) (numbers sets : List ℕ) (t : Entries job m numbers sets) where
+    pub entries-entered : m ≤ places → Entered job m numbers sets
+    entries-entered h = rw (t .numbers-are, t .sets-are) (tables-entered m h)
+
+    pub entries-numbered : m ≤ places → Numbered job m numbers
+    entries-numbered h = entries-entered h .numbered
+
+    pub numbers-size : m ≤ places → length numbers ≡ numbersSize
+    numbers-size h = entries-entered h .numbered .size
+
+    pub sets-size : m ≤ places → length sets ≡ setsSize
+    sets-size h = entries-entered h .marked .size
+
+    -- what was found are the numbers of the place
+    pub entries-next : (label frames name tape b : ℕ) (after joined : List ℕ) → UsedEntry job m label frames → Sought job label frames m name tape
+        → (b ≡ bucketOf label) × (b < buckets) → after ≡ numbersWith numbers m name tape b → joined ≡ setsWith sets name tape (m / 8) (m % 8)
+        → Entries job (m + 1) after joined
+    unfolding numbersOf setsOf numberAt
+    entries-next label frames name tape b after joined u own eb ea ej =
+        let x : name ≡ numberAt job false m = own .name-first ∙ rw (u .label-is, u .frames-are) in
+        let y : tape ≡ numberAt job true m = own .tape-first ∙ rw (u .label-is, u .frames-are) in
+        let z : b ≡ bucketOf (labelAt job m) = eb .0 ∙ ap bucketOf (u .label-is) in
+        rw (add-one m) (record {
+          numbers-are = ea ∙ simp (u .used, t .numbers-are, x, y, z);
+          sets-are = ej ∙ simp (u .used, t .sets-are, x, y);
+        })
+
+    entries-same : usedAt job m ≡ false → Entries job (m + 1) numbers sets
+    unfolding numbersOf setsOf
+    entries-same u = rw (add-one m) (record { numbers-are = t .numbers-are ∙ simp u; sets-are = t .sets-are ∙ simp u })
+
+-- ---- an entry of job n, which is a, at its place; r says whether it is used
+module _ (job : ℕ → Job) (n e : ℕ) (a : Job) (r : Bool) (le : e < 8) (ea : a ≡ job n) (er : r ≡ isUsed a e) where
+  pub used-entry : (label frames : ℕ) → r ≡ true → label ≡ labelOf a e → frames ≡ framesOf a e → UsedEntry job (8 * n + e) label frames
+  used-entry label frames u el ef = record {
+    used = place-used job n e le a ea ∙ sym er ∙ u;
+    label-is = el ∙ sym (place-label job n e le a ea);
+    frames-are = ef ∙ sym (place-frames job n e le a ea);
+  }
+
+  pub unused-entry : (numbers sets : List ℕ) → r ≡ false → Entries job (8 * n + e) numbers sets → Entries job (8 * n + e + 1) numbers sets
+  unused-entry numbers sets u t = entries-same job (8 * n + e) numbers sets t (place-used job n e le a ea ∙ sym er ∙ u)
+
+-- ---- the eight entries of job n, one after the other
+module _ (job : ℕ → Job) (n : ℕ) (numbers sets : List ℕ) where
+  pub entries-begin : Entries job (8 * n) numbers sets → Entries job (8 * n + 0) numbers sets
+  entries-begin t = let z : 8 * n + 0 ≡ 8 * n = omega arith in rw z t
+
+  pub entries-on : (e : ℕ) → Entries job (8 * n + e + 1) numbers sets → Entries job (8 * n + (e + 1)) numbers sets
+  entries-on e t = let z : 8 * n + (e + 1) ≡ 8 * n + e + 1 = omega arith in rw z t
+
+  pub entries-all : (e : ℕ) → e ≤ 8 → 8 ≤ e → Entries job (8 * n + e) numbers sets → Entries job (8 * (n + 1)) numbers sets
+  entries-all e l h t = let z : 8 * (n + 1) ≡ 8 * n + e = omega arith in rw z t
+
+-- ---- other jobs that are the same below n
+module _ (job job′ : ℕ → Job) (n : ℕ) (alike : (k : ℕ) → k < n → job k ≡ job′ k) where
+  pub numbers-alike : (m : ℕ) → m ≤ 8 * n → numbersOf job m ≡ numbersOf job′ m
+  unfolding numbersOf
+  numbers-alike zero h = refl
+  numbers-alike (suc m) h =
+      let tape = number-alike job job′ n alike true m h in
+      rw (numbers-alike m (omega arith), used-alike job job′ n alike m h, number-alike job job′ n alike false m h, tape, label-alike job job′ n alike m h)
+
+  pub sets-alike : (m : ℕ) → m ≤ 8 * n → setsOf job m ≡ setsOf job′ m
+  unfolding setsOf
+  sets-alike zero h = refl
+  sets-alike (suc m) h =
+      rw (sets-alike m (omega arith), used-alike job job′ n alike m h, number-alike job job′ n alike false m h, number-alike job job′ n alike true m h)
+
+  pub records-alike : (m : ℕ) → m ≤ n → recordsOf job m ≡ recordsOf job′ m
+  unfolding recordsOf
+  records-alike zero h = refl
+  records-alike (suc m) h = rw (records-alike m (omega arith), alike m h)
+
+-- ---- a journal's index
+
+-- what a reader of the index has
+module _ (journal : List ℕ) (n : ℕ) (numbers sets : List ℕ) (t : IndexedEntries journal n numbers sets) where
+  pub indexed-entered : Entered (slotJob journal) (8 * n) numbers sets
+  indexed-entered = rw (t .numbers-are, t .sets-are) (tables-entered (slotJob journal) (8 * n) (omega (arith, t .few)))
+
+  pub indexed-tables : Tables numbers sets
+  indexed-tables = let e = indexed-entered in record { numbers-size = e .numbered .size; sets-size = e .marked .size; small = e .numbered .small }
+
+  -- and of the jobs that the journal books
+  pub indexed-booked : Entered (jobAt journal n) (8 * n) numbers sets
+  indexed-booked = entered-booked journal n (t .inside) numbers sets indexed-entered
+
+pub indexed-filed : (journal : List ℕ) (n : ℕ) (records : List ℕ) → IndexedRecords journal n records → Filed (slotJob journal) n records
+indexed-filed journal n records t = rw (t .records-are) (tables-filed (slotJob journal) n (t .few))
+
+-- checks 11 to 14 of a booked job by the counts of its record
+pub admission-booked : (journal : List ℕ) (n : ℕ) (numbers sets : List ℕ) → IndexedEntries journal n numbers sets
+    → (held others : JobSet) → InWords held → InWords others → (job inputs outputs : ℕ) (part : List ℕ) (r : Verdict) → job < n
+    → part ≡ recordAt journal n job → inputs ≡ jobOf part .inputs → outputs ≡ jobOf part .outputs → r ≡ admissionBy numbers sets inputs outputs held others job
+    → r ≡ admission (jobAt journal n) n held others (jobAt journal n job)
+unfolding jobAt
+admission-booked journal n numbers sets t held others hw ow job inputs outputs part r l ep ei eo er =
+    er ∙ rw (ei, eo, ep) (by-index (jobAt journal n) n numbers sets (indexed-booked journal n numbers sets t) (t .few) job l held others hw ow)
+
+-- none, and one more
+pub indexed-none : (journal numbers sets records : List ℕ) → Blank numbers sets records → Indexed journal 0 numbers sets records
+unfolding numbersOf setsOf recordsOf
+indexed-none journal numbers sets records t = record {
+  few = omega arith;
+  inside = omega arith;
+  numbers-are = t .no-numbers;
+  sets-are = t .no-sets;
+  records-are = t .no-records;
+}
+
+module _ (journal : List ℕ) (n : ℕ) (numbers sets records : List ℕ) (t : Indexed journal n numbers sets records) where
+  -- its parts
+  pub entries-part : IndexedEntries journal n numbers sets
+  entries-part = record { few = t .few; inside = t .inside; numbers-are = t .numbers-are; sets-are = t .sets-are }
+
+  pub records-part : IndexedRecords journal n records
+  records-part = record { few = t .few; inside = t .inside; records-are = t .records-are }
+
+  pub indexed-size : (length numbers ≡ numbersSize) × (length sets ≡ setsSize) × (length records ≡ recordsSize)
+  indexed-size =
+      let e = indexed-entered journal n numbers sets entries-part in
+      (e .numbered .size, e .marked .size, indexed-filed journal n records records-part .size)
+
+module _ (journal : List ℕ) (n : ℕ) (numbers sets records : List ℕ) (t : Indexed journal n numbers sets records) where
+  -- the tables are as long as those of no record
+  pub indexed-lengths : (numbers₀ sets₀ records₀ : List ℕ) → Blank numbers₀ sets₀ records₀
+      → (length numbers ≡ length numbers₀) × (length sets ≡ length sets₀) × (length records ≡ length records₀)
+  indexed-lengths numbers₀ sets₀ records₀ z =
+      let s = indexed-size journal n numbers sets records t in
+      let r = indexed-size journal 0 numbers₀ sets₀ records₀ (indexed-none journal numbers₀ sets₀ records₀ z) in
+      (s .0 ∙ sym (r .0), s .1 ∙ sym (r .1), s .2 ∙ sym (r .2))
+
+  pub indexed-all : (m : ℕ) → n ≤ m → m ≤ n → Indexed journal m numbers sets records
+  indexed-all m l h = let e : m ≡ n = omega arith in rw e t
+
+  pub indexed-next : (a : Job) (numbers′ sets′ records′ : List ℕ) → HasRecord journal n → a ≡ slotJob journal n
+      → Entries (slotJob journal) (8 * (n + 1)) numbers′ sets′ → records′ ≡ recordsWith records (sumOf a) n → Indexed journal (n + 1) numbers′ sets′ records′
+  unfolding recordsOf
+  indexed-next a numbers′ sets′ records′ h ea e r = record {
+    few = omega (arith, h .few);
+    inside = omega (arith, h .inside);
+    numbers-are = e .numbers-are;
+    sets-are = e .sets-are;
+    records-are = r ∙ rw (add-one n, ea, t .records-are);
+  }
+
+  -- a record put in place n leaves the index of those before
+  pub indexed-put : (bytes : List ℕ) → length bytes ≡ recordSize → recordSize * n + recordSize ≤ length journal
+      → Indexed (putAt journal n bytes) n numbers sets records
+  unfolding slotJob
+  indexed-put bytes size room =
+      let same : (k : ℕ) → k < n → slotJob journal k ≡ slotJob (putAt journal n bytes) k = λ k l. ap jobOf (sym (slot-before n journal bytes size room k l)) in
+      record {
+        few = t .few;
+        inside = omega (arith, t .inside, put-length n journal bytes size room);
+        numbers-are = t .numbers-are ∙ numbers-alike (slotJob journal) (slotJob (putAt journal n bytes)) n same (8 * n) (le-refl (8 * n));
+        sets-are = t .sets-are ∙ sets-alike (slotJob journal) (slotJob (putAt journal n bytes)) n same (8 * n) (le-refl (8 * n));
+        records-are = t .records-are ∙ records-alike (slotJob journal) (slotJob (putAt journal n bytes)) n same n (le-refl n);
+      }

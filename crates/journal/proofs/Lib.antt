@@ -1,0 +1,3 @@
+pub mod Booked
+pub mod Putting
+pub mod Slots

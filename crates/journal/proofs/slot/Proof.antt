@@ -1,0 +1,15 @@
+-- The part is the record's hundred bytes.
+use native.Mathlib.Nat.{add-sub-cancel-left}
+use borrow.Author.Needs.{needs}
+use Rattle.journal.proofs.slot.Statement.{statement}
+use Rattle.journal.specs.Journal.{slotAt}
+use Rattle.journal.proofs.slot.Tie as tie
+
+returns : tie.Need-returns
+unfolding slotAt
+returns c = search add-sub-cancel-left
+
+pub slot-spec : {M : Type 1} → statement M
+slot-spec =
+    tie.close
+    (tie.spec (λ c. search needs) (λ c. search needs) (λ c. search needs) (λ c. search needs) (λ c. search needs) returns)

@@ -1,0 +1,112 @@
+-- What a step decides behind checks 3 to 5, from the pieces that it names: an outcome, and what it changes. A refusal changes nothing.
+use mathlib.Core.Bool.{Bool, cond, false, true}
+use mathlib.Core.List.{List}
+use Prim.Native.Nat.{ℕ}
+use lib.Count.{ones}
+use lib.Dec.{leb, ltb}
+use Rattle.outcome.specs.declared.Outcome.the-variants.{Done, Refused}
+use Rattle.outcome.specs.declared.Refusal.{Refusal}
+use Rattle.outcome.specs.declared.Refusal.the-variants.{Full, NotHeld, NotSigned, TooFewSigners}
+use Rattle.outcome.specs.declared.Verdict.{Verdict}
+use Rattle.outcome.specs.declared.Verdict.the-variants.{Pass, Fail}
+use Rattle.sets.specs.Bits.{subsetOf, withMember}
+use Rattle.sets.specs.Jobs.{jobHas}
+use Rattle.federation.specs.Federation.{thresholdOf}
+use Rattle.federation.specs.declared.Settings.{Settings}
+use Rattle.checks.specs.Checks.{examined}
+use Rattle.journal.specs.Journal.{equalIn, hasRoom, insideOf}
+use Rattle.ledger.specs.declared.Change.{Change}
+use Rattle.ledger.specs.declared.Change.the-variants.{Book, Hold, Nothing, RecordAcknowledgement, RecordSignature, Sign}
+use Rattle.ledger.specs.declared.Consent.{Consent}
+use Rattle.ledger.specs.declared.Consent.the-variants.{Already, Denied, Fresh}
+use Rattle.ledger.specs.declared.Decision.{Decision}
+use Rattle.ledger.specs.declared.Vault.{Vault}
+use Rattle.ledger.specs.Vaults.{admissionAt, holding, vaultPreflight}
+
+-- "A refusal alters no set, book or order."
+abbrev pub refusing : Refusal → Decision
+refusing why = record { outcome = Refused why; change = Nothing }
+
+-- answered 0 with a value, and nothing changes
+abbrev pub answering : ℕ → Decision
+answering value = record { outcome = Done value; change = Nothing }
+
+-- a vault's vote on a job joins those of the set: "the job's signatures afterwards", or "its acknowledgements"
+abbrev pub voting : ℕ → ℕ → Change → Decision
+voting votes v change = record { outcome = Done (ones (withMember 16 votes v)); change = change }
+
+-- a row of checks, and what is decided where it passes
+abbrev pub gated : Verdict → Decision → Decision
+gated Pass d = d
+gated (Fail why) d = refusing why
+
+-- ---- kind 1, a proposal: "6 to 9, then a booked equal, then 10". The value is the job's number.
+unfoldable pub placing : ℕ → ℕ → ℕ → Bool → Decision
+placing equal inside booked room =
+    cond (ltb equal inside) (answering equal)
+    (cond room (record { outcome = Done booked; change = Book }) (refusing Full))
+
+unfoldable pub settling : List ℕ → ℕ → List ℕ → Decision
+settling journal booked bytes = placing (equalIn journal booked bytes) (insideOf journal booked) booked (hasRoom journal booked)
+
+unfoldable pub proposal : List ℕ → ℕ → List ℕ → Decision
+proposal journal booked bytes = gated (examined bytes) (settling journal booked bytes)
+
+-- ---- kind 2, a preflight: "11 to 14"
+abbrev pub consenting : Consent → Vault → ℕ → ℕ → Decision
+consenting Already state signers v = answering (ones signers)
+consenting Fresh state signers v = voting signers v (Sign state)
+consenting (Denied why) state signers v = refusing why
+
+-- what a vault in this state decides on the verdict of checks 11 to 14
+unfoldable pub consent : Vault → Verdict → ℕ → ℕ → ℕ → Decision
+consent state admission signers v job =
+    let answer = vaultPreflight state admission job in
+    consenting (answer .consent) (answer .vault) signers v
+
+unfoldable pub preflighting : Vault → List ℕ → ℕ → ℕ → ℕ → ℕ → Decision
+preflighting state journal booked signers v job = consent state (admissionAt state journal booked job) signers v job
+
+-- ---- kind 3, a commit: "15, 16"
+
+-- "If each has signed the job and there are at least n − b"
+unfoldable pub certificate : Settings → ℕ → ℕ → Verdict
+certificate s recorded signers =
+    cond (subsetOf signers recorded)
+    (cond (leb (thresholdOf s) (ones signers)) Pass (Fail TooFewSigners))
+    (Fail NotSigned)
+
+-- "the vault holds the job and its acknowledgement is recorded. Repeating changes nothing."
+unfoldable pub receiving : Vault → ℕ → ℕ → ℕ → Decision
+receiving state acknowledgers v job =
+    cond (jobHas (state .held) job) (answering (ones acknowledgers)) (voting acknowledgers v (Hold (holding state job)))
+
+unfoldable pub committing : Settings → Vault → ℕ → ℕ → ℕ → ℕ → ℕ → Decision
+committing s state recorded acknowledgers v job signers = gated (certificate s recorded signers) (receiving state acknowledgers v job)
+
+-- ---- kind 6: "0 open, 1 certified, 2 finished"
+unfoldable pub statusOf : Settings → ℕ → ℕ → ℕ
+statusOf s signers acknowledgers =
+    cond (leb (thresholdOf s) (ones acknowledgers)) 2
+    (cond (leb (thresholdOf s) (ones signers)) 1 0)
+
+-- ---- kind 8: "18"
+unfoldable pub ageing : Bool → ℕ → Decision
+ageing held age = cond held (answering age) (refusing NotHeld)
+
+-- ---- of a change
+abbrev pub isNothing : Change → Bool
+isNothing Nothing = true
+isNothing Book = false
+isNothing (Sign state) = false
+isNothing (Hold state) = false
+isNothing RecordSignature = false
+isNothing RecordAcknowledgement = false
+
+abbrev pub isBook : Change → Bool
+isBook Nothing = false
+isBook Book = true
+isBook (Sign state) = false
+isBook (Hold state) = false
+isBook RecordSignature = false
+isBook RecordAcknowledgement = false

@@ -1,0 +1,68 @@
+use Rattle.federation.specs.Federation.{isLawful}
+use Rattle.runfile.proofs.Turns.{open-when, opened-run, refused-run}
+use Rattle.run.proofs.Keeps.{kept-new}
+use Rattle.run.proofs.Pieces.{nothing-yet, piece-more}
+use Rattle.run.proofs.start.Statement.{statement}
+use Rattle.run.proofs.start.Tie as tie
+use borrow.Author.Needs.{needs}
+use mathlib.Core.Path.{_∙_, ap, refl, sym}
+use native.Mathlib.Nat.{le-refl, lt-irrefl}
+use native.Mathlib.Omega.{arith}
+use mathlib.Core.Bool.{Bool, false, true}
+use mathlib.Core.List.{List}
+use mathlib.Core.Path.{_≡_}
+use Prim.Native.Nat.{ℕ}
+use lib.ListN.{getD}
+use Rattle.federation.specs.declared.Settings.{Settings}
+use Rattle.journal.specs.Journal.{capacity}
+use Rattle.index.specs.Places.{numbersSize, setsSize}
+use Rattle.index.specs.Records.{recordsSize}
+use Rattle.ledger.specs.State.{newLedger}
+use Rattle.ledger.specs.Steps.{newOf}
+use Rattle.ledger.specs.declared.Ledger.{Ledger}
+use Rattle.ledger.specs.declared.Reply.{Reply}
+use Rattle.runfile.specs.Run.{begins, headerSize, journalSize, opened, textFrom}
+use Rattle.runfile.specs.Steps.{wordAt}
+use Rattle.run.specs.Kept.{Kept}
+use Rattle.run.specs.Pieces.{blank, runAt}
+
+-- the new ledger has the header's settings
+began : (input : List ℕ) (s : Settings) → s ≡ opened input .settings → (r : Reply) → r ≡ newOf (s .n) (s .b) (s .faulty) → r .ledger ≡ opened input
+unfolding opened newOf newLedger
+began input s e r q = by (isLawful (record { n = s .n; b = s .b; faulty = s .faulty })) refl
+  where
+    made : Ledger
+    made = newLedger (s .n) (s .b) (s .faulty)
+
+    by : (b : Bool) → isLawful (made .settings) ≡ b → r .ledger ≡ opened input
+    by true t = ap (λ (x : Reply). x .ledger) q ∙ simp t (rw e)
+    by false t = ap (λ (x : Reply). x .ledger) q ∙ simp t (rw e)
+
+begins-at : (input : List ℕ) (l : Ledger) → l ≡ opened input → runAt l headerSize 0 (blank journalSize) ≡ begins input
+begins-at input l e = rw e
+
+kept-begun : (input : List ℕ) (l : Ledger) → l ≡ opened input → isLawful (opened input .settings) ≡ true
+    → Kept l (blank journalSize) (blank numbersSize) (blank setsSize) (blank recordsSize) (blank capacity)
+unfolding opened newLedger
+kept-begun input l e h = rw e (kept-new (getD input 5 0) (getD input 6 0) (wordAt input 7) h)
+
+settings-in-requires : tie.Need-settings-in-requires
+settings-in-requires c κs = open-when _ (sym (c .before .opens .ensures) ∙ c .if1 .taken) .headed
+
+returns : tie.Need-returns
+returns c =
+    let o = sym (c .before .before .before .before .opens .ensures) ∙ c .before .before .before .if1 .taken in
+    let h = open-when _ o in
+    let e = began _ _ (c .before .before .settings-in .ensures) _ (c .before .new .ensures) in
+    record {
+      piece = nothing-yet (opened-run _ o ∙ ap (textFrom _) (sym (begins-at _ _ e)));
+      going = λ l. record { few = h .few; steps = omega arith; inside = h .headed; kept = kept-begun _ _ e (h .lawful) };
+      silent = λ l. refl;
+      first = λ l. begins-at _ _ e;
+    }
+
+returns-2 : tie.Need-returns-2
+returns-2 c = let w = c .before .before .before .before .write-line .ensures in record { piece = piece-more (nothing-yet refl) (refused-run _ (sym (c .before .before .before .before .before .before .before .opens .ensures) ∙ c .before .before .before .before .before .before .if1 .left) _ (le-refl _)) (w .0) (omega arith); going = λ l. absurd (lt-irrefl _ l); silent = λ l. absurd (lt-irrefl _ l); first = λ l. absurd (lt-irrefl _ l) }
+
+pub start-spec : {M : Type 1} → statement M
+start-spec = tie.close (tie.spec (λ c κs. search needs) settings-in-requires (λ c κs. search needs) returns (λ c κs. search needs) (λ c κs. search needs) (λ c. search needs) returns-2)

@@ -1,0 +1,4 @@
+pub mod Decided
+pub mod Kept
+pub mod Pieces
+pub mod Reading

@@ -1,0 +1,114 @@
+// Each kind of step, carried out and printed.
+ghost use mathlib.Core.Path.{_≡_};
+ghost use Rattle.ledger.specs.Steps.{commitOf, faultyAcknowledgeOf, faultySignOf, journalAfter, preflightOf, proposeOf};
+ghost use Rattle.codec.specs.Codec.{written};
+ghost use lib.ListN.{replicate};
+use ledger::Ledger;
+use ledger::Reply;
+use libc::STDOUT_FILENO;
+use outcome::Outcome;
+use record::Job;
+
+fn figures(first: u64, second: u64) {
+    io::write_all(STDOUT_FILENO, b" ");
+    io::print_decimal(STDOUT_FILENO, first);
+    io::write_all(STDOUT_FILENO, b" ");
+    io::print_decimal(STDOUT_FILENO, second);
+    io::write_all(STDOUT_FILENO, b"\n");
+}
+
+fn argument(x: u64) {
+    io::write_all(STDOUT_FILENO, b".");
+    io::print_decimal(STDOUT_FILENO, x);
+}
+
+// A line: the name, and the figures of the answer.
+pub fn line(name: &[u8], outcome: Outcome) {
+    io::write_all(STDOUT_FILENO, name);
+    figures(outcome.number() as u64, outcome.value() as u64);
+}
+
+// The line of a step, and the ledger that it left.
+pub fn report(name: &[u8], reply: Reply) -> Ledger
+    ensures { λ r. ⌜ r ≡ reply .ledger ⌝ }
+{
+    let outcome = reply.outcome;
+    line(name, outcome);
+    reply.ledger
+}
+
+// Starts the lines of a sequence.
+pub fn heading(name: &[u8]) {
+    io::write_all(STDOUT_FILENO, name);
+    io::write_all(STDOUT_FILENO, b":\n");
+}
+
+// Names a step at a vault, of a job.
+fn named(name: &[u8], vault: u8, job: u8) {
+    io::write_all(STDOUT_FILENO, name);
+    argument(vault as u64);
+    argument(job as u64);
+}
+
+pub fn propose(l: Ledger, journal: &mut [u8], name: &[u8], job: Job) -> Ledger
+    ensures { λ r. ⌜ r ≡ proposeOf l (now (journal .entry)) (written job (replicate 100 0)) .ledger ⌝ }
+    ensures { λ _. ⌜ now (journal .exit) ≡ journalAfter l (now (journal .entry)) (written job (replicate 100 0)) ⌝ }
+{
+    let mut bytes = [0u8; 100];
+    codec::write(job, &mut bytes);
+    let reply = l.propose(journal, &bytes);
+    io::write_all(STDOUT_FILENO, b"propose.");
+    report(name, reply)
+}
+
+pub fn preflight(l: Ledger, journal: &[u8], vault: u8, job: u8) -> Ledger
+    ensures { λ r. ⌜ r ≡ preflightOf l (now (journal .entry)) vault job .ledger ⌝ }
+{
+    named(b"preflight", vault, job);
+    report(b"", l.preflight(journal, vault, job))
+}
+
+pub fn commit(l: Ledger, journal: &[u8], vault: u8, job: u8, signers: u16) -> Ledger
+    ensures { λ r. ⌜ r ≡ commitOf l (now (journal .entry)) vault job signers .ledger ⌝ }
+{
+    named(b"commit", vault, job);
+    argument(signers as u64);
+    report(b"", l.commit(journal, vault, job, signers))
+}
+
+pub fn sign(l: Ledger, journal: &[u8], vault: u8, job: u8) -> Ledger
+    ensures { λ r. ⌜ r ≡ faultySignOf l (now (journal .entry)) vault job .ledger ⌝ }
+{
+    named(b"faulty-sign", vault, job);
+    report(b"", l.faulty_sign(journal, vault, job))
+}
+
+pub fn acknowledge(l: Ledger, journal: &[u8], vault: u8, job: u8) -> Ledger
+    ensures { λ r. ⌜ r ≡ faultyAcknowledgeOf l (now (journal .entry)) vault job .ledger ⌝ }
+{
+    named(b"faulty-acknowledge", vault, job);
+    report(b"", l.faulty_acknowledge(journal, vault, job))
+}
+
+pub fn show(l: Ledger, journal: &[u8], job: u8) {
+    io::write_all(STDOUT_FILENO, b"show");
+    argument(job as u64);
+    line(b"", l.show(journal, job));
+}
+
+pub fn generations(l: Ledger, journal: &[u8], job: u8) {
+    io::write_all(STDOUT_FILENO, b"generations");
+    argument(job as u64);
+    line(b"", l.generations(journal, job));
+}
+
+// The length of the part shown, and the frames of its first output.
+pub fn lookup(l: Ledger, journal: &[u8], job: u8) {
+    io::write_all(STDOUT_FILENO, b"lookup");
+    argument(job as u64);
+    let part = l.lookup(journal, job);
+    figures(
+        part.len() as u64,
+        record::frames(codec::read(part), 4) as u64,
+    );
+}

@@ -1,0 +1,40 @@
+-- What is printed: "For each step a line: step number from 1, 0 or the refusal, a value; single spaces between". Text is written at a cursor.
+use mathlib.Core.Bool.{cond}
+use mathlib.Core.List.{List, [], _++_, _∷_}
+use mathlib.Core.Path.{_≡_}
+use Prim.Native.Nat.{_+_, _/_, _%_, _<_, suc, zero, ℕ}
+use lib.Dec.{ltb}
+use lib.ListN.{length}
+use lib.Seq.{sets}
+use Rattle.outcome.specs.Figures.{numberOf, valueOf}
+use Rattle.outcome.specs.declared.Outcome.{Outcome}
+
+-- the digits of n, of which there are at most k + 1
+unfoldable pub digits : ℕ → ℕ → List ℕ
+digits zero n = (48 + n) ∷ []
+digits (suc k) n = cond (ltb n 10) ((48 + n) ∷ []) (digits k (n / 10) ++ ((48 + n % 10) ∷ []))
+
+-- a number in decimal: it has no more than n + 1 digits
+unfoldable pub decimal : ℕ → List ℕ
+decimal n = digits n n
+
+-- the two digits of a number below 100
+abbrev pub twoDigits : ℕ → List ℕ
+twoDigits n = (48 + n / 10) ∷ (48 + n % 10) ∷ []
+
+-- a line: three numbers, single spaces between
+unfoldable pub lineOf : ℕ → ℕ → ℕ → List ℕ
+lineOf step number value = decimal step ++ (32 ∷ (decimal number ++ (32 ∷ (decimal value ++ (10 ∷ [])))))
+
+-- the line of a step that was answered so
+abbrev pub lineFor : ℕ → Outcome → List ℕ
+lineFor step outcome = lineOf step (numberOf outcome) (valueOf outcome)
+
+-- six digits at most for the step, four for the number and ten for the value, two spaces and the line's end
+abbrev pub longestLine : ℕ
+longestLine = 23
+
+-- the text was written at the cursor, which moved on by its length
+pub record Put (before : List ℕ) (at : ℕ) (text after : List ℕ) (r : ℕ) : Type 0 where
+  pub moved : r ≡ at + length text
+  pub wrote : after ≡ sets before at text

@@ -1,0 +1,180 @@
+//! Run files near each edge of document 01, with the text that it asks for, worked out here and not by any of the programs.
+//! Its figures are written out, so that no constant of this crate vouches for itself.
+
+use crate::record::Bytes;
+use crate::step::Step;
+use crate::whole::{whole_run, whole_text};
+use crate::write::*;
+use std::fmt::Write;
+
+pub struct Edge {
+    pub name: &'static str,
+    pub file: Vec<u8>,
+    pub text: String,
+}
+
+/// Answers as they are printed: a refusal or 0, and a value.
+type Answer = (u32, u32);
+
+pub fn all() -> Vec<Edge> {
+    vec![
+        edge("65,536 bytes", longest(), &longest_answers()),
+        too_long(),
+        edge("the 129th new job", full_book(), &full_book_answers()),
+        edge("four inputs", four_inputs(4), &[(0, 0)]),
+        edge("a count of five", four_inputs(5), &[(6, 0)]),
+        edge("a header alone", run_file(4, 1, 8, &[]), &[]),
+        edge("one vault, a whole life", one_vault(), &ONE_VAULT),
+        edge("kind 0", unknown(0), &[(4, 0), (2, 0)]),
+        edge("kind 255", unknown(255), &[(4, 0), (2, 0)]),
+        edge("a body cut short", cut_short(), &[(0, 0), (2, 0)]),
+        edge("a chain of 128 jobs", chain(), &chain_answers()),
+        one_run_whole(),
+    ]
+}
+
+fn edge(name: &'static str, file: Vec<u8>, answers: &[Answer]) -> Edge {
+    let mut text = String::new();
+    for (i, (refusal, value)) in answers.iter().enumerate() {
+        writeln!(text, "{} {refusal} {value}", i + 1).expect("a string takes all");
+    }
+    Edge { name, file, text }
+}
+
+/// A step of three bytes, then steps of two.
+fn longest() -> Vec<u8> {
+    let mut steps = vec![preflight(0, 0)];
+    steps.extend(vec![draw(1); 32_762]);
+    let file = run_file(1, 0, 0, &steps);
+    assert_eq!(file.len(), 65_536);
+    file
+}
+
+/// No job is booked; where the only vault is away every quorum fails.
+fn longest_answers() -> Vec<Answer> {
+    let mut answers = vec![(4, 0)];
+    answers.extend(vec![(0, 1000); 32_762]);
+    answers
+}
+
+fn too_long() -> Edge {
+    let mut file = longest();
+    file.push(7);
+    Edge {
+        name: "65,537 bytes",
+        file,
+        text: "0 1 0\n".to_string(),
+    }
+}
+
+fn full_book() -> Vec<u8> {
+    let new = |i: u32| propose(record(0, 5, &[], &[(b"VAA001L5", i + 1)]));
+    let mut steps: Vec<Step> = (0..129).map(new).collect();
+    steps.extend([new(0), new(127), show(127), show(128)]);
+    run_file(1, 0, 0, &steps)
+}
+
+fn full_book_answers() -> Vec<Answer> {
+    let mut answers: Vec<Answer> = (0..128).map(|i| (0, i)).collect();
+    answers.extend([(10, 0), (0, 0), (0, 127), (0, 0), (4, 0)]);
+    answers
+}
+
+fn four_inputs(count: u8) -> Vec<u8> {
+    let inputs: [Written; 4] = [
+        (b"AAAAAAL7", 1),
+        (b"BBBBBBL7", 2),
+        (b"CCCCCCL7", 3),
+        (b"DDDDDDL7", 4),
+    ];
+    let mut bytes: Bytes = record(1, 7, &inputs, &[(b"EEEEEEL7", 10)]);
+    bytes[2] = count;
+    run_file(1, 0, 0, &[propose(bytes)])
+}
+
+const ONE_VAULT: [Answer; 12] = [
+    (0, 0),
+    (0, 0),
+    (0, 1),
+    (0, 1),
+    (0, 1),
+    (0, 2),
+    (0, 0),
+    (0, 1),
+    (0, 1),
+    (0, 1),
+    (0, 1),
+    (0, 1),
+];
+
+/// Proposed, open, signed, certified, held, finished, then a job that takes its tape.
+fn one_vault() -> Vec<u8> {
+    let steps = [
+        propose(record(0, 7, &[], &[(b"VAA001L7", 9)])),
+        show(0),
+        preflight(0, 0),
+        show(0),
+        commit(0, 0, 1),
+        show(0),
+        generations(0),
+        propose(record(1, 7, &[(b"VAA001L7", 9)], &[(b"VAB001L7", 9)])),
+        preflight(0, 1),
+        commit(0, 1, 1),
+        generations(1),
+        preflight(0, 1),
+    ];
+    run_file(1, 0, 0, &steps)
+}
+
+/// What follows the unknown kind is not looked at.
+fn unknown(kind: u8) -> Vec<u8> {
+    let mut file = run_file(4, 1, 0, &[show(0)]);
+    file.extend([kind, 6, 0, 6, 0]);
+    file
+}
+
+/// A preflight that lacks its last byte.
+fn cut_short() -> Vec<u8> {
+    let mut file = run_file(4, 1, 0, &[draw(0), preflight(0, 0)]);
+    file.pop();
+    file
+}
+
+fn label(i: u32) -> [u8; 8] {
+    let label = format!("C{i:05}L7").into_bytes();
+    label.try_into().expect("eight characters")
+}
+
+/// Each job takes the tape of the one before.
+fn chain() -> Vec<u8> {
+    let mut steps = Vec::new();
+    for i in 0..128 {
+        let made = label(i);
+        let job = i as u8;
+        let record = match i {
+            0 => record(0, 7, &[], &[(&made, 9)]),
+            _ => record(1, 7, &[(&label(i - 1), 9)], &[(&made, 9)]),
+        };
+        steps.extend([
+            propose(record),
+            preflight(0, job),
+            commit(0, job, 1),
+            generations(job),
+        ]);
+    }
+    run_file(1, 0, 0, &steps)
+}
+
+fn chain_answers() -> Vec<Answer> {
+    (0..128)
+        .flat_map(|i| [(0, i), (0, 1), (0, 1), (0, i)])
+        .collect()
+}
+
+fn one_run_whole() -> Edge {
+    Edge {
+        name: "one run whole",
+        file: whole_run(),
+        text: whole_text().to_string(),
+    }
+}
