@@ -1,5 +1,5 @@
 -- Which labels a job has on which side, and when two jobs conflict (document 02's rivals).
-use mathlib.Core.Bool.{Bool, _&&_, _||_, false, true}
+use mathlib.Core.Bool.{Bool, _&&_, _||_}
 use Prim.Native.Nat.{_+_, ℕ}
 use lib.Dec.{eqb}
 use Rattle.base.specs.Search.{anyBelow}

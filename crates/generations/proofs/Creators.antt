@@ -7,8 +7,7 @@ use mathlib.Core.Path.{_∙_, _≡_, ap, refl, sym}
 use Prim.Native.Nat.{_*_, _+_, _-_, _<_, _≤_, ℕ}
 use native.Mathlib.Omega.{arith}
 use lib.Dec.{ltb}
-use lib.ListN.{drop, getD, length}
-use lib.Seq.{getD-drop, getD-take}
+use lib.ListN.{getD, length}
 use borrow.Author.Tests.{le-ltb, lt-ltb}
 use Rattle.base.proofs.Reflect.{and-false}
 use Rattle.base.proofs.Search.{first-least, first-same, none-any}
@@ -20,7 +19,7 @@ use Rattle.codec.specs.Codec.{jobOf, recordSize}
 use Rattle.conflicts.specs.Conflicts.{isLabelAt, isTapeAt, makesTape}
 use Rattle.record.specs.Entries.{isUsed}
 use Rattle.record.specs.declared.Job.{Job}
-use Rattle.journal.specs.Journal.{isBooked, jobAt, recordAt, slotAt}
+use Rattle.journal.specs.Journal.{isBooked, jobAt, recordAt}
 use Rattle.index.proofs.Books.{entered-booked}
 use Rattle.index.proofs.Meets.{tables, tape-has}
 use Rattle.index.specs.Checks.{Tables, setOf}

@@ -1,28 +1,25 @@
 -- Each arm of the decision is its command's: the arguments that were read are those that the command names.
-use mathlib.Core.Bool.{Bool, Bool·beq, cond, false, true}
+use mathlib.Core.Bool.{Bool, Bool·beq, false, true}
 use mathlib.Core.List.{List}
-use mathlib.Core.Path.{_∙_, _≡_, ap, refl, subst, sym}
-use Prim.Native.Nat.{_*_, _+_, _-_, _<_, _≤_, ℕ}
+use mathlib.Core.Path.{_∙_, _≡_, ap, subst, sym}
+use Prim.Native.Nat.{_+_, _-_, ℕ}
 use native.Mathlib.Nat.{add-sub-cancel-left}
 use native.Mathlib.Omega.{arith}
 use lib.Dec.{ltb}
-use lib.ListN.{drop, getD, length, take}
-use borrow.Author.Tests.{ltb-true}
-use Rattle.base.proofs.Reflect.{and-true}
+use lib.ListN.{drop, getD, take}
 use Rattle.outcome.specs.declared.Outcome.{Outcome}
 use Rattle.outcome.specs.declared.Refusal.the-variants.{NoVault, NotBooked, WrongVault}
 use Rattle.outcome.specs.declared.Verdict.{Verdict}
-use Rattle.outcome.specs.declared.Verdict.the-variants.{Fail, Pass}
+use Rattle.outcome.specs.declared.Verdict.the-variants.{Pass}
 use Rattle.sets.specs.Bits.{hasBit}
 use Rattle.federation.specs.declared.Settings.{Settings}
-use Rattle.codec.specs.Codec.{recordSize}
 use Rattle.journal.proofs.Booked.{reflect-booked}
-use Rattle.journal.specs.Journal.{capacity, insideOf, isBooked}
+use Rattle.journal.specs.Journal.{insideOf, isBooked}
 use Rattle.index.proofs.Tables.{records-part}
 use Rattle.index.specs.Index.{Indexed, IndexedRecords}
 use Rattle.draw.specs.Draw.{drawOf}
 use Rattle.ledger.proofs.Gates.{passed-rest, passed-test}
-use Rattle.ledger.specs.Decisions.{answering, committing, gated, preflighting, proposal, refusing, statusOf, voting}
+use Rattle.ledger.specs.Decisions.{answering, committing, gated, preflighting, proposal, statusOf, voting}
 use Rattle.ledger.specs.Given.{Known, Searchable}
 use Rattle.ledger.specs.Steps.{gateOf}
 use Rattle.ledger.specs.declared.Change.the-variants.{Nothing, RecordAcknowledgement, RecordSignature}
@@ -30,7 +27,7 @@ use Rattle.ledger.specs.declared.Decision.{Decision}
 use Rattle.ledger.specs.declared.Vault.{Vault}
 use Rattle.runfile.specs.Steps.{commandIn, wordAt}
 use Rattle.runfile.specs.declared.Kind.{Kind}
-use Rattle.runfile.specs.declared.Kind.the-variants.{Commit, Draw, FaultyAcknowledge, FaultySign, Generations, Preflight, Propose, Show, Unknown}
+use Rattle.runfile.specs.declared.Kind.the-variants.{Commit, Draw, FaultyAcknowledge, FaultySign, Preflight, Propose, Show}
 use Rattle.run.specs.Decided.{bookedOr, decidedBy}
 use Rattle.run.specs.Reading.{Asked}
 

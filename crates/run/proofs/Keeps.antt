@@ -1,7 +1,7 @@
 -- What a run keeps stays right: whatever a step decides, the journal, its index, the arrival order and the memo follow the ledger.
-use mathlib.Core.Bool.{Bool, Bool·beq, _||_, cond, false, true, true≢false}
+use mathlib.Core.Bool.{Bool, _||_, cond, false, true, true≢false}
 use mathlib.Core.List.{List}
-use mathlib.Core.Logic.{_≢_, _⊎_, inl, inr, ⊎-elim}
+use mathlib.Core.Logic.{_≢_, _⊎_, ⊎-elim}
 use mathlib.Core.Path.{_∙_, _≡_, ap, refl, subst, sym}
 use Prim.Native.Nat.{_%_, _*_, _+_, _<_, _≤_, ℕ}
 use native.Mathlib.Nat.{eq-or-lt-of-le, le-of-suc-le-suc, not-suc-le-zero}
@@ -10,26 +10,23 @@ use native.Mathlib.Omega.{arith}
 use lib.Dec.{eqb, leb, ltb}
 use lib.ListN.{drop, getD, length, length-replicate, length-set, replicate, set, take}
 use lib.Seq.{getD-set-other, getD-set-same}
-use borrow.Author.Tests.{eqb-false, eqb-true, leb-false, leb-true, lt-ltb, ltb-true}
-use Rattle.outcome.specs.declared.Outcome.{Outcome}
+use borrow.Author.Tests.{eqb-false, eqb-true, leb-false}
 use Rattle.outcome.specs.declared.Outcome.the-variants.{Done}
-use Rattle.outcome.specs.declared.Refusal.{Refusal}
-use Rattle.outcome.specs.declared.Refusal.the-variants.{Full, NotHeld, Settings as BadSettings}
+use Rattle.outcome.specs.declared.Refusal.the-variants.{Full, NotHeld}
 use Rattle.outcome.specs.declared.Verdict.{Verdict}
 use Rattle.outcome.specs.declared.Verdict.the-variants.{Fail, Pass}
 use Rattle.federation.proofs.Lawful.{reflect-lawful}
 use Rattle.federation.specs.Federation.{isLawful}
 use Rattle.codec.specs.Codec.{jobOf, recordSize}
-use Rattle.record.specs.declared.Job.{Job}
 use Rattle.journal.proofs.Putting.{put-length, slot-before}
-use Rattle.journal.specs.Journal.{capacity, equalIn, hasRoom, insideOf, isBooked, jobAt, putAt, slotAt}
+use Rattle.journal.specs.Journal.{capacity, equalIn, hasRoom, insideOf, isBooked, jobAt, putAt}
 use Rattle.index.proofs.Inside.{slot-booked}
 use Rattle.index.proofs.Tables.{entries-part, indexed-entered, indexed-none}
-use Rattle.index.specs.Index.{Blank, Indexed}
+use Rattle.index.specs.Index.{Indexed}
 use Rattle.index.specs.Places.{numbersSize, setsSize, slotJob}
 use Rattle.index.specs.Records.{recordsSize}
 use Rattle.generations.proofs.Memos.{memo-arrive, memo-book, memo-none}
-use Rattle.generations.specs.Generations.{ageIn, isAt}
+use Rattle.generations.specs.Generations.{ageIn}
 use Rattle.generations.specs.Memo.{Memo, Ready}
 use Rattle.ledger.proofs.Gates.{booked-entered, entered, in-place, reflect-sane}
 use Rattle.ledger.proofs.Writes.{unwritten, writes}
@@ -37,19 +34,19 @@ use Rattle.ledger.specs.Decisions.{ageing, answering, certificate, committing, 
 use Rattle.ledger.specs.Given.{Placed, Writable}
 use Rattle.ledger.specs.Holders.{isHeld}
 use Rattle.ledger.specs.Meaning.{Sane}
-use Rattle.ledger.specs.State.{acknowledged, acknowledgersOf, applied, arriving, booking, countersigned, hasArrived, isSane, newLedger, signersOf, vaultAt, withVault}
+use Rattle.ledger.specs.State.{acknowledged, acknowledgersOf, applied, arriving, booking, countersigned, hasArrived, newLedger, signersOf, vaultAt, withVault}
 use Rattle.ledger.specs.Steps.{bookedGate, commitDecision, faultyAcknowledgeDecision, faultySignDecision, gateOf, generationsDecision, journalAfter, journalWith, preflightDecision, proposeDecision, saneGate, showDecision, vaultGate}
-use Rattle.ledger.specs.Worlds.{Request, commit, decisionOf, faultyAcknowledge, faultySign, generations, jobIn, preflight, propose, show, vaultIn}
+use Rattle.ledger.specs.Worlds.{commit, faultyAcknowledge, faultySign, generations, preflight, propose, show}
 use Rattle.ledger.specs.declared.Change.{Change}
 use Rattle.ledger.specs.declared.Change.the-variants.{Book, Hold, Nothing, RecordAcknowledgement, RecordSignature, Sign}
 use Rattle.ledger.specs.declared.Decision.{Decision}
 use Rattle.ledger.specs.declared.Ledger.{Ledger}
 use Rattle.ledger.specs.declared.Vault.{Vault}
 use Rattle.runfile.specs.Run.{journalSize}
-use Rattle.runfile.specs.Steps.{Command, commandIn, draw, journalBy, replyOf, request, unreadable, wordAt}
-use Rattle.run.specs.Decided.{asksAge, bookedOr, commandDecision, decidedBy, requested, vaultOf}
+use Rattle.runfile.specs.Steps.{Command, commandIn, draw, journalBy, request, unreadable, wordAt}
+use Rattle.run.specs.Decided.{asksAge, bookedOr, commandDecision, decidedBy, vaultOf}
 use Rattle.run.specs.Decided.{jobOf as jobNamed}
-use Rattle.run.specs.Kept.{Kept, Stored, bookedAfter}
+use Rattle.run.specs.Kept.{Kept, Stored}
 use Rattle.run.proofs.Reading.{is-propose, isPropose}
 use Rattle.runfile.specs.declared.Kind.{Kind}
 use Rattle.runfile.specs.declared.Kind.the-variants.{Commit, Draw, FaultyAcknowledge, FaultySign, Generations, Preflight, Propose, Show, Unknown}

@@ -1,7 +1,7 @@
 -- A piece grows by a step's text, and pieces one after another are the whole text.
-use mathlib.Core.List.{List, [], _++_, _∷_, append-assoc, append-nil}
+use mathlib.Core.List.{List, [], _++_, _∷_, append-assoc}
 use mathlib.Core.Path.{_∙_, _≡_, ap, refl, sym}
-use Prim.Native.Nat.{_<_, _≤_, ℕ}
+use Prim.Native.Nat.{_≤_, ℕ}
 use lib.ListN.{length, take}
 use native.Mathlib.Omega.{arith}
 use Rattle.run.specs.Pieces.{Piece, Pieces, Printed, Whole, printed}

@@ -2,21 +2,20 @@
 use mathlib.Core.Bool.{Bool, false, true}
 use mathlib.Core.List.{List}
 use mathlib.Core.Path.{_∙_, _≡_, ap, refl, subst, sym}
-use Prim.Native.Nat.{_*_, _+_, _-_, _<_, _≤_, ℕ}
+use Prim.Native.Nat.{_*_, _+_, _-_, _≤_, ℕ}
 use native.Mathlib.Nat.{add-sub-cancel-left}
 use native.Mathlib.Omega.{arith}
 use lib.ListN.{drop, length, length-drop, length-take, take}
 use Rattle.codec.specs.Codec.{jobOf, recordSize}
 use Rattle.record.specs.declared.Job.{Job}
 use Rattle.journal.proofs.Putting.{put-length, slot-put}
-use Rattle.journal.specs.Journal.{capacity, putAt}
+use Rattle.journal.specs.Journal.{putAt}
 use Rattle.index.proofs.Tables.{indexed-put}
 use Rattle.index.specs.Index.{HasRecord, Indexed}
 use Rattle.index.specs.Places.{slotJob}
 use Rattle.ledger.proofs.Writes.{is-book, unwritten}
 use Rattle.ledger.specs.Decisions.{isBook}
 use Rattle.ledger.specs.Given.{Writable}
-use Rattle.ledger.specs.Steps.{journalWith}
 use Rattle.ledger.specs.declared.Change.{Change}
 use Rattle.ledger.specs.declared.Change.the-variants.{Book, Hold, Nothing, RecordAcknowledgement, RecordSignature, Sign}
 use Rattle.run.specs.Kept.{Stored, bookedAfter}

@@ -1,15 +1,14 @@
 -- A turn of the run's loop is a step of the run: what was decided is the command's decision, what is kept stays right, and the line is the
 -- step's text. Three ways lead through it: a question for generations, a step that changes nothing, and one that does.
 use mathlib.Core.Bool.{Bool, cond, false, true, true≢false}
-use mathlib.Core.List.{List, [], _++_}
-use mathlib.Core.Path.{_∙_, _≡_, ap, refl, subst, sym}
+use mathlib.Core.List.{List}
+use mathlib.Core.Path.{_∙_, _≡_, ap, refl, sym}
 use Prim.Native.Nat.{_%_, _*_, _+_, _<_, _≤_, ℕ}
 use native.Mathlib.Omega.{arith}
 use lib.ListN.{drop, getD, length, take}
 use Rattle.outcome.specs.declared.Outcome.{Outcome}
 use Rattle.codec.specs.Codec.{recordSize}
-use Rattle.journal.specs.Journal.{capacity, isBooked, jobAt}
-use Rattle.generations.specs.Memo.{Memo}
+use Rattle.journal.specs.Journal.{isBooked, jobAt}
 use Rattle.text.specs.Text.{Put, lineFor}
 use Rattle.outcome.specs.declared.Refusal.the-variants.{NotHeld}
 use Rattle.outcome.specs.declared.Verdict.{Verdict}
@@ -26,8 +25,8 @@ use Rattle.ledger.specs.declared.Change.the-variants.{Book, Hold, Nothing, Reco
 use Rattle.ledger.specs.declared.Decision.{Decision}
 use Rattle.ledger.specs.declared.Ledger.{Ledger}
 use Rattle.runfile.proofs.Turns.{step-last, step-text}
-use Rattle.runfile.specs.Run.{Run, commandOf, headerSize, lastFrom, longest, textFrom, turn}
-use Rattle.runfile.specs.Steps.{Command, commandIn, draw, journalBy, kindAt, nextAt, replyOf, request, stepAt, unreadable}
+use Rattle.runfile.specs.Run.{headerSize, lastFrom, longest, textFrom, turn}
+use Rattle.runfile.specs.Steps.{Command, commandIn, draw, journalBy, replyOf, request, stepAt, unreadable}
 use Rattle.runfile.specs.declared.Kind.{Kind}
 use Rattle.runfile.specs.declared.Kind.the-variants.{Commit, Draw, FaultyAcknowledge, FaultySign, Generations, Preflight, Propose, Show, Unknown}
 use Rattle.run.proofs.Keeps.{There, booked-gate, decided-is, kept-applied, kept-memo, left-by, there, writable}
@@ -36,7 +35,7 @@ use Rattle.run.specs.Decided.{asksAge, bookedOr, commandDecision, decide
 use Rattle.run.specs.Decided.{jobOf as jobNamed}
 use Rattle.run.specs.Kept.{Kept, Stored}
 use Rattle.run.specs.Pieces.{Piece, longestText, runAt}
-use Rattle.run.specs.Reading.{Answered, Asked, Read, asksAgeOf}
+use Rattle.run.specs.Reading.{Answered, Read, asksAgeOf}
 use Rattle.run.specs.declared.steps.Step.{Step}
 
 -- at the loop's head a piece is written that ends before the next step

@@ -1,5 +1,4 @@
 -- What a run keeps beside its ledger: the journal, its index, and the generations found so far.
-use mathlib.Core.Bool.{Bool, cond}
 use mathlib.Core.List.{List}
 use mathlib.Core.Path.{_≡_}
 use Prim.Native.Nat.{_+_, _<_, ℕ}

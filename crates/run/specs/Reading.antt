@@ -14,7 +14,7 @@ use Rattle.ledger.specs.declared.Vault.{Vault}
 use Rattle.outcome.specs.declared.Outcome.{Outcome}
 use Rattle.codec.specs.Codec.{recordSize}
 use Rattle.runfile.specs.Run.{longest}
-use Rattle.runfile.specs.Steps.{bodySize, commandIn, kindAt, kindOf, nextAt, stepAt}
+use Rattle.runfile.specs.Steps.{bodySize, commandIn, kindAt, kindOf, nextAt}
 use Rattle.runfile.specs.declared.Kind.{Kind}
 use Rattle.runfile.specs.declared.Kind.the-variants.{Commit, Draw, FaultyAcknowledge, FaultySign, Generations, Preflight, Propose, Show, Unknown}
 use Rattle.run.specs.declared.steps.Operation.{Operation}

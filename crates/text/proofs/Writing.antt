@@ -2,13 +2,12 @@
 use mathlib.Core.Bool.{Bool, false, true}
 use mathlib.Core.List.{List, [], _++_, _∷_, append-assoc}
 use mathlib.Core.Path.{_∙_, _≡_, ap, refl, sym}
-use Prim.Native.Nat.{_%_, _*_, _+_, _/_, _<_, _^_, _≤_, suc, zero, ℕ}
-use native.Mathlib.Nat.{add-suc, add-zero, not-suc-le-zero, pow-suc, suc-add, zero-add}
-use native.Mathlib.Numerals.{add-one}
+use Prim.Native.Nat.{_%_, _+_, _/_, _<_, _≤_, suc, zero, ℕ}
+use native.Mathlib.Nat.{add-suc, add-zero, not-suc-le-zero, suc-add, zero-add}
 use native.Mathlib.Omega.{arith}
 use lib.Dec.{ltb}
-use lib.ListN.{drop, getD, length, length-append, length-take, set, take}
-use lib.Seq.{sets, sets-eq, take-all, take-at, take-suc}
+use lib.ListN.{drop, length, length-append, set, take}
+use lib.Seq.{sets, sets-eq, take-at}
 use borrow.Author.Tests.{le-ltb, lt-ltb, ltb-false, ltb-true}
 use Rattle.outcome.specs.Figures.{numberOf, valueOf}
 use Rattle.outcome.specs.declared.Outcome.{Outcome}

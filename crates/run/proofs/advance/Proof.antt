@@ -1,7 +1,7 @@
 -- A turn of the loop is a step of the run (proofs/Turning.antt); the loop ends where nothing is left to read, or where the longest text may not fit.
 use mathlib.Core.List.{List}
 use mathlib.Core.Logic.{inl, inr}
-use mathlib.Core.Path.{_∙_, _≡_, refl, sym}
+use mathlib.Core.Path.{_≡_, refl}
 use Prim.Native.Nat.{_-_, ℕ}
 use native.Mathlib.Omega.{arith}
 use lib.ListN.{length}
