@@ -1,5 +1,5 @@
--- Demand 2: "a correct vault signs when they allow it, and only then". Wherever a list of steps has led, preflight and commit accept exactly
--- what the paper's Algorithms 1 and 2 accept, with document 01's mends.
+-- Demand 2: a correct vault signs where the rules allow it, and only there. Wherever a list of steps has led, preflight and commit accept
+-- exactly what the paper's Algorithms 1 and 2 accept, with document 01's mends.
 use mathlib.Core.Bool.{Bool, true}
 use mathlib.Core.List.{List}
 use mathlib.Core.Logic.{_⊎_}

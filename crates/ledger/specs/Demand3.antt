@@ -117,8 +117,7 @@ Demand3 =
     → Holds (record { n = n; b = b; faulty = faulty }) (afterAll (start n b faulty) es) (feedAll newRegister (log (start n b faulty) es))
     × ((o : Outcome) → In o (outcomes (start n b faulty) es) → numberOf o ≡ 1 → ⊥)
 
--- "Every other input gets the first matching refusal … and changes nothing": wherever a list has led, a refused step leaves the ledger and
--- the booked bytes as they were
+-- "A refusal alters no set, book or order": wherever a list has led, a refused step leaves the ledger and the booked bytes as they were
 abbrev pub RefusedUnchanged : Type 0
 RefusedUnchanged =
     (n b faulty : ℕ) → Lawful (record { n = n; b = b; faulty = faulty }) → (es : List Event) (e : Event) (why : Refusal)
