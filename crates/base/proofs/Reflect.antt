@@ -38,6 +38,11 @@ or-intro true b e = refl
 or-intro false b (inl e) = absurd (true≢false (sym e))
 or-intro false b (inr e) = e
 
+-- a test has one of two answers, and where it is asked the answer is known
+pub by-cases : (P : Bool → Type 0) (b : Bool) → (b ≡ true → P true) → (b ≡ false → P false) → P b
+by-cases P true t f = t refl
+by-cases P false t f = f refl
+
 -- what is not false is true
 pub not-false-true : (b : Bool) → (b ≡ false → ⊥) → b ≡ true
 not-false-true true h = refl
