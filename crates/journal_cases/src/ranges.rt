@@ -75,7 +75,7 @@ fn cut(l: Ledger, journal: &mut [u8], n: usize, name: &[u8]) -> Ledger {
     codec::write(jobs::master(), &mut bytes);
     let all: &[u8] = &bytes;
     if n <= all.len() {
-        return steps::report(name, l.propose(journal, &all[0..n]));
+        return steps::report(name, operations::propose(l, journal, &all[0..n]));
     }
     l
 }

@@ -9,7 +9,29 @@ use native.Mathlib.Omega.{arith}
 use lib.Dec.{eqb}
 use lib.ListN.{List·getD-append, getD, length, length-append}
 use lib.Pow.{split}
-use Rattle.base.proofs.Members.{distinct-append, distinct-left, distinct-map, distinct-map-keep, distinct-right, image-once, in-append, in-keep, in-last, in-left, in-map, in-right, in-snoc, keep-in, keep-same, map-append, map-in, reflect-all-in, reflect-member, total-append, without-total}
+use Rattle.base.proofs.Members.{
+  distinct-append,
+  distinct-left,
+  distinct-map,
+  distinct-map-keep,
+  distinct-right,
+  image-once,
+  in-append,
+  in-keep,
+  in-last,
+  in-left,
+  in-map,
+  in-right,
+  in-snoc,
+  keep-in,
+  keep-same,
+  map-append,
+  map-in,
+  reflect-all-in,
+  reflect-member,
+  total-append,
+  without-total,
+}
 use Rattle.base.proofs.Reflect.{reflect-and, reflect-as, reflect-eq, reflect-not, reflects-same, refutes}
 use Rattle.base.specs.Lists.{Distinct, In, anyIn}
 use Rattle.base.specs.Reflect.{Reflects}

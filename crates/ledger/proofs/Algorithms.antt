@@ -8,7 +8,7 @@ use lib.Count.{ones}
 use lib.Dec.{leb}
 use borrow.Author.Tests.{le-leb, leb-true}
 use Rattle.base.proofs.Members.{in-map}
-use Rattle.base.proofs.Reflect.{not-true-false}
+use Rattle.base.proofs.Reflect.{by-cases, not-true-false}
 use Rattle.base.specs.Reflect.{Reflects}
 use Rattle.outcome.specs.declared.Refusal.the-variants.{NotSigned, TooFewSigners}
 use Rattle.outcome.specs.declared.Verdict.{Verdict}
@@ -30,12 +30,12 @@ use Rattle.ledger.specs.Graph.{Algorithm1}
 use Rattle.journal.specs.Journal.{jobAt}
 use Rattle.ledger.specs.Meaning.{Certificate, Entered}
 use Rattle.ledger.specs.Register.{isDone, passes}
-use Rattle.ledger.specs.State.{acknowledgersOf, signersOf, vaultAt}
+use Rattle.ledger.specs.State.{acknowledgersOf, signersOf, vaultAt, votesIn}
 use Rattle.ledger.specs.Decisions.{answering, certificate, committing, consent, consenting, gated, preflighting, receiving, voting}
 use Rattle.ledger.specs.Steps.{commitDecision, preflightDecision}
-use Rattle.ledger.specs.Vaults.{admissionAt, consented, signing, vaultPreflight}
+use Rattle.ledger.specs.Vaults.{admissionAt, consented, holding, signing, vaultPreflight}
 use Rattle.federation.specs.declared.Settings.{Settings}
-use Rattle.ledger.specs.declared.Change.the-variants.{Sign}
+use Rattle.ledger.specs.declared.Change.the-variants.{Hold, Sign}
 use Rattle.ledger.specs.declared.Decision.{Decision}
 use Rattle.ledger.specs.declared.Ledger.{Ledger}
 use Rattle.ledger.specs.declared.Vault.{Vault}
@@ -104,13 +104,12 @@ module _ (l : Ledger) (journal : List ℕ) (v k : ℕ) (in-place : Entered l jou
 
   received : isDone (receiving vault (acknowledgersOf l k) v k .outcome) ≡ true
   unfolding receiving
-  received = by (jobHas (vault .held) k) _ _ refl refl
-    where
-      by : (b : Bool) (d e : Decision) → isDone (d .outcome) ≡ true → isDone (e .outcome) ≡ true → isDone (cond b d e .outcome) ≡ true
-      by true d e p q = p
-      by false d e p q = q
+  received =
+      let votes = acknowledgersOf l k in
+      by-cases (λ b. isDone (cond b (answering (ones votes)) (voting votes v (Hold (holding vault k))) .outcome) ≡ true) (jobHas (vault .held) k)
+      (λ e. refl) (λ e. refl)
 
   -- Algorithm 2: a commit is answered 0 exactly where the signature is valid; admissibility is not tested again
   pub commits : (signers : ℕ) → isDone (commitDecision l journal v k signers .outcome) ≡ passes (certificate (l .settings) (signersOf l k) signers)
-  unfolding commitDecision committing
+  unfolding commitDecision committing votesIn
   commits signers = simp (enters l journal v k false in-place) (passed (certificate (l .settings) (signersOf l k) signers) _ received)

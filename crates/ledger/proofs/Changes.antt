@@ -11,6 +11,7 @@ use lib.Count.{ones}
 use lib.ListN.{getD, length, take}
 use borrow.Author.Tests.{eqb-true, leb-true}
 use Rattle.base.proofs.Members.{getD-in, in-getD}
+use Rattle.base.proofs.Reflect.{by-cases}
 use Rattle.base.specs.Lists.{In}
 use Rattle.outcome.specs.declared.Refusal.{Refusal}
 use Rattle.outcome.specs.declared.Refusal.the-variants.{Full, NotHeld, Settings as BadSettings}
@@ -31,15 +32,60 @@ use Rattle.ledger.specs.Demand3.{Correct, HeldBy, recordsIn}
 use Rattle.federation.specs.Federation.{Lawful, thresholdOf}
 use Rattle.ledger.specs.Holders.{isHeld}
 use Rattle.ledger.specs.Graph.{Unblocked}
+use Rattle.generations.specs.Generations.{ageIn}
 use Rattle.journal.specs.Journal.{insideOf, jobAt, slotAt}
 use Rattle.ledger.specs.Meaning.{Entered, KnownAt, NewAt, Proposed, Sane, failed, full, insane, known, new}
 use Rattle.ledger.specs.Register.{isDone, tabled}
-use Rattle.ledger.specs.State.{acknowledged, acknowledgersOf, applied, arriving, booking, countersigned, signersOf, vaultAt, withVault}
-use Rattle.ledger.specs.Decisions.{ageing, answering, certificate, committing, consent, consenting, gated, preflighting, receiving, refusing, statusOf, voting}
-use Rattle.ledger.specs.Steps.{bookedGate, carried, commitDecision, faultyAcknowledgeDecision, faultySignDecision, generationsDecision, journalAfter, journalWith, preflightDecision, proposeDecision, showDecision, vaultGate}
+use Rattle.ledger.specs.State.{applied, arriving, booking, signersOf, vaultAt, voted, votesAt, votesIn, withVault}
+use Rattle.ledger.specs.State.{acknowledgersOf}
+use Rattle.ledger.specs.Decisions.{
+  ageing,
+  answering,
+  certificate,
+  committing,
+  consent,
+  consenting,
+  gated,
+  preflighting,
+  receiving,
+  refusing,
+  statusOf,
+  voting,
+}
+use Rattle.ledger.specs.Steps.{
+  bookedGate,
+  carried,
+  commitDecision,
+  faultyVoteDecision,
+  generationsDecision,
+  journalAfter,
+  journalWith,
+  preflightDecision,
+  proposeDecision,
+  showDecision,
+  vaultGate,
+}
 use Rattle.ledger.specs.Vaults.{admissionAt, consented, holding, signing, vaultPreflight}
-use Rattle.ledger.specs.Worlds.{Event, Request, World, after, commit, faultyAcknowledge, faultySign, generations, leftBy, lend, overlay, preflight, propose, replyTo, show, stepOf}
-use Rattle.ledger.specs.declared.Change.the-variants.{Hold, RecordAcknowledgement, RecordSignature, Sign}
+use Rattle.ledger.specs.Worlds.{
+  Event,
+  Request,
+  World,
+  after,
+  commit,
+  faultyVote,
+  generations,
+  leftBy,
+  lend,
+  overlay,
+  preflight,
+  propose,
+  replyTo,
+  show,
+  stepOf,
+}
+use Rattle.ledger.specs.declared.Change.the-variants.{Hold, Record, Sign}
+use Rattle.ledger.specs.declared.Column.{Column}
+use Rattle.ledger.specs.declared.Column.the-variants.{Acknowledgements, Signatures}
 use Rattle.ledger.specs.declared.Consent.the-variants.{Already}
 use Rattle.ledger.specs.declared.Decision.{Decision}
 use Rattle.ledger.specs.declared.Ledger.{Ledger}
@@ -50,14 +96,12 @@ use Rattle.ledger.specs.declared.Signing.{Signing}
 pub record Shape (l : Ledger) (bs : List ℕ) : Type 0 where
   pub lawful : Lawful (l .settings)
   pub vaults : length (l .vaults) ≡ 16
-  pub signatures : length (l .signatures) ≡ 128
-  pub acknowledgements : length (l .acknowledgements) ≡ 128
+  pub votes : length (l .votes) ≡ 128
   pub order : length (l .order) ≡ 128
   pub arrivals : l .arrivals ≤ 128
   pub records : length bs ≡ recordSize * l .booked
   pub room : l .booked ≤ 128
-  pub signers-below : (k : ℕ) → signersOf l k < 2 ^ l .settings .n
-  pub acknowledgers-below : (k : ℕ) → acknowledgersOf l k < 2 ^ l .settings .n
+  pub votes-below : (c : Column) (k : ℕ) → votesIn l c k < 2 ^ l .settings .n
 
 pub shape-sane : {l : Ledger} {bs : List ℕ} → Shape l bs → Sane l
 shape-sane s = record { lawful = s .lawful; booked = s .room; arrivals = s .arrivals }
@@ -71,19 +115,18 @@ tableOf w = recordsIn (w .ledger .booked) (w .booked)
 
 -- a vault signs: its set grows and its signature is recorded
 abbrev pub signedBy : Ledger → ℕ → ℕ → Ledger
-signedBy l v k = countersigned (withVault l v (signing (vaultAt l v) k)) v k
+signedBy l v k = voted (withVault l v (signing (vaultAt l v) k)) Signatures v k
 
 -- a vault holds: its set grows, its acknowledgement is recorded and the job arrives
 unfoldable pub held : Ledger → ℕ → ℕ → Ledger
-held l v k = arriving (acknowledged (withVault l v (holding (vaultAt l v) k)) v k) k
+held l v k = arriving (voted (withVault l v (holding (vaultAt l v) k)) Acknowledgements v k) k
 
 -- a request that is answered 0 and changes nothing
 abbrev pub Idle : World → Request → Type 0
 Idle w (propose bytes) = In bytes (tableOf w)
 Idle w (preflight v k) = Unit {0}
 Idle w (commit v k signers) = HeldBy (w .ledger) k v
-Idle w (faultySign v k) = ⊥
-Idle w (faultyAcknowledge v k) = ⊥
+Idle w (faultyVote c v k) = ⊥
 Idle w (show k) = Unit {0}
 Idle w (generations k) = Unit {0}
 
@@ -98,10 +141,8 @@ pub data Change (w : World) : Request → Bool → World → Type 0 where
   signs : (v k : ℕ) → Correct (w .ledger .settings) v → k < w .ledger .booked
       → Unblocked (tabled (tableOf w)) (w .ledger .booked) (vaultAt (w .ledger) v .held) (jobWithout (vaultAt (w .ledger) v .signed) k) (tabled (tableOf w) k)
       → Change w (preflight v k) true (withLedger w (signedBy (w .ledger) v k))
-  countersigns : (v k : ℕ) → v < w .ledger .settings .n → hasBit (w .ledger .settings .faulty) v ≡ true → k < w .ledger .booked
-      → Change w (faultySign v k) true (withLedger w (countersigned (w .ledger) v k))
-  acknowledges : (v k : ℕ) → v < w .ledger .settings .n → hasBit (w .ledger .settings .faulty) v ≡ true → k < w .ledger .booked
-      → Change w (faultyAcknowledge v k) true (withLedger w (acknowledged (w .ledger) v k))
+  votes : (c : Column) (v k : ℕ) → v < w .ledger .settings .n → hasBit (w .ledger .settings .faulty) v ≡ true → k < w .ledger .booked
+      → Change w (faultyVote c v k) true (withLedger w (voted (w .ledger) c v k))
   holds : (v k signers : ℕ) → Correct (w .ledger .settings) v → k < w .ledger .booked → thresholdOf (w .ledger .settings) ≤ ones (signersOf (w .ledger) k)
       → Change w (commit v k signers) true (withLedger w (held (w .ledger) v k))
 
@@ -159,7 +200,7 @@ module _ (w : World) (sh : Shape (w .ledger) (w .booked)) (size : ℕ) (beyond :
       (admission-unblocked (jobAt journal (l .booked)) (l .booked) (vaultAt l v .held) (jobWithout (vaultAt l v .signed) k) (jobAt journal (l .booked) k) e)
 
   signed-booked : (v k : ℕ) → signedBy l v k .booked ≡ l .booked
-  unfolding countersigned withVault
+  unfolding voted withVault
   signed-booked v k = refl
 
   consents : (v k : ℕ) (b : Bool) (d : Verdict) → admissionAt (vaultAt l v) journal (l .booked) k ≡ d → Entered l journal v k false
@@ -183,7 +224,7 @@ module _ (w : World) (sh : Shape (w .ledger) (w .booked)) (size : ℕ) (beyond :
   unfolding subsetOf
   subset-ones k signers e =
       let q : bitAnd signers (signersOf l k) ≡ signers = eqb-true (bitAnd signers (signersOf l k)) signers e in
-      ones-subset (l .settings .n) signers (signersOf l k) (omega (arith, and-le-r signers (signersOf l k), sh .signers-below k)) e
+      ones-subset (l .settings .n) signers (signersOf l k) (omega (arith, and-le-r signers (signersOf l k), sh .votes-below Signatures k)) e
 
   quorum : (k signers : ℕ) → certificate (l .settings) (signersOf l k) signers ≡ Pass → thresholdOf (l .settings) ≤ ones (signersOf l k)
   unfolding certificate
@@ -193,8 +234,8 @@ module _ (w : World) (sh : Shape (w .ledger) (w .booked)) (size : ℕ) (beyond :
       le-trans enough (subset-ones k signers sub)
 
   held-booked : (v k : ℕ) → held l v k .booked ≡ l .booked
-  unfolding held acknowledged withVault
-  held-booked v k = arrives (acknowledged (withVault l v (holding (vaultAt l v) k)) v k) k .booked
+  unfolding held voted withVault
+  held-booked v k = arrives (voted (withVault l v (holding (vaultAt l v) k)) Acknowledgements v k) k .booked
 
   receives : (v k signers : ℕ) → Entered l journal v k false → thresholdOf (l .settings) ≤ ones (signersOf l k) → (b : Bool) → jobHas (vaultAt l v .held) k ≡ b
       → Moves (commit v k signers)
@@ -206,39 +247,33 @@ module _ (w : World) (sh : Shape (w .ledger) (w .booked)) (size : ℕ) (beyond :
       (holds v k signers (correct v k h) (h .known .below) q)
 
   change-commit : (v k signers : ℕ) → Moves (commit v k signers) (carried l (commitDecision l journal v k signers) v k)
-  unfolding commitDecision committing receiving
+  unfolding commitDecision committing receiving votesIn
   change-commit v k signers =
       behind (commit v k signers) (vaultGate l journal v k false) _ v k
       (λ g. behind (commit v k signers) (certificate (l .settings) (signersOf l k) signers) _ v k
       (λ c. receives v k signers (entered l journal v k false g) (quorum k signers c) (jobHas (vaultAt l v .held) k) refl))
 
   -- ---- faulty vaults
-  change-sign : (v k : ℕ) → Moves (faultySign v k) (carried l (faultySignDecision l journal v k) v k)
-  unfolding faultySignDecision applied countersigned
-  change-sign v k =
-      behind (faultySign v k) (vaultGate l journal v k true) _ v k
+  change-vote : (c : Column) (v k : ℕ) → Moves (faultyVote c v k) (carried l (faultyVoteDecision l journal c v k) v k)
+  unfolding faultyVoteDecision applied voted
+  change-vote c v k =
+      behind (faultyVote c v k) (vaultGate l journal v k true) _ v k
       (λ g. let h = entered l journal v k true g in
-      moves (faultySign v k) (carried l (voting (signersOf l k) v RecordSignature) v k) refl (countersigns v k (h .vault) (h .role) (h .known .below)))
-
-  change-acknowledge : (v k : ℕ) → Moves (faultyAcknowledge v k) (carried l (faultyAcknowledgeDecision l journal v k) v k)
-  unfolding faultyAcknowledgeDecision applied acknowledged
-  change-acknowledge v k =
-      behind (faultyAcknowledge v k) (vaultGate l journal v k true) _ v k
-      (λ g. let h = entered l journal v k true g in
-      moves (faultyAcknowledge v k) (carried l (voting (acknowledgersOf l k) v RecordAcknowledgement) v k) refl (acknowledges v k (h .vault) (h .role) (h .known .below)))
+      moves (faultyVote c v k) (carried l (voting (votesIn l c k) v (Record c)) v k) refl (votes c v k (h .vault) (h .role) (h .known .below)))
 
   -- ---- steps that only read
   change-show : (k : ℕ) → Moves (show k) (carried l (showDecision l journal k) 0 k)
   unfolding showDecision
-  change-show k = behind (show k) (bookedGate l journal k) _ 0 k (λ g. answers (show k) (statusOf (l .settings) (signersOf l k) (acknowledgersOf l k)) 0 k tt)
+  change-show k = behind (show k) (bookedGate l journal k) _ 0 k (λ g. answers (show k) (statusOf (l .settings) (votesAt l k)) 0 k tt)
 
   change-generations : (k : ℕ) → Moves (generations k) (carried l (generationsDecision l journal k) 0 k)
   unfolding generationsDecision ageing
-  change-generations k = behind (generations k) (bookedGate l journal k) _ 0 k (λ g. by (isHeld (l .settings) (l .vaults) k) _)
-    where
-      by : (b : Bool) (age : ℕ) → Moves (generations k) (carried l (cond b (answering age) (refusing NotHeld)) 0 k)
-      by true age = answers (generations k) age 0 k tt
-      by false age = refuses (generations k) NotHeld 0 k
+  change-generations k =
+      let age = ageIn (jobAt journal (l .booked)) (l .order) (l .arrivals) k in
+      behind (generations k) (bookedGate l journal k) _ 0 k
+      (λ g. by-cases (λ b. Moves (generations k) (carried l (cond b (answering age) (refusing NotHeld)) 0 k)) (isHeld (l .settings) (l .vaults) k)
+      (λ e. answers (generations k) age 0 k tt)
+      (λ e. refuses (generations k) NotHeld 0 k))
 
   -- ---- propose
   -- a record inside the journal is a booked one
@@ -277,8 +312,7 @@ module _ (w : World) (sh : Shape (w .ledger) (w .booked)) (size : ℕ) (beyond :
   change (propose bytes) = change-propose bytes (proposeDecision l journal bytes) (proposed l journal bytes)
   change (preflight v k) = change-preflight v k
   change (commit v k signers) = change-commit v k signers
-  change (faultySign v k) = change-sign v k
-  change (faultyAcknowledge v k) = change-acknowledge v k
+  change (faultyVote c v k) = change-vote c v k
   change (show k) = change-show k
   change (generations k) = change-generations k
 

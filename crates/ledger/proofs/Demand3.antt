@@ -17,18 +17,21 @@ use Rattle.sets.proofs.Jobs.{has-no-jobs}
 use Rattle.sets.specs.Bits.{hasBit}
 use Rattle.sets.specs.Jobs.{jobHas, noJobs}
 use Rattle.sets.specs.declared.job_set.JobSet.{JobSet}
-use Rattle.ledger.proofs.Changes.{Change, acknowledges, appends, changes, countersigns, holds, idle, nothing, shape-sane, signs}
+use Rattle.ledger.proofs.Changes.{Change, appends, changes, holds, idle, nothing, shape-sane, signs, votes}
 use Rattle.ledger.proofs.Effects.{hold-settings}
 use Rattle.ledger.proofs.Gates.{reflect-sane}
 use Rattle.ledger.proofs.Invariant.{Inv, held-by, is-recorded, keep}
 use Rattle.ledger.proofs.Refusals.{never-one}
 use Rattle.ledger.proofs.Safety.{certified-apart, meeting}
-use Rattle.ledger.proofs.Views.{ackedAt, heldAt, recordedAt, signedAt}
+use Rattle.ledger.proofs.Views.{heldAt, signedAt, votedAt}
 use Rattle.ledger.specs.Demand3.{Apart, Demand3, Disjoint, Held, Holds, RefusedUnchanged, accessionedAlong, madeAlong, recordsIn, standingAlong}
 use Rattle.federation.specs.Federation.{Lawful, thresholdOf}
 use Rattle.ledger.specs.Register.{Register, feed, feedAll, isDone, log, newRegister, tabled}
-use Rattle.ledger.specs.State.{acknowledged, acknowledgersOf, booking, countersigned, newLedger, signersOf, vaultAt, withVault}
+use Rattle.ledger.specs.State.{acknowledgersOf, booking, newLedger, signersOf, vaultAt, voted, votesIn, withVault}
 use Rattle.ledger.specs.Vaults.{newVault}
+use Rattle.ledger.specs.Votes.{columnOf, noVotes}
+use Rattle.ledger.specs.declared.Column.{Column}
+use Rattle.ledger.specs.declared.Column.the-variants.{Acknowledgements, Signatures}
 use Rattle.federation.specs.declared.Settings.{Settings}
 use Rattle.ledger.specs.Worlds.{Event, Request, World, after, afterAll, lent, outcomes, replyTo, start}
 use Rattle.ledger.specs.declared.Ledger.{Ledger}
@@ -43,13 +46,12 @@ along (e ∷ es) w r i = along es (after w e) (feed r (e .request) (isDone (repl
 
 -- ---- what a change leaves alone
 same-settings : (w : World) (q : Request) (done : Bool) (w′ : World) → Change w q done w′ → w′ .ledger .settings ≡ w .ledger .settings
-unfolding booking countersigned acknowledged withVault
+unfolding booking voted withVault
 same-settings w q done w′ (nothing p) = refl
 same-settings w q done w′ (idle p m) = refl
 same-settings w q done w′ (appends bytes e h n) = refl
 same-settings w q done w′ (signs v k c h u) = refl
-same-settings w q done w′ (countersigns v k h f b) = refl
-same-settings w q done w′ (acknowledges v k h f b) = refl
+same-settings w q done w′ (votes d v k h f b) = refl
 same-settings w q done w′ (holds v k signers c h e) = hold-settings (w .ledger) v k
 
 settings-along : (es : List Event) (w : World) (r : Register) → Inv w r → afterAll w es .ledger .settings ≡ w .ledger .settings
@@ -64,8 +66,7 @@ same-world w q done w′ (nothing p) f = refl
 same-world w q done w′ (idle p m) f = refl
 same-world w q done w′ (appends bytes e h n) f = absurd (true≢false f)
 same-world w q done w′ (signs v k c h u) f = absurd (true≢false f)
-same-world w q done w′ (countersigns v k h p b) f = absurd (true≢false f)
-same-world w q done w′ (acknowledges v k h p b) f = absurd (true≢false f)
+same-world w q done w′ (votes d v k h p b) f = absurd (true≢false f)
 same-world w q done w′ (holds v k signers c h e) f = absurd (true≢false f)
 
 -- ---- at first nothing is held, signed, recorded or acknowledged
@@ -82,40 +83,46 @@ module _ (n b faulty : ℕ) where
   unfolding newLedger noJobs
   no-jobs f e v k t = true≢false (sym t ∙ (ap (λ (x : Vault). jobHas (f x) k) (filled 16 v newVault) ∙ (ap (λ (s : JobSet). jobHas s k) e ∙ has-no-jobs k)))
 
-  no-vaults : (v k : ℕ) → hasBit (getD (replicate 128 0) k 0) v ≡ true → ⊥
-  no-vaults v k t = true≢false (sym t ∙ (ap (λ (s : ℕ). hasBit s v) (filled 128 k 0) ∙ has-none v))
+  no-votes : (c : Column) → columnOf c noVotes ≡ 0
+  no-votes Signatures = refl
+  no-votes Acknowledgements = refl
 
-  none-below : (k : ℕ) → getD (replicate 128 0) k 0 < 2 ^ n
-  none-below k = rw (filled {A = ℕ} 128 k 0) (pow-pos n)
+  none-in : (c : Column) (k : ℕ) → votesIn empty c k ≡ 0
+  unfolding newLedger votesIn
+  none-in c k = ap (columnOf c) (filled 128 k noVotes) ∙ no-votes c
+
+  no-vaults : (c : Column) (v k : ℕ) → hasBit (votesIn empty c k) v ≡ true → ⊥
+  no-vaults c v k t = true≢false (sym t ∙ (ap (λ (s : ℕ). hasBit s v) (none-in c k) ∙ has-none v))
+
+  none-below : (c : Column) (k : ℕ) → votesIn empty c k < 2 ^ n
+  none-below c k = rw (none-in c k) (pow-pos n)
 
   settings-first : start n b faulty .ledger .settings ≡ record { n = n; b = b; faulty = faulty }
   unfolding start newLedger
   settings-first = refl
 
   pub first : Lawful (record { n = n; b = b; faulty = faulty }) → Inv (start n b faulty) newRegister
-  unfolding start newLedger heldAt signedAt recordedAt ackedAt signersOf acknowledgersOf noJobs recordsIn
+  unfolding start newLedger heldAt signedAt votedAt noJobs recordsIn
   first lawful = record {
     shape = record {
       lawful = lawful;
       vaults = refl;
-      signatures = refl;
-      acknowledgements = refl;
+      votes = refl;
       order = refl;
       arrivals = omega arith;
       records = refl;
       room = omega arith;
-      signers-below = none-below;
-      acknowledgers-below = none-below;
+      votes-below = none-below;
     };
     safe = record {
       booked-held = λ v k t. absurd (no-jobs (λ x. x .held) refl v k t);
-      booked-recorded = λ v k t. absurd (no-vaults v k t);
+      booked-recorded = λ v k t. absurd (no-vaults Signatures v k t);
       backed = λ v k t. absurd (no-jobs (λ x. x .signed) refl v k t);
-      backs = λ v k c t. absurd (no-vaults v k t);
+      backs = λ v k c t. absurd (no-vaults Signatures v k t);
       apart = λ v i k t u ne. absurd (no-jobs (λ x. x .signed) refl v i t);
-      rooted = λ v k c t x m. absurd (no-vaults v k t);
+      rooted = λ v k c t x m. absurd (no-vaults Signatures v k t);
       certified = λ v k t. absurd (no-jobs (λ x. x .held) refl v k t);
-      honest = λ v k c t. absurd (no-vaults v k t);
+      honest = λ v k c t. absurd (no-vaults Acknowledgements v k t);
     };
     fit = λ x m. absurd m;
     books = record {
@@ -145,9 +152,10 @@ module _ (n b faulty : ℕ) where
 module _ {w : World} {r : Register} (i : Inv w r) where
   -- a quorum of acknowledgements has a correct vault in it, which holds the job; so the job is certified
   finished-certified : (k : ℕ) → thresholdOf (w .ledger .settings) ≤ ones (acknowledgersOf (w .ledger) k) → thresholdOf (w .ledger .settings) ≤ ones (signersOf (w .ledger) k)
-  unfolding ackedAt
+  unfolding votedAt
   finished-certified k a =
-      let m = meeting (i .shape .lawful) (acknowledgersOf (w .ledger) k) (acknowledgersOf (w .ledger) k) (i .shape .acknowledgers-below k) (i .shape .acknowledgers-below k) a a in
+      let below = i .shape .votes-below Acknowledgements k in
+      let m = meeting (i .shape .lawful) (acknowledgersOf (w .ledger) k) (acknowledgersOf (w .ledger) k) below below a a in
       i .safe .certified (m .vault) k (i .safe .honest (m .vault) k (m .correct) (m .first))
 
   quorum : (k : ℕ) → Held (w .ledger) k → thresholdOf (w .ledger .settings) ≤ ones (signersOf (w .ledger) k)
@@ -204,4 +212,4 @@ disjoint n b faulty lawful es k m hk hm ne =
     let w = afterAll (start n b faulty) es in
     let r = feedAll newRegister (log (start n b faulty) es) in
     subst (λ (t : List (List ℕ)). Apart (tabled t k) (tabled t m)) (i .table)
-    (certified-apart (i .safe) (i .shape .lawful) (i .shape .signers-below) (is-recorded i) k m (quorum i k hk) (quorum i m hm) ne)
+    (certified-apart (i .safe) (i .shape .lawful) (i .shape .votes-below Signatures) (is-recorded i) k m (quorum i k hk) (quorum i m hm) ne)

@@ -1,5 +1,4 @@
--- What each effect does to the relations and to the shape: a signature, an acknowledgement or a held job is one more pair, and the rest
--- is as it was.
+-- What each effect does to the relations and to the shape: a vote or a held job is one more pair, and the rest is as it was.
 use mathlib.Core.Bool.{Bool, false, true}
 use mathlib.Core.List.{List, [], _++_, _∷_}
 use mathlib.Core.Path.{_∙_, _≡_, ap, refl, subst, sym}
@@ -9,17 +8,41 @@ use lib.Count.{ones}
 use lib.ListN.{getD, length, length-append, length-set, set}
 use Rattle.codec.proofs.Numbers.{room}
 use Rattle.codec.specs.Codec.{recordSize}
-use Rattle.sets.specs.Bits.{hasBit, withMember}
+use Rattle.sets.specs.Bits.{hasBit}
 use Rattle.sets.specs.Jobs.{jobHas}
 use Rattle.ledger.proofs.Changes.{Shape, held, signedBy}
-use Rattle.ledger.proofs.Views.{Arrives, Grown, ackedAt, arrive-again, arrive-first, arrives, column-below, column-grown, column-ones, grown-row, heldAt, kept-row, plus-job, recordedAt, signedAt}
+use Rattle.ledger.proofs.Views.{
+  Added,
+  Arrives,
+  Grown,
+  ackedAt,
+  arrive-again,
+  arrive-first,
+  arrives,
+  grown-row,
+  heldAt,
+  kept-row,
+  plus-job,
+  recordedAt,
+  signedAt,
+  voted-added,
+  voted-below,
+  voted-grown,
+  voted-ones,
+  voted-other,
+  votedAt,
+}
 use Rattle.federation.specs.Federation.{Lawful}
 use Rattle.generations.specs.Generations.{isAt}
-use Rattle.ledger.specs.State.{acknowledged, arrived, booking, countersigned, hasArrived, acknowledgersOf, signersOf, vaultAt, withVault}
+use Rattle.ledger.specs.State.{arrived, arriving, booking, hasArrived, signersOf, vaultAt, voted, votesIn, withVault}
 use Rattle.ledger.specs.Vaults.{holding, newVault, signing}
+use Rattle.ledger.specs.Votes.{columnOf, noVotes}
+use Rattle.ledger.specs.declared.Column.{Column}
+use Rattle.ledger.specs.declared.Column.the-variants.{Acknowledgements, Signatures}
 use Rattle.ledger.specs.declared.Ledger.{Ledger}
 use Rattle.federation.specs.declared.Settings.{Settings}
 use Rattle.ledger.specs.declared.Vault.{Vault}
+use Rattle.ledger.specs.declared.Votes.{Votes}
 
 -- ---- a vault signs
 module _ (l : Ledger) (v k : ℕ) where
@@ -27,84 +50,55 @@ module _ (l : Ledger) (v k : ℕ) where
   signer = signing (vaultAt l v) k
 
   pub sign-held : heldAt (signedBy l v k) ≡ heldAt l
-  unfolding heldAt countersigned withVault signing
+  unfolding heldAt voted withVault signing
   sign-held = λ i u m. kept-row (λ (s : Vault). jobHas (s .held)) newVault (l .vaults) v signer (λ n. refl) u m i
 
   pub sign-signed : v < length (l .vaults) → k < 128 → Grown (signedAt l) (signedAt (signedBy l v k)) v k
-  unfolding signedAt countersigned withVault signing
+  unfolding signedAt voted withVault signing
   sign-signed hv hk = grown-row (λ (s : Vault). jobHas (s .signed)) newVault (l .vaults) v signer k hv (plus-job (vaultAt l v .signed) k hk)
 
-  pub sign-recorded : k < length (l .signatures) → v < 16 → Grown (λ m u. recordedAt l u m) (λ m u. recordedAt (signedBy l v k) u m) k v
-  unfolding recordedAt signersOf countersigned withVault
-  sign-recorded hk hv = column-grown (l .signatures) k v hk hv
+  pub sign-recorded : k < length (l .votes) → v < 16 → Grown (λ m u. recordedAt l u m) (λ m u. recordedAt (signedBy l v k) u m) k v
+  unfolding votedAt votesIn withVault
+  sign-recorded hk hv = voted-grown (withVault l v signer) Signatures v k hk hv
+
+  pub sign-acked : ackedAt (signedBy l v k) ≡ ackedAt l
+  unfolding votedAt votesIn withVault
+  sign-acked = ap {B = ℕ → ℕ → Bool} (λ f u m. hasBit (f m) u) (voted-other (withVault l v signer) Signatures v k)
+
+  pub sign-votes : v < 16 → (d : Column) → Added (λ m u. votedAt l d u m) (λ m u. votedAt (signedBy l v k) d u m) k v
+  unfolding votedAt votesIn withVault
+  sign-votes hv d = voted-added (withVault l v signer) Signatures v k hv d
 
   pub sign-ones : (m : ℕ) → ones (signersOf l m) ≤ ones (signersOf (signedBy l v k) m)
-  unfolding signersOf countersigned withVault
-  sign-ones m = column-ones (l .signatures) k v m
-
-  pub sign-below : (n : ℕ) → v < n → n ≤ 16 → ((m : ℕ) → signersOf l m < 2 ^ n) → (m : ℕ) → signersOf (signedBy l v k) m < 2 ^ n
-  unfolding signersOf countersigned withVault
-  sign-below n hv hn h m = column-below (l .signatures) k v n hv hn h m
-
-  -- ---- a faulty vault's signature or acknowledgement is recorded
-  pub counter-recorded : k < length (l .signatures) → v < 16 → Grown (λ m u. recordedAt l u m) (λ m u. recordedAt (countersigned l v k) u m) k v
-  unfolding recordedAt signersOf countersigned
-  counter-recorded hk hv = column-grown (l .signatures) k v hk hv
-
-  pub counter-ones : (m : ℕ) → ones (signersOf l m) ≤ ones (signersOf (countersigned l v k) m)
-  unfolding signersOf countersigned
-  counter-ones m = column-ones (l .signatures) k v m
-
-  pub counter-below : (n : ℕ) → v < n → n ≤ 16 → ((m : ℕ) → signersOf l m < 2 ^ n) → (m : ℕ) → signersOf (countersigned l v k) m < 2 ^ n
-  unfolding signersOf countersigned
-  counter-below n hv hn h m = column-below (l .signatures) k v n hv hn h m
-
-  pub ack-acked : k < length (l .acknowledgements) → v < 16 → Grown (λ m u. ackedAt l u m) (λ m u. ackedAt (acknowledged l v k) u m) k v
-  unfolding ackedAt acknowledgersOf acknowledged
-  ack-acked hk hv = column-grown (l .acknowledgements) k v hk hv
-
-  pub ack-below : (n : ℕ) → v < n → n ≤ 16 → ((m : ℕ) → acknowledgersOf l m < 2 ^ n) → (m : ℕ) → acknowledgersOf (acknowledged l v k) m < 2 ^ n
-  unfolding acknowledgersOf acknowledged
-  ack-below n hv hn h m = column-below (l .acknowledgements) k v n hv hn h m
+  unfolding votesIn withVault
+  sign-ones m = voted-ones (withVault l v signer) Signatures v k Signatures m
 
   -- ---- a vault holds, and the job arrives
   abbrev holder : Vault
   holder = holding (vaultAt l v) k
 
   abbrev pub kept : Ledger
-  kept = acknowledged (withVault l v holder) v k
+  kept = voted (withVault l v holder) Acknowledgements v k
 
-  pub hold-arrives : Arrives kept k (held l v k)
+  hold-arrives : Arrives kept k (held l v k)
   unfolding held
   hold-arrives = arrives kept k
 
   kept-vaults : held l v k .vaults ≡ set (l .vaults) v holder
-  unfolding acknowledged withVault
+  unfolding voted withVault
   kept-vaults = hold-arrives .vaults
 
-  kept-acknowledgers : held l v k .acknowledgements ≡ set (l .acknowledgements) k (withMember 16 (getD (l .acknowledgements) k 0) v)
-  unfolding acknowledged withVault acknowledgersOf
-  kept-acknowledgers = hold-arrives .acknowledgements
-
-  kept-signatures : held l v k .signatures ≡ l .signatures
-  unfolding acknowledged withVault
-  kept-signatures = hold-arrives .signatures
+  kept-votes : votesIn (held l v k) ≡ votesIn kept
+  unfolding votesIn
+  kept-votes = ap {B = Column → ℕ → ℕ} (λ (xs : List Votes) c m. columnOf c (getD xs m noVotes)) (hold-arrives .votes)
 
   pub hold-settings : held l v k .settings ≡ l .settings
-  unfolding acknowledged withVault
+  unfolding voted withVault
   hold-settings = hold-arrives .settings
 
   pub hold-booked : held l v k .booked ≡ l .booked
-  unfolding acknowledged withVault
+  unfolding voted withVault
   hold-booked = hold-arrives .booked
-
-  hold-order : length (held l v k .order) ≡ length (l .order)
-  unfolding acknowledged withVault
-  hold-order = hold-arrives .order
-
-  hold-arrivals : l .arrivals ≤ 128 → held l v k .arrivals ≤ 128
-  unfolding acknowledged withVault
-  hold-arrivals = hold-arrives .arrivals
 
   pub hold-held : v < length (l .vaults) → k < 128 → Grown (heldAt l) (heldAt (held l v k)) v k
   unfolding heldAt holding
@@ -118,111 +112,102 @@ module _ (l : Ledger) (v k : ℕ) where
       ap {B = ℕ → ℕ → Bool} (λ vs u m. jobHas (getD vs u newVault .signed) m) kept-vaults
       ∙ (λ i u m. kept-row (λ (s : Vault). jobHas (s .signed)) newVault (l .vaults) v holder (λ n. refl) u m i)
 
-  pub hold-recorded : recordedAt (held l v k) ≡ recordedAt l
-  unfolding recordedAt signersOf
-  hold-recorded = ap {B = ℕ → ℕ → Bool} (λ xs u m. hasBit (getD xs m 0) u) kept-signatures
-
   pub hold-signers : signersOf (held l v k) ≡ signersOf l
-  unfolding signersOf
-  hold-signers = ap {B = ℕ → ℕ} (λ xs m. getD xs m 0) kept-signatures
+  unfolding votesIn withVault
+  hold-signers = ap {B = ℕ → ℕ} (λ f. f Signatures) kept-votes ∙ voted-other (withVault l v holder) Acknowledgements v k
 
-  pub hold-acked : k < length (l .acknowledgements) → v < 16 → Grown (λ m u. ackedAt l u m) (λ m u. ackedAt (held l v k) u m) k v
-  unfolding ackedAt acknowledgersOf
+  pub hold-recorded : recordedAt (held l v k) ≡ recordedAt l
+  unfolding votedAt
+  hold-recorded = ap {B = ℕ → ℕ → Bool} (λ f u m. hasBit (f m) u) hold-signers
+
+  pub hold-acked : k < length (l .votes) → v < 16 → Grown (λ m u. ackedAt l u m) (λ m u. ackedAt (held l v k) u m) k v
+  unfolding votedAt votesIn withVault
   hold-acked hk hv =
-      subst (λ (xs : List ℕ). Grown (λ m. hasBit (getD (l .acknowledgements) m 0)) (λ m. hasBit (getD xs m 0)) k v) (sym kept-acknowledgers)
-      (column-grown (l .acknowledgements) k v hk hv)
+      subst (λ (f : Column → ℕ → ℕ). Grown (λ m u. ackedAt l u m) (λ m u. hasBit (f Acknowledgements m) u) k v) (sym kept-votes)
+      (voted-grown (withVault l v holder) Acknowledgements v k hk hv)
 
-  pub hold-below : (n : ℕ) → v < n → n ≤ 16 → ((m : ℕ) → acknowledgersOf l m < 2 ^ n) → (m : ℕ) → acknowledgersOf (held l v k) m < 2 ^ n
-  unfolding acknowledgersOf
-  hold-below n hv hn h m = subst (λ (xs : List ℕ). getD xs m 0 < 2 ^ n) (sym kept-acknowledgers) (column-below (l .acknowledgements) k v n hv hn h m)
+  pub hold-votes : v < 16 → (d : Column) → Added (λ m u. votedAt l d u m) (λ m u. votedAt (held l v k) d u m) k v
+  unfolding votedAt votesIn withVault
+  hold-votes hv d =
+      subst (λ (f : Column → ℕ → ℕ). Added (λ m u. votedAt l d u m) (λ m u. hasBit (f d m) u) k v) (sym kept-votes)
+      (voted-added (withVault l v holder) Acknowledgements v k hv d)
 
   -- the order grows where the job had not arrived
   pub hold-again : hasArrived (l .order) (l .arrivals) k ≡ true → arrived (held l v k) ≡ arrived l
-  unfolding held acknowledged withVault hasArrived isAt
+  unfolding held voted withVault hasArrived isAt
   hold-again e = ap arrived (arrive-again kept k e)
 
-  pub hold-first : hasArrived (l .order) (l .arrivals) k ≡ false → l .arrivals < 128 → l .arrivals < length (l .order) → arrived (held l v k) ≡ arrived l ++ (k ∷ [])
-  unfolding held acknowledged withVault hasArrived isAt
+  pub hold-first : hasArrived (l .order) (l .arrivals) k ≡ false → l .arrivals < 128 → l .arrivals < length (l .order)
+      → arrived (held l v k) ≡ arrived l ++ (k ∷ [])
+  unfolding held voted withVault hasArrived isAt
   hold-first e h h′ = arrive-first kept k e h h′
 
--- ---- the shape stays
-module _ {l : Ledger} {bs : List ℕ} (v k : ℕ) (s : Shape l bs) (hv : v < l .settings .n) where
-  pub shape-sign : Shape (signedBy l v k) bs
-  unfolding countersigned withVault acknowledgersOf
-  shape-sign = record {
+-- ---- the shape stays, whatever part of the ledger changes
+module _ {l : Ledger} {bs : List ℕ} (s : Shape l bs) where
+  shape-vault : (v : ℕ) (state : Vault) → Shape (withVault l v state) bs
+  unfolding withVault votesIn
+  shape-vault v state = record {
     lawful = s .lawful;
     vaults = length-set (l .vaults) v _ ∙ s .vaults;
-    signatures = length-set (l .signatures) k _ ∙ s .signatures;
-    acknowledgements = s .acknowledgements;
+    votes = s .votes;
     order = s .order;
     arrivals = s .arrivals;
     records = s .records;
     room = s .room;
-    signers-below = sign-below l v k (l .settings .n) hv (s .lawful .vaults) (s .signers-below);
-    acknowledgers-below = s .acknowledgers-below;
+    votes-below = s .votes-below;
   }
 
-  pub shape-countersign : Shape (countersigned l v k) bs
-  unfolding countersigned acknowledgersOf
-  shape-countersign = record {
+  pub shape-vote : (c : Column) (v k : ℕ) → v < l .settings .n → Shape (voted l c v k) bs
+  unfolding voted
+  shape-vote c v k hv = record {
     lawful = s .lawful;
     vaults = s .vaults;
-    signatures = length-set (l .signatures) k _ ∙ s .signatures;
-    acknowledgements = s .acknowledgements;
+    votes = length-set (l .votes) k _ ∙ s .votes;
     order = s .order;
     arrivals = s .arrivals;
     records = s .records;
     room = s .room;
-    signers-below = counter-below l v k (l .settings .n) hv (s .lawful .vaults) (s .signers-below);
-    acknowledgers-below = s .acknowledgers-below;
+    votes-below = voted-below l c v k (l .settings .n) hv (s .lawful .vaults) (s .votes-below);
   }
 
-  pub shape-acknowledge : Shape (acknowledged l v k) bs
-  unfolding acknowledged signersOf
-  shape-acknowledge = record {
-    lawful = s .lawful;
-    vaults = s .vaults;
-    signatures = s .signatures;
-    acknowledgements = length-set (l .acknowledgements) k _ ∙ s .acknowledgements;
-    order = s .order;
-    arrivals = s .arrivals;
-    records = s .records;
-    room = s .room;
-    signers-below = s .signers-below;
-    acknowledgers-below = ack-below l v k (l .settings .n) hv (s .lawful .vaults) (s .acknowledgers-below);
-  }
-
-  pub shape-hold : Shape (held l v k) bs
-  shape-hold =
-      let n = l .settings .n in
-      let e : held l v k .settings .n ≡ n = ap (λ (st : Settings). st .n) (hold-settings l v k) in
+  shape-arrive : (k : ℕ) → Shape (arriving l k) bs
+  unfolding votesIn
+  shape-arrive k =
+      let a = arrives l k in
       record {
-        lawful = subst Lawful (sym (hold-settings l v k)) (s .lawful);
-        vaults = ap length (kept-vaults l v k) ∙ length-set (l .vaults) v _ ∙ s .vaults;
-        signatures = ap length (kept-signatures l v k) ∙ s .signatures;
-        acknowledgements = ap length (kept-acknowledgers l v k) ∙ length-set (l .acknowledgements) k _ ∙ s .acknowledgements;
-        order = hold-order l v k ∙ s .order;
-        arrivals = hold-arrivals l v k (s .arrivals);
-        records = s .records ∙ ap (λ (m : ℕ). recordSize * m) (sym (hold-booked l v k));
-        room = rw (hold-booked l v k) (s .room);
-        signers-below = λ m.
-            subst (λ (f : ℕ → ℕ). f m < 2 ^ held l v k .settings .n) (sym (hold-signers l v k))
-            (subst (λ (x : ℕ). signersOf l m < 2 ^ x) (sym e) (s .signers-below m));
-        acknowledgers-below = λ m.
-            subst (λ (x : ℕ). acknowledgersOf (held l v k) m < 2 ^ x) (sym e) (hold-below l v k n hv (s .lawful .vaults) (s .acknowledgers-below) m);
+        lawful = subst Lawful (sym (a .settings)) (s .lawful);
+        vaults = ap length (a .vaults) ∙ s .vaults;
+        votes = ap length (a .votes) ∙ s .votes;
+        order = a .order ∙ s .order;
+        arrivals = a .arrivals (s .arrivals);
+        records = s .records ∙ ap (λ (m : ℕ). recordSize * m) (sym (a .booked));
+        room = rw (a .booked) (s .room);
+        votes-below = λ c m.
+            subst (λ (st : Settings). columnOf c (getD (arriving l k .votes) m noVotes) < 2 ^ st .n) (sym (a .settings))
+            (subst (λ (xs : List Votes). columnOf c (getD xs m noVotes) < 2 ^ l .settings .n) (sym (a .votes)) (s .votes-below c m));
       }
 
-pub shape-book : {l : Ledger} {bs : List ℕ} (bytes : List ℕ) → Shape l bs → l .booked < 128 → length bytes ≡ recordSize → Shape (booking l) (bs ++ bytes)
-unfolding booking signersOf acknowledgersOf
-shape-book {l} {bs} bytes s h e = record {
-  lawful = s .lawful;
-  vaults = s .vaults;
-  signatures = s .signatures;
-  acknowledgements = s .acknowledgements;
-  order = s .order;
-  arrivals = s .arrivals;
-  records = omega (arith, length-append bs bytes, s .records);
-  room = omega arith;
-  signers-below = s .signers-below;
-  acknowledgers-below = s .acknowledgers-below;
-}
+  pub shape-book : (bytes : List ℕ) → l .booked < 128 → length bytes ≡ recordSize → Shape (booking l) (bs ++ bytes)
+  unfolding booking votesIn
+  shape-book bytes h e = record {
+    lawful = s .lawful;
+    vaults = s .vaults;
+    votes = s .votes;
+    order = s .order;
+    arrivals = s .arrivals;
+    records = omega (arith, length-append bs bytes, s .records);
+    room = omega arith;
+    votes-below = s .votes-below;
+  }
+
+module _ {l : Ledger} {bs : List ℕ} (s : Shape l bs) (v k : ℕ) (hv : v < l .settings .n) where
+  still-vault : (state : Vault) → v < withVault l v state .settings .n
+  unfolding withVault
+  still-vault state = hv
+
+  pub shape-sign : Shape (signedBy l v k) bs
+  shape-sign = shape-vote (shape-vault s v (signing (vaultAt l v) k)) Signatures v k (still-vault _)
+
+  pub shape-hold : Shape (held l v k) bs
+  unfolding held
+  shape-hold = shape-arrive (shape-vote (shape-vault s v (holding (vaultAt l v) k)) Acknowledgements v k (still-vault _)) k

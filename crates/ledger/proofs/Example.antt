@@ -10,7 +10,21 @@ use Rattle.base.specs.Lists.{sameList}
 use Rattle.base.specs.Search.{allBelow, anyBelow, firstBelow, sumFrom}
 use Rattle.outcome.specs.declared.Outcome.the-variants.{Done, Refused}
 use Rattle.outcome.specs.declared.Refusal.the-variants.{NotCreated, NotSigned, TooFewSigners}
-use Rattle.checks.specs.Checks.{balanced, checkOf, countsFormed, entryFormed, examined, hasLabelOf, inputsFormed, isBlank, isFilled, isWritten, repeatedAt, unsupportedAt, wellFormed}
+use Rattle.checks.specs.Checks.{
+  balanced,
+  checkOf,
+  countsFormed,
+  entryFormed,
+  examined,
+  hasLabelOf,
+  inputsFormed,
+  isBlank,
+  isFilled,
+  isWritten,
+  repeatedAt,
+  unsupportedAt,
+  wellFormed,
+}
 use Rattle.codec.specs.Codec.{entriesAt, entryAt, jobOf, leAt}
 use Rattle.conflicts.specs.Conflicts.{isLabelAt, isTapeAt, labelIn, makesTape}
 use Rattle.record.specs.Drives.{isDrive, supports}
@@ -26,11 +40,24 @@ use Rattle.ledger.specs.Holders.{holdsAt, isHeld}
 use Rattle.journal.specs.Journal.{equalAt, equalIn, hasRoom, insideOf, isBooked, jobAt, putAt, recordAt, slotAt}
 use Rattle.ledger.specs.Register.{entering, feedAll, feedCommit, feedProposal, isAdmissible, log, newRegister, stopped, taking}
 use Rattle.generations.specs.Generations.{isAt}
-use Rattle.ledger.specs.State.{acknowledged, applied, arriving, booking, countersigned, hasArrived, acknowledgersOf, isSane, newLedger, signersOf, withVault}
+use Rattle.ledger.specs.State.{applied, arriving, booking, enqueued, hasArrived, isSane, newLedger, voted, votesIn, withVault}
+use Rattle.ledger.specs.declared.Column.the-variants.{Signatures}
 use Rattle.ledger.specs.Decisions.{ageing, certificate, committing, consent, placing, preflighting, proposal, receiving, settling, statusOf}
-use Rattle.ledger.specs.Steps.{bookedGate, commitDecision, faultyAcknowledgeDecision, faultySignDecision, gateOf, generationsDecision, journalAfter, preflightDecision, proposeDecision, saneGate, showDecision, vaultGate}
+use Rattle.ledger.specs.Steps.{
+  bookedGate,
+  commitDecision,
+  faultyVoteDecision,
+  gateOf,
+  generationsDecision,
+  journalAfter,
+  preflightDecision,
+  proposeDecision,
+  saneGate,
+  showDecision,
+  vaultGate,
+}
 use Rattle.ledger.specs.Vaults.{admissionAt, holding, signing, vaultPreflight}
-use Rattle.ledger.specs.Worlds.{Event, Request, after, commit, faultySign, generations, lend, outcomes, overlay, preflight, propose, show, start}
+use Rattle.ledger.specs.Worlds.{Event, Request, after, commit, faultyVote, generations, lend, outcomes, overlay, preflight, propose, show, start}
 
 -- an unused entry, and the used ones of the two records
 abbrev pub blank : List ℕ
@@ -59,7 +86,7 @@ run =
     ∷ lending (preflight 0 1)
     ∷ lending (preflight 0 0)
     ∷ lending (preflight 1 0)
-    ∷ lending (faultySign 3 0)
+    ∷ lending (faultyVote Signatures 3 0)
     ∷ lending (commit 0 0 3)
     ∷ lending (commit 0 0 11)
     ∷ lending (commit 2 0 15)
@@ -81,5 +108,5 @@ pub whole-run :
       made = 3840498665277964630 ∷ [];
       accessioned = 1000;
     })
-unfolding sameList anyBelow allBelow firstBelow sumFrom hasBit withBit withMember withoutBit subsetOf jobHas jobWith jobWithout inputsFormed countsFormed isFilled isBlank entryFormed wellFormed hasLabelOf repeatedAt isWritten unsupportedAt balanced checkOf examined leAt entryAt entriesAt jobOf isLabelAt labelIn isTapeAt makesTape isDrive supports labelOf framesOf isUsed usedFrames isBetween charAt isAlphanumeric mediumOf isLabel usedFrom sameTape makesAt madeBy listsAt listedBy notCreatedAt consumedAt madeBefore remadeAt admission isLawful thresholdOf highest createdAt creatorOf generationFrom generationsBefore generationAt holdsAt isHeld isAt ageIn slotAt isBooked recordAt jobAt insideOf equalAt equalIn hasRoom putAt isAdmissible taking stopped entering feedProposal feedCommit signersOf acknowledgersOf hasArrived isSane newLedger booking countersigned acknowledged withVault arriving applied bookedGate gateOf saneGate vaultGate placing settling proposal proposeDecision journalAfter consent preflighting preflightDecision certificate receiving committing commitDecision faultySignDecision faultyAcknowledgeDecision statusOf showDecision ageing generationsDecision signing holding admissionAt vaultPreflight lend overlay after start ones onesIn
+unfolding sameList anyBelow allBelow firstBelow sumFrom hasBit withBit withMember withoutBit subsetOf jobHas jobWith jobWithout inputsFormed countsFormed isFilled isBlank entryFormed wellFormed hasLabelOf repeatedAt isWritten unsupportedAt balanced checkOf examined leAt entryAt entriesAt jobOf isLabelAt labelIn isTapeAt makesTape isDrive supports labelOf framesOf isUsed usedFrames isBetween charAt isAlphanumeric mediumOf isLabel usedFrom sameTape makesAt madeBy listsAt listedBy notCreatedAt consumedAt madeBefore remadeAt admission isLawful thresholdOf highest createdAt creatorOf generationFrom generationsBefore generationAt holdsAt isHeld isAt ageIn slotAt isBooked recordAt jobAt insideOf equalAt equalIn hasRoom putAt isAdmissible taking stopped entering feedProposal feedCommit votesIn hasArrived isSane newLedger booking voted withVault enqueued arriving applied bookedGate gateOf saneGate vaultGate placing settling proposal proposeDecision journalAfter consent preflighting preflightDecision certificate receiving committing commitDecision faultyVoteDecision statusOf showDecision ageing generationsDecision signing holding admissionAt vaultPreflight lend overlay after start ones onesIn
 whole-run = (refl, refl)

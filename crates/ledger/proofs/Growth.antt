@@ -1,18 +1,21 @@
 -- What is held, signed, recorded, acknowledged and booked only grows, over any list of steps: each change adds one pair to a relation or
 -- one record to the booked bytes.
-use mathlib.Core.Bool.{Bool}
+use mathlib.Core.Bool.{Bool, true}
 use mathlib.Core.List.{List, [], _++_, _∷_, append-assoc, append-nil}
-use mathlib.Core.Path.{_∙_, ap, refl, sym}
+use mathlib.Core.Path.{_∙_, _≡_, ap, refl, sym}
 use Prim.Native.Nat.{ℕ}
 use native.Mathlib.Omega.{arith}
-use Rattle.ledger.proofs.Changes.{Change, Shape, acknowledges, appends, changes, countersigns, held, holds, idle, nothing, signs}
+use Rattle.ledger.proofs.Changes.{Change, Shape, appends, changes, holds, idle, nothing, signs, votes, withLedger}
 use Rattle.ledger.proofs.Demand3.{kept}
-use Rattle.ledger.proofs.Effects.{ack-acked, counter-recorded, hold-acked, hold-held, hold-recorded, hold-signed, sign-held, sign-recorded, sign-signed}
+use Rattle.ledger.proofs.Effects.{hold-held, hold-signed, hold-votes, sign-held, sign-signed, sign-votes}
 use Rattle.ledger.proofs.Invariant.{Inv}
-use Rattle.ledger.proofs.Views.{ackedAt, heldAt, recordedAt, signedAt}
+use Rattle.ledger.proofs.Views.{heldAt, signedAt, voted-added, votedAt}
 use Rattle.ledger.specs.Growth.{Grows}
 use Rattle.ledger.specs.Register.{Register, feed, isDone}
-use Rattle.ledger.specs.State.{acknowledged, booking, countersigned, acknowledgersOf, signersOf, withVault}
+use Rattle.ledger.specs.State.{booking, voted, votesIn}
+use Rattle.ledger.specs.declared.Column.{Column}
+use Rattle.ledger.specs.declared.Column.the-variants.{Acknowledgements, Signatures}
+use Rattle.ledger.specs.declared.Ledger.{Ledger}
 use Rattle.ledger.specs.Worlds.{Event, Request, World, after, afterAll, replyTo}
 
 grows-same : (w : World) → Grows w w
@@ -35,50 +38,50 @@ grows-on {a} {b} {c} p q = record {
   booked = q .booked ∙ (ap (λ (x : List ℕ). x ++ q .more) (p .booked) ∙ append-assoc (a .booked) (p .more) (q .more));
 }
 
-grow : (w : World) → Shape (w .ledger) (w .booked) → (q : Request) (done : Bool) (w′ : World) → Change w q done w′ → Grows w w′
-unfolding heldAt signedAt recordedAt ackedAt countersigned acknowledged withVault booking signersOf acknowledgersOf
-grow w sh q done w′ (nothing p) = grows-same w
-grow w sh q done w′ (idle p m) = grows-same w
-grow w sh q done w′ (appends bytes e h n) = record {
-  held = λ v k h. h;
-  signed = λ v k h. h;
-  signatures = λ v k h. h;
-  acknowledgements = λ v k h. h;
-  more = bytes;
-  booked = refl;
-}
-grow w sh q done w′ (signs v k c h u) = record {
-  held = λ u m t. ap (λ (f : ℕ → ℕ → Bool). f u m) (sign-held (w .ledger) v k) ∙ t;
-  signed = sign-signed (w .ledger) v k (omega (arith, c .below, sh .vaults, sh .lawful .vaults)) (omega (arith, sh .room)) .old;
-  signatures = λ u m. sign-recorded (w .ledger) v k (omega (arith, sh .room, sh .signatures)) (omega (arith, c .below, sh .lawful .vaults)) .old m u;
-  acknowledgements = λ v k h. h;
+-- a change of the ledger alone, by what it does to the four relations
+grows-ledger : (w : World) (l′ : Ledger)
+    → ((v k : ℕ) → heldAt (w .ledger) v k ≡ true → heldAt l′ v k ≡ true)
+    → ((v k : ℕ) → signedAt (w .ledger) v k ≡ true → signedAt l′ v k ≡ true)
+    → ((c : Column) (k v : ℕ) → votedAt (w .ledger) c v k ≡ true → votedAt l′ c v k ≡ true)
+    → Grows w (withLedger w l′)
+unfolding heldAt signedAt votedAt
+grows-ledger w l′ held signed voted = record {
+  held = held;
+  signed = signed;
+  signatures = λ v k. voted Signatures k v;
+  acknowledgements = λ v k. voted Acknowledgements k v;
   more = [];
   booked = sym (append-nil (w .booked));
 }
-grow w sh q done w′ (countersigns v k h f b) = record {
-  held = λ v k h. h;
-  signed = λ v k h. h;
-  signatures = λ u m. counter-recorded (w .ledger) v k (omega (arith, sh .room, sh .signatures)) (omega (arith, sh .lawful .vaults)) .old m u;
-  acknowledgements = λ v k h. h;
-  more = [];
-  booked = sym (append-nil (w .booked));
-}
-grow w sh q done w′ (acknowledges v k h f b) = record {
-  held = λ v k h. h;
-  signed = λ v k h. h;
-  signatures = λ v k h. h;
-  acknowledgements = λ u m. ack-acked (w .ledger) v k (omega (arith, sh .room, sh .acknowledgements)) (omega (arith, sh .lawful .vaults)) .old m u;
-  more = [];
-  booked = sym (append-nil (w .booked));
-}
-grow w sh q done w′ (holds v k signers c h e) = record {
-  held = hold-held (w .ledger) v k (omega (arith, c .below, sh .vaults, sh .lawful .vaults)) (omega (arith, sh .room)) .old;
-  signed = λ u m t. ap (λ (f : ℕ → ℕ → Bool). f u m) (hold-signed (w .ledger) v k) ∙ t;
-  signatures = λ u m t. ap (λ (f : ℕ → ℕ → Bool). f u m) (hold-recorded (w .ledger) v k) ∙ t;
-  acknowledgements = λ u m. hold-acked (w .ledger) v k (omega (arith, sh .room, sh .acknowledgements)) (omega (arith, c .below, sh .lawful .vaults)) .old m u;
-  more = [];
-  booked = sym (append-nil (w .booked));
-}
+
+module _ (w : World) (sh : Shape (w .ledger) (w .booked)) where
+  abbrev l : Ledger
+  l = w .ledger
+
+  -- an equal relation only grows
+  same : {f g : ℕ → ℕ → Bool} → g ≡ f → (u m : ℕ) → f u m ≡ true → g u m ≡ true
+  same e u m t = ap (λ (f : ℕ → ℕ → Bool). f u m) e ∙ t
+
+  grow : (q : Request) (done : Bool) (w′ : World) → Change w q done w′ → Grows w w′
+  unfolding booking votesIn voted heldAt signedAt
+  grow q done w′ (nothing p) = grows-same w
+  grow q done w′ (idle p m) = grows-same w
+  grow q done w′ (appends bytes e h n) = record {
+    held = λ v k h. h;
+    signed = λ v k h. h;
+    signatures = λ v k h. h;
+    acknowledgements = λ v k h. h;
+    more = bytes;
+    booked = refl;
+  }
+  grow q done w′ (signs v k c h u) =
+      grows-ledger w _ (same (sign-held l v k)) (sign-signed l v k (omega (arith, c .below, sh .vaults, sh .lawful .vaults)) (omega (arith, sh .room)) .old)
+      (λ d. sign-votes l v k (omega (arith, c .below, sh .lawful .vaults)) d .old)
+  grow q done w′ (votes d v k h f b) =
+      grows-ledger w _ (λ u m t. t) (λ u m t. t) (λ e. voted-added l d v k (omega (arith, h, sh .lawful .vaults)) e .old)
+  grow q done w′ (holds v k signers c h e) =
+      grows-ledger w _ (hold-held l v k (omega (arith, c .below, sh .vaults, sh .lawful .vaults)) (omega (arith, sh .room)) .old) (same (hold-signed l v k))
+      (λ d. hold-votes l v k (omega (arith, c .below, sh .lawful .vaults)) d .old)
 
 pub grows : (es : List Event) (w : World) (r : Register) → Inv w r → Grows w (afterAll w es)
 grows [] w r i = grows-same w

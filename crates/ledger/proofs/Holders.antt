@@ -19,6 +19,7 @@ use Rattle.ledger.specs.Holders.{holdsAt, isHeld}
 use Rattle.ledger.specs.Meaning.{Quorum, Status, certified, finished, uncertified}
 use Rattle.ledger.specs.State.{vaultAt}
 use Rattle.ledger.specs.declared.Ledger.{Ledger}
+use Rattle.ledger.specs.declared.Votes.{Votes}
 
 -- ---- check 18
 pub reflect-held : (l : Ledger) (k : ℕ) → Reflects (isHeld (l .settings) (l .vaults) k) (Held l k)
@@ -30,21 +31,24 @@ reflect-held l k =
     (λ h. record { which = h .vault; below = h .by .correct .below; has = (h .by .correct .sound, h .by .held) })
 
 -- ---- kind 6
-module _ (s : Settings) (signers acknowledgers : ℕ) where
-  quorum : (votes : ℕ) → Reflects (leb (thresholdOf s) (ones votes)) (Quorum s votes)
-  quorum votes = reflect-at-least (thresholdOf s) votes
+module _ (s : Settings) (votes : Votes) where
+  finished? : Reflects (leb (thresholdOf s) (ones (votes .acknowledgements))) (Quorum s (votes .acknowledgements))
+  finished? = reflect-at-least (thresholdOf s) (votes .acknowledgements)
 
-  pub status-means : Status s signers acknowledgers (statusOf s signers acknowledgers)
+  certified? : Reflects (leb (thresholdOf s) (ones (votes .signatures))) (Quorum s (votes .signatures))
+  certified? = reflect-at-least (thresholdOf s) (votes .signatures)
+
+  pub status-means : Status s votes (statusOf s votes)
   unfolding statusOf
-  status-means = by _ (quorum acknowledgers) _ (quorum signers)
+  status-means = by _ finished? _ certified?
     where
-      by : (a : Bool) → Reflects a (Quorum s acknowledgers) → (c : Bool) → Reflects c (Quorum s signers) → Status s signers acknowledgers (cond a 2 (cond c 1 0))
+      by : (a : Bool) → Reflects a (Quorum s (votes .acknowledgements)) → (c : Bool) → Reflects c (Quorum s (votes .signatures)) → Status s votes (cond a 2 (cond c 1 0))
       by true p c q = finished (p .sound refl)
       by false p true q = certified (refuted p refl) (q .sound refl)
       by false p false q = uncertified (refuted p refl) (refuted q refl)
 
-  pub means-status : (x : ℕ) → Status s signers acknowledgers x → x ≡ statusOf s signers acknowledgers
+  pub means-status : (x : ℕ) → Status s votes x → x ≡ statusOf s votes
   unfolding statusOf
-  means-status x (finished a) = simp (quorum acknowledgers .complete a)
-  means-status x (certified n c) = simp (refutes (quorum acknowledgers) n, quorum signers .complete c)
-  means-status x (uncertified n m) = simp (refutes (quorum acknowledgers) n, refutes (quorum signers) m)
+  means-status x (finished a) = simp (finished? .complete a)
+  means-status x (certified n c) = simp (refutes finished? n, certified? .complete c)
+  means-status x (uncertified n m) = simp (refutes finished? n, refutes certified? m)

@@ -27,18 +27,39 @@ use Rattle.sets.proofs.Jobs.{job-without-other}
 use Rattle.sets.specs.Bits.{hasBit}
 use Rattle.sets.specs.Jobs.{jobWithout}
 use Rattle.ledger.proofs.Account.{Books, CanTake, books-enter, books-take, reflect-admissible}
-use Rattle.ledger.proofs.Changes.{Change, Idle, Shape, acknowledges, appends, countersigns, held, holds, idle, nothing, signedBy, signs, tableOf, withLedger}
-use Rattle.ledger.proofs.Effects.{ack-acked, counter-ones, counter-recorded, hold-acked, hold-again, hold-booked, hold-first, hold-held, hold-recorded, hold-settings, hold-signed, hold-signers, shape-acknowledge, shape-book, shape-countersign, shape-hold, shape-sign, sign-held, sign-ones, sign-recorded, sign-signed}
+use Rattle.ledger.proofs.Changes.{Change, Idle, Shape, appends, held, holds, idle, nothing, signedBy, signs, tableOf, votes, withLedger}
+use Rattle.ledger.proofs.Effects.{
+  hold-acked,
+  hold-again,
+  hold-booked,
+  hold-first,
+  hold-held,
+  hold-recorded,
+  hold-settings,
+  hold-signed,
+  hold-signers,
+  shape-book,
+  shape-hold,
+  shape-sign,
+  shape-vote,
+  sign-acked,
+  sign-held,
+  sign-ones,
+  sign-recorded,
+  sign-signed,
+}
 use Rattle.ledger.proofs.Lending.{records-length, records-snoc}
 use Rattle.ledger.proofs.Places.{examined-length}
-use Rattle.ledger.proofs.Safety.{Clear, Safe, certified-apart, certified-rooted, safe-acknowledge, safe-book, safe-countersign, safe-hold, safe-sign}
-use Rattle.ledger.proofs.Views.{Grown, ackedAt, heldAt, recordedAt, reflect-arrived, signedAt}
+use Rattle.ledger.proofs.Safety.{Clear, Safe, certified-apart, certified-rooted, safe-book, safe-faulty, safe-hold, safe-sign}
+use Rattle.ledger.proofs.Views.{Grown, ackedAt, heldAt, recordedAt, reflect-arrived, signedAt, voted-added, voted-ones, votedAt}
 use Rattle.ledger.specs.Demand3.{Apart, Correct, Held, recordsIn}
 use Rattle.federation.specs.Federation.{thresholdOf}
 use Rattle.ledger.specs.Graph.{Unblocked}
 use Rattle.ledger.specs.Register.{Register, entering, feed, feedCommit, feedDone, feedProposal, isAdmissible, stopped, tabled, taking}
-use Rattle.ledger.specs.State.{acknowledged, arrived, booking, countersigned, acknowledgersOf, signersOf, vaultAt, withVault}
-use Rattle.ledger.specs.Worlds.{Request, World, commit, faultyAcknowledge, faultySign, generations, preflight, propose, show}
+use Rattle.ledger.specs.State.{arrived, booking, signersOf, vaultAt, voted, votesIn, withVault}
+use Rattle.ledger.specs.Worlds.{Request, World, commit, faultyVote, generations, preflight, propose, show}
+use Rattle.ledger.specs.declared.Column.{Column}
+use Rattle.ledger.specs.declared.Column.the-variants.{Acknowledgements, Signatures}
 use Rattle.ledger.specs.declared.Ledger.{Ledger}
 use Rattle.federation.specs.declared.Settings.{Settings}
 
@@ -105,69 +126,69 @@ module _ {w : World} {r : Register} (i : Inv w r) where
       below : (m : ℕ) → signedAt l v m ≡ true → m < l .booked
       below m s = i .safe .booked-recorded v m (i .safe .backed v m s)
 
+  -- ---- a change of the ledger that books nothing and leaves the order: what is held stays held, and what is held now was taken
+  record Alike (l′ : Ledger) : Type 0 where
+    settings : l′ .settings ≡ l .settings
+    booked : l′ .booked ≡ l .booked
+    order : arrived l′ ≡ arrived l
+    keeps : Keeps l l′
+    taken : (v k : ℕ) → heldAt l′ v k ≡ true → In k (r .taken)
+
+  inv-ledger : (l′ : Ledger) → Alike l′ → Shape l′ (w .booked)
+      → Safe (l′ .settings) (l′ .booked) job (heldAt l′) (signedAt l′) (recordedAt l′) (ackedAt l′) (signersOf l′)
+      → Inv (withLedger w l′) r
+  inv-ledger l′ a shape safe = record {
+    shape = shape;
+    safe = safe;
+    fit = i .fit;
+    books = i .books;
+    running = i .running;
+    table = i .table ∙ ap (λ (n : ℕ). recordsIn n (w .booked)) (sym (a .booked));
+    unique = i .unique;
+    taken = i .taken ∙ sym (a .order);
+    once = i .once;
+    taken-held = λ m x. still l l′ (a .settings) (a .keeps) m (i .taken-held m x);
+    held-taken = a .taken;
+  }
+
   inv-sign : (v k : ℕ) → Correct (l .settings) v → k < l .booked → Clear job (heldAt l) (signedAt l) v k → Inv (withLedger w (signedBy l v k)) r
-  unfolding countersigned withVault ackedAt acknowledgersOf
-  inv-sign v k c hk cl = record {
-    shape = shape-sign v k (i .shape) (c .below);
-    safe = subst (λ (h : ℕ → ℕ → Bool). Safe (l .settings) (l .booked) job h (signedAt (signedBy l v k)) (recordedAt (signedBy l v k)) (ackedAt l) (signersOf (signedBy l v k)))
-        (sym (sign-held l v k))
-        (safe-sign (i .safe) v k hk (sign-signed l v k (in-vaults v (c .below)) (is-job k hk))
-        (sign-recorded l v k (omega (arith, i .shape .signatures, is-job k hk)) (is-vault v (c .below))) (sign-ones l v k) cl);
-    fit = i .fit;
-    books = i .books;
-    running = i .running;
-    table = i .table;
-    unique = i .unique;
-    taken = i .taken;
-    once = i .once;
-    taken-held = λ m x. still l (signedBy l v k) refl (λ u m t. ap (λ (f : ℕ → ℕ → Bool). f u m) (sign-held l v k) ∙ t) m (i .taken-held m x);
-    held-taken = λ u m t. i .held-taken u m (ap (λ (f : ℕ → ℕ → Bool). f u m) (sym (sign-held l v k)) ∙ t);
-  }
+  unfolding voted withVault
+  inv-sign v k c hk cl =
+      inv-ledger next
+      (record { settings = refl; booked = refl; order = refl; keeps = λ u m t. same u m ∙ t; taken = λ u m t. i .held-taken u m (sym (same u m) ∙ t) })
+      (shape-sign (i .shape) v k (c .below))
+      (subst (λ (h : ℕ → ℕ → Bool). Signed h (ackedAt next)) (sym (sign-held l v k))
+      (subst (Signed (heldAt l)) (sym (sign-acked l v k))
+      (safe-sign (i .safe) v k hk (sign-signed l v k (in-vaults v (c .below)) (is-job k hk))
+      (sign-recorded l v k (omega (arith, i .shape .votes, is-job k hk)) (is-vault v (c .below))) (sign-ones l v k) cl)))
+    where
+      next : Ledger
+      next = signedBy l v k
 
-  -- ---- faulty vaults
-  not-correct : (v : ℕ) → hasBit (l .settings .faulty) v ≡ true → Correct (l .settings) v → ⊥
-  not-correct v f c = true≢false (sym f ∙ c .sound)
+      same : (u m : ℕ) → heldAt (signedBy l v k) u m ≡ heldAt l u m
+      same u m = ap (λ (f : ℕ → ℕ → Bool). f u m) (sign-held l v k)
 
-  inv-countersign : (v k : ℕ) → v < l .settings .n → hasBit (l .settings .faulty) v ≡ true → k < l .booked → Inv (withLedger w (countersigned l v k)) r
-  unfolding countersigned heldAt signedAt ackedAt acknowledgersOf
-  inv-countersign v k hv f hk = record {
-    shape = shape-countersign v k (i .shape) hv;
-    safe = safe-countersign (i .safe) v k hk (not-correct v f) (counter-recorded l v k (omega (arith, i .shape .signatures, is-job k hk)) (is-vault v hv)) (counter-ones l v k);
-    fit = i .fit;
-    books = i .books;
-    running = i .running;
-    table = i .table;
-    unique = i .unique;
-    taken = i .taken;
-    once = i .once;
-    taken-held = λ m x. still l (countersigned l v k) refl (λ u m t. t) m (i .taken-held m x);
-    held-taken = i .held-taken;
-  }
+      Signed : (ℕ → ℕ → Bool) → (ℕ → ℕ → Bool) → Type 0
+      Signed h a = Safe (l .settings) (l .booked) job h (signedAt (signedBy l v k)) (recordedAt (signedBy l v k)) a (signersOf (signedBy l v k))
 
-  inv-acknowledge : (v k : ℕ) → v < l .settings .n → hasBit (l .settings .faulty) v ≡ true → k < l .booked → Inv (withLedger w (acknowledged l v k)) r
-  unfolding acknowledged heldAt signedAt recordedAt signersOf
-  inv-acknowledge v k hv f hk = record {
-    shape = shape-acknowledge v k (i .shape) hv;
-    safe = safe-acknowledge (i .safe) v k (not-correct v f) (ack-acked l v k (omega (arith, i .shape .acknowledgements, is-job k hk)) (is-vault v hv));
-    fit = i .fit;
-    books = i .books;
-    running = i .running;
-    table = i .table;
-    unique = i .unique;
-    taken = i .taken;
-    once = i .once;
-    taken-held = λ m x. still l (acknowledged l v k) refl (λ u m t. t) m (i .taken-held m x);
-    held-taken = i .held-taken;
-  }
+  -- ---- a faulty vault votes
+  inv-vote : (d : Column) (v k : ℕ) → v < l .settings .n → hasBit (l .settings .faulty) v ≡ true → k < l .booked → Inv (withLedger w (voted l d v k)) r
+  unfolding voted heldAt signedAt
+  inv-vote d v k hv f hk =
+      let added = voted-added l d v k (is-vault v hv) in
+      inv-ledger (voted l d v k)
+      (record { settings = refl; booked = refl; order = refl; keeps = λ u m t. t; taken = i .held-taken })
+      (shape-vote (i .shape) d v k hv)
+      (safe-faulty (i .safe) v k hk (λ c. true≢false (sym f ∙ c .sound)) (added Signatures) (added Acknowledgements) (voted-ones l d v k Signatures))
 
   -- ---- a record is booked
   inv-book : (bytes : List ℕ) → examined bytes ≡ Pass → l .booked < 128 → (In bytes (tableOf w) → ⊥)
       → Inv (record { ledger = booking l; booked = w .booked ++ bytes }) (entering r bytes)
-  unfolding booking entering heldAt signedAt recordedAt ackedAt signersOf acknowledgersOf
+  unfolding booking entering heldAt signedAt votedAt votesIn
   inv-book bytes e h n =
       let size : length bytes ≡ recordSize = examined-length bytes e in
       record {
-        shape = shape-book bytes (i .shape) h size;
+        shape = shape-book (i .shape) bytes h size;
         safe = safe-book (i .safe) (λ k b. ap jobOf (List·getD-append (r .table) (bytes ∷ []) [] k (omega (arith, table-length i))));
         fit = λ x m. ⊎-elim (i .fit x) (λ (q : x ≡ bytes). rw q e) (in-snoc (r .table) bytes x m);
         books = books-enter r bytes (i .books);
@@ -182,7 +203,7 @@ module _ {w : World} {r : Register} (i : Inv w r) where
 
   -- ---- a certified job that has not arrived is admissible
   pub is-recorded : (v k : ℕ) → hasBit (signersOf l k) v ≡ true → recordedAt l v k ≡ true
-  unfolding recordedAt
+  unfolding votedAt
   is-recorded v k t = t
 
   quorum-of : (k : ℕ) → In k (r .taken) → thresholdOf (l .settings) ≤ ones (signersOf l k)
@@ -191,14 +212,14 @@ module _ {w : World} {r : Register} (i : Inv w r) where
   module _ (k : ℕ) (hk : k < l .booked) (quorum : thresholdOf (l .settings) ≤ ones (signersOf l k)) (new : In k (r .taken) → ⊥) where
     apart : (m : ℕ) → In m (r .taken) → Apart (job m) (job k)
     apart m x =
-        certified-apart (i .safe) (i .shape .lawful) (i .shape .signers-below) is-recorded m k (quorum-of m x) quorum
+        certified-apart (i .safe) (i .shape .lawful) (i .shape .votes-below Signatures) is-recorded m k (quorum-of m x) quorum
         (λ (e : m ≡ k). new (subst (λ (z : ℕ). In z (r .taken)) e x))
 
     pub can-take : CanTake r (getD (r .table) k [])
     can-take = record {
       fits = i .fit (getD (r .table) k []) (in-getD (r .table) [] k (omega (arith, table-length i)));
       standing = λ t m.
-          let q = certified-rooted (i .safe) (i .shape .lawful) (i .shape .signers-below) is-recorded k quorum t m in
+          let q = certified-rooted (i .safe) (i .shape .lawful) (i .shape .votes-below Signatures) is-recorded k quorum t m in
           let p = q .1 .1 in
           i .books .stands (p .maker) t (i .held-taken (q .0) (p .maker) (p .holds)) (p .makes)
           (λ n x y. apart n x .inputs (t .label) y (in-map (λ (t : Entry). t .label) (inputTapes (job k)) t m));
@@ -235,7 +256,7 @@ module _ {w : World} {r : Register} (i : Inv w r) where
         (subst (λ (f : ℕ → ℕ → Bool). Safe (l .settings) (l .booked) job (heldAt next) f (recordedAt next) (ackedAt next) (signersOf next)) (sym (hold-signed l v k))
         (subst (λ (f : ℕ → ℕ → Bool). Safe (l .settings) (l .booked) job (heldAt next) (signedAt l) f (ackedAt next) (signersOf next)) (sym (hold-recorded l v k))
         (subst (λ (f : ℕ → ℕ). Safe (l .settings) (l .booked) job (heldAt next) (signedAt l) (recordedAt l) (ackedAt next) f) (sym (hold-signers l v k))
-        (safe-hold (i .safe) v k hk quorum grown (hold-acked l v k (omega (arith, i .shape .acknowledgements, is-job k hk)) (is-vault v (c .below))))))))
+        (safe-hold (i .safe) v k hk quorum grown (hold-acked l v k (omega (arith, i .shape .votes, is-job k hk)) (is-vault v (c .below))))))))
 
     table-next : r .table ≡ tableOf (withLedger w next)
     table-next = i .table ∙ ap (λ (n : ℕ). recordsIn n (w .booked)) (sym (hold-booked l v k))
@@ -251,24 +272,22 @@ module _ {w : World} {r : Register} (i : Inv w r) where
     order-long = omega (arith, i .shape .arrivals, i .shape .order)
 
     inv-again : In k (r .taken) → Inv (withLedger w next) r
-    inv-again m = record {
-      shape = shape-hold v k (i .shape) (c .below);
-      safe = safe-next;
-      fit = i .fit;
-      books = i .books;
-      running = i .running;
-      table = table-next;
-      unique = i .unique;
-      taken = i .taken ∙ sym (hold-again l v k (reflect-arrived l k order-long .complete (subst (λ (x : List ℕ). In k x) (i .taken) m)));
-      once = i .once;
-      taken-held = λ n x. still-held n (i .taken-held n x);
-      held-taken = λ u n t. ⊎-elim (i .held-taken u n) (λ e. rw (e .1) m) (grown .cases u n t);
-    }
+    inv-again m =
+        inv-ledger next
+        (record {
+          settings = hold-settings l v k;
+          booked = hold-booked l v k;
+          order = hold-again l v k (reflect-arrived l k order-long .complete (subst (λ (x : List ℕ). In k x) (i .taken) m));
+          keeps = grown .old;
+          taken = λ u n t. ⊎-elim (i .held-taken u n) (λ e. rw (e .1) m) (grown .cases u n t);
+        })
+        (shape-hold (i .shape) v k (c .below))
+        safe-next
 
     inv-first : (In k (r .taken) → ⊥) → Inv (withLedger w next) (taking r k)
     unfolding taking
     inv-first new = record {
-      shape = shape-hold v k (i .shape) (c .below);
+      shape = shape-hold (i .shape) v k (c .below);
       safe = safe-next;
       fit = i .fit;
       books = books-take r k (i .books) (omega (arith, table-length i)) (can-take k hk quorum new);
@@ -307,8 +326,7 @@ module _ {w : World} {r : Register} (i : Inv w r) where
   inv-idle (preflight v k) m = i
   inv-idle (commit v k signers) m =
       simp (reflect-member k (r .taken) (reflect-eq k) .complete (i .held-taken v k (m .held))) i
-  inv-idle (faultySign v k) m = absurd m
-  inv-idle (faultyAcknowledge v k) m = absurd m
+  inv-idle (faultyVote d v k) m = absurd m
   inv-idle (show k) m = i
   inv-idle (generations k) m = i
 
@@ -330,6 +348,5 @@ keep w r i q done w′ (idle p m) = fed i q w (inv-idle i q m)
 keep w r i q done w′ (appends bytes e h n) =
     fed i q w′ (subst (λ (x : Register). Inv w′ x) (sym (feeds-new i bytes n)) (inv-book i bytes e h n))
 keep w r i q done w′ (signs v k c h u) = fed i q w′ (inv-sign i v k c h (clear i v k u))
-keep w r i q done w′ (countersigns v k h f b) = fed i q w′ (inv-countersign i v k h f b)
-keep w r i q done w′ (acknowledges v k h f b) = fed i q w′ (inv-acknowledge i v k h f b)
+keep w r i q done w′ (votes d v k h f b) = fed i q w′ (inv-vote i d v k h f b)
 keep w r i q done w′ (holds v k signers c h e) = fed i q w′ (inv-hold i v k c h e)

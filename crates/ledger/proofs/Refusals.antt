@@ -12,7 +12,23 @@ use Rattle.outcome.specs.Figures.{numberOf, refusalNumber}
 use Rattle.outcome.specs.declared.Outcome.{Outcome}
 use Rattle.outcome.specs.declared.Outcome.the-variants.{Done, Refused}
 use Rattle.outcome.specs.declared.Refusal.{Refusal}
-use Rattle.outcome.specs.declared.Refusal.the-variants.{Full, InputReserved, Malformed, NoVault, NotBooked, NotCreated, NotHeld, NotSigned, OutputReserved, Repeated, Retired, TooFewSigners, Unbalanced, Unsupported, WrongVault}
+use Rattle.outcome.specs.declared.Refusal.the-variants.{
+  Full,
+  InputReserved,
+  Malformed,
+  NoVault,
+  NotBooked,
+  NotCreated,
+  NotHeld,
+  NotSigned,
+  OutputReserved,
+  Repeated,
+  Retired,
+  TooFewSigners,
+  Unbalanced,
+  Unsupported,
+  WrongVault,
+}
 use Rattle.outcome.specs.declared.Verdict.{Verdict}
 use Rattle.outcome.specs.declared.Verdict.the-variants.{Fail, Pass}
 use Rattle.checks.specs.Checks.{balanced, checkOf, examined, repeatedAt, unsupportedAt, wellFormed}
@@ -29,9 +45,20 @@ use Rattle.journal.specs.Journal.{isBooked}
 use Rattle.ledger.specs.Meaning.{missing, remade, reserved}
 use Rattle.ledger.specs.State.{isSane}
 use Rattle.ledger.specs.Decisions.{ageing, certificate, committing, consent, consenting, gated, placing, preflighting, proposal, receiving, settling}
-use Rattle.ledger.specs.Steps.{bookedGate, commitDecision, faultyAcknowledgeDecision, faultySignDecision, gateOf, generationsDecision, preflightDecision, proposeDecision, saneGate, showDecision, vaultGate}
+use Rattle.ledger.specs.Steps.{
+  bookedGate,
+  commitDecision,
+  faultyVoteDecision,
+  gateOf,
+  generationsDecision,
+  preflightDecision,
+  proposeDecision,
+  saneGate,
+  showDecision,
+  vaultGate,
+}
 use Rattle.ledger.specs.Vaults.{admissionAt, consented, vaultPreflight}
-use Rattle.ledger.specs.Worlds.{Request, commit, faultyAcknowledge, faultySign, generations, preflight, propose, show, stepOf}
+use Rattle.ledger.specs.Worlds.{Request, commit, faultyVote, generations, preflight, propose, show, stepOf}
 use Rattle.ledger.specs.declared.Consent.the-variants.{Already}
 use Rattle.ledger.specs.declared.Decision.{Decision}
 use Rattle.ledger.specs.declared.Ledger.{Ledger}
@@ -154,13 +181,12 @@ module _ (l : Ledger) (journal : List ℕ) (sane : isSane l ≡ true) where
   ages b age = either b _ _ (done age) (refuses NotHeld (fails NotHeld refl))
 
   fine : (q : Request) → Fine (stepOf l journal q .outcome)
-  unfolding proposeDecision proposal settling preflightDecision preflighting admissionAt commitDecision committing faultySignDecision faultyAcknowledgeDecision showDecision generationsDecision
+  unfolding proposeDecision proposal settling preflightDecision preflighting admissionAt commitDecision committing faultyVoteDecision showDecision generationsDecision
   fine (propose bytes) = behind (saneGate l) _ sane-gate (behind (examined bytes) _ (examines bytes) (places _ _ _ _))
   fine (preflight v k) = behind (vaultGate l journal v k false) _ (vault-gate v k false) (consents _ _ _ _ _ (admits _ _ _ _ _))
   fine (commit v k signers) =
       behind (vaultGate l journal v k false) _ (vault-gate v k false) (behind (certificate _ _ _) _ (certifies _ _ _) (receives _ _ _ _))
-  fine (faultySign v k) = behind (vaultGate l journal v k true) _ (vault-gate v k true) (done _)
-  fine (faultyAcknowledge v k) = behind (vaultGate l journal v k true) _ (vault-gate v k true) (done _)
+  fine (faultyVote c v k) = behind (vaultGate l journal v k true) _ (vault-gate v k true) (done _)
   fine (show k) = behind (bookedGate l journal k) _ (gate k) (done _)
   fine (generations k) = behind (bookedGate l journal k) _ (gate k) (ages _ _)
 

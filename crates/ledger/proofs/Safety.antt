@@ -14,7 +14,7 @@ use Rattle.record.specs.declared.Entry.{Entry}
 use Rattle.record.specs.declared.Job.{Job}
 use Rattle.sets.proofs.Quorum.{quorums-meet}
 use Rattle.sets.specs.Bits.{hasBit}
-use Rattle.ledger.proofs.Views.{Grown}
+use Rattle.ledger.proofs.Views.{Added, Grown}
 use Rattle.ledger.specs.Demand3.{Apart, Correct}
 use Rattle.federation.specs.Federation.{Lawful, thresholdOf}
 use Rattle.federation.specs.declared.Settings.{Settings}
@@ -86,23 +86,24 @@ module _ {st : Settings} {booked : ℕ} {job : ℕ → Job} {held signed recorde
       both u i k ne (inr e) (inl b) = rw (e .1) (c .apart k (rw (e .0) at b) (λ q. ne (e .1 ∙ sym q)))
       both u i k ne (inr e) (inr f) = absurd (ne (e .1 ∙ sym (f .1)))
 
-  -- a faulty vault signs
-  pub safe-countersign : {recorded′ : ℕ → ℕ → Bool} {signers′ : ℕ → ℕ} (v j : ℕ) → j < booked → (Correct st v → ⊥)
-      → Grown (λ k u. recorded u k) (λ k u. recorded′ u k) j v → ((k : ℕ) → ones (signers k) ≤ ones (signers′ k))
-      → Safe st booked job held signed recorded′ acked signers′
-  safe-countersign {recorded′} v j hj faulty gr more = record {
+  -- a faulty vault votes, in either column
+  pub safe-faulty : {recorded′ acked′ : ℕ → ℕ → Bool} {signers′ : ℕ → ℕ} (v j : ℕ) → j < booked → (Correct st v → ⊥)
+      → Added (λ k u. recorded u k) (λ k u. recorded′ u k) j v → Added (λ k u. acked u k) (λ k u. acked′ u k) j v
+      → ((k : ℕ) → ones (signers k) ≤ ones (signers′ k)) → Safe st booked job held signed recorded′ acked′ signers′
+  safe-faulty {recorded′} {acked′} v j hj faulty gr ga more = record {
     booked-held = s .booked-held;
     booked-recorded = λ u k t. ⊎-elim (s .booked-recorded u k) (λ e. rw (e .0) hj) (gr .cases k u t);
     backed = λ u k t. gr .old k u (s .backed u k t);
-    backs = λ u k cu t. s .backs u k cu (same u k cu t);
+    backs = λ u k cu t. s .backs u k cu (same gr u k cu t);
     apart = s .apart;
-    rooted = λ u k cu t x m. s .rooted u k cu (same u k cu t) x m;
+    rooted = λ u k cu t x m. s .rooted u k cu (same gr u k cu t) x m;
     certified = λ u k t. le-trans (s .certified u k t) (more k);
-    honest = s .honest;
+    honest = λ u k cu t. s .honest u k cu (same ga u k cu t);
   }
     where
-      same : (u k : ℕ) → Correct st u → recorded′ u k ≡ true → recorded u k ≡ true
-      same u k cu t = ⊎-elim (λ o. o) (λ e. absurd (faulty (rw (e .1) at cu))) (gr .cases k u t)
+      -- of a correct vault nothing is new
+      same : {p q : ℕ → ℕ → Bool} → Added (λ k u. p u k) (λ k u. q u k) j v → (u k : ℕ) → Correct st u → q u k ≡ true → p u k ≡ true
+      same g u k cu t = ⊎-elim (λ o. o) (λ e. absurd (faulty (rw (e .1) at cu))) (g .cases k u t)
 
   -- a correct vault holds a certified job and acknowledges it
   pub safe-hold : {held′ acked′ : ℕ → ℕ → Bool} (v j : ℕ) → j < booked → thresholdOf st ≤ ones (signers j)
@@ -116,20 +117,6 @@ module _ {st : Settings} {booked : ℕ} {job : ℕ → Job} {held signed recorde
     rooted = λ u k cu t x m. let r = s .rooted u k cu t x m in record { maker = r .maker; holds = gh .old u (r .maker) (r .holds); makes = r .makes };
     certified = λ u k t. ⊎-elim (s .certified u k) (λ e. rw (e .1) quorum) (gh .cases u k t);
     honest = λ u k cu t. ⊎-elim (λ o. gh .old u k (s .honest u k cu o)) (λ e. rw (e .0, e .1) (gh .new)) (ga .cases k u t);
-  }
-
-  -- a faulty vault acknowledges
-  pub safe-acknowledge : {acked′ : ℕ → ℕ → Bool} (v j : ℕ) → (Correct st v → ⊥) → Grown (λ k u. acked u k) (λ k u. acked′ u k) j v
-      → Safe st booked job held signed recorded acked′ signers
-  safe-acknowledge v j faulty ga = record {
-    booked-held = s .booked-held;
-    booked-recorded = s .booked-recorded;
-    backed = s .backed;
-    backs = s .backs;
-    apart = s .apart;
-    rooted = s .rooted;
-    certified = s .certified;
-    honest = λ u k cu t. ⊎-elim (s .honest u k cu) (λ e. absurd (faulty (rw (e .1) at cu))) (ga .cases k u t);
   }
 
   -- a record is booked: what is booked keeps its job

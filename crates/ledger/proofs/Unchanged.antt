@@ -12,12 +12,37 @@ use Rattle.outcome.specs.declared.Verdict.{Verdict}
 use Rattle.outcome.specs.declared.Verdict.the-variants.{Fail, Pass}
 use Rattle.checks.specs.Checks.{examined}
 use Rattle.sets.specs.Jobs.{jobHas}
-use Rattle.ledger.specs.Decisions.{ageing, answering, certificate, committing, consent, consenting, gated, placing, preflighting, proposal, receiving, refusing, settling}
+use Rattle.ledger.specs.Decisions.{
+  ageing,
+  answering,
+  certificate,
+  committing,
+  consent,
+  consenting,
+  gated,
+  placing,
+  preflighting,
+  proposal,
+  receiving,
+  refusing,
+  settling,
+}
 use Rattle.ledger.specs.Register.{isDone}
 use Rattle.ledger.specs.State.{applied}
-use Rattle.ledger.specs.Steps.{bookedGate, commitDecision, faultyAcknowledgeDecision, faultySignDecision, generationsDecision, journalAfter, preflightDecision, proposeDecision, saneGate, showDecision, vaultGate}
+use Rattle.ledger.specs.Steps.{
+  bookedGate,
+  commitDecision,
+  faultyVoteDecision,
+  generationsDecision,
+  journalAfter,
+  preflightDecision,
+  proposeDecision,
+  saneGate,
+  showDecision,
+  vaultGate,
+}
 use Rattle.ledger.specs.Vaults.{vaultPreflight}
-use Rattle.ledger.specs.Worlds.{Request, commit, decisionOf, faultyAcknowledge, faultySign, generations, leftBy, preflight, propose, show, stepOf}
+use Rattle.ledger.specs.Worlds.{Request, commit, decisionOf, faultyVote, generations, leftBy, preflight, propose, show, stepOf}
 use Rattle.ledger.specs.declared.Change.{Change}
 use Rattle.ledger.specs.declared.Change.the-variants.{Book, Nothing}
 use Rattle.ledger.specs.declared.Consent.{Consent}
@@ -69,12 +94,11 @@ aged b age = either b _ _ (quiet (answering age) refl) (quiet (refusing NotHeld)
 
 module _ (l : Ledger) (journal : List ℕ) where
   pub quiets : (q : Request) → Quiet (decisionOf l journal q)
-  unfolding proposeDecision proposal settling preflightDecision preflighting commitDecision committing faultySignDecision faultyAcknowledgeDecision showDecision generationsDecision
+  unfolding proposeDecision proposal settling preflightDecision preflighting commitDecision committing faultyVoteDecision showDecision generationsDecision
   quiets (propose bytes) = behind (saneGate l) _ (behind (examined bytes) _ (placed _ _ _ _))
   quiets (preflight v k) = behind (vaultGate l journal v k false) _ (consents _ _ _ _ _)
   quiets (commit v k signers) = behind (vaultGate l journal v k false) _ (behind (certificate _ _ _) _ (received _ _ _ _))
-  quiets (faultySign v k) = behind (vaultGate l journal v k true) _ (done _ _)
-  quiets (faultyAcknowledge v k) = behind (vaultGate l journal v k true) _ (done _ _)
+  quiets (faultyVote c v k) = behind (vaultGate l journal v k true) _ (done _ _)
   quiets (show k) = behind (bookedGate l journal k) _ (quiet (answering _) refl)
   quiets (generations k) = behind (bookedGate l journal k) _ (aged _ _)
 
@@ -83,8 +107,7 @@ module _ (l : Ledger) (journal : List ℕ) where
   left (propose bytes) e = simp e
   left (preflight v k) e = refl
   left (commit v k signers) e = refl
-  left (faultySign v k) e = refl
-  left (faultyAcknowledge v k) e = refl
+  left (faultyVote c v k) e = refl
   left (show k) e = refl
   left (generations k) e = refl
 

@@ -22,7 +22,7 @@ use Rattle.ledger.specs.Decisions.{gated, isBook, placing, proposal, set
 use Rattle.ledger.specs.Given.{Searchable, Writable}
 use Rattle.ledger.specs.Steps.{journalWith}
 use Rattle.ledger.specs.declared.Change.{Change}
-use Rattle.ledger.specs.declared.Change.the-variants.{Book, Hold, Nothing, RecordAcknowledgement, RecordSignature, Sign}
+use Rattle.ledger.specs.declared.Change.the-variants.{Book, Hold, Nothing, Record, Sign}
 use Rattle.ledger.specs.declared.Decision.{Decision}
 
 -- ---- what is written
@@ -31,8 +31,7 @@ is-book Nothing r e t = absurd (true≢false (sym t ∙ e))
 is-book Book r e t = refl
 is-book (Sign state) r e t = absurd (true≢false (sym t ∙ e))
 is-book (Hold state) r e t = absurd (true≢false (sym t ∙ e))
-is-book RecordSignature r e t = absurd (true≢false (sym t ∙ e))
-is-book RecordAcknowledgement r e t = absurd (true≢false (sym t ∙ e))
+is-book (Record column) r e t = absurd (true≢false (sym t ∙ e))
 
 pub written : (c : Change) (r : Bool) (booked : ℕ) (journal bytes after : List ℕ) → r ≡ isBook c → r ≡ true → after ≡ putAt journal booked bytes
     → after ≡ journalWith c booked journal bytes
@@ -43,8 +42,7 @@ unwritten Nothing r booked journal bytes e t = refl
 unwritten Book r booked journal bytes e t = absurd (true≢false (sym e ∙ t))
 unwritten (Sign state) r booked journal bytes e t = refl
 unwritten (Hold state) r booked journal bytes e t = refl
-unwritten RecordSignature r booked journal bytes e t = refl
-unwritten RecordAcknowledgement r booked journal bytes e t = refl
+unwritten (Record column) r booked journal bytes e t = refl
 
 -- ---- a proposal that is booked
 module _ (journal : List ℕ) (booked : ℕ) (bytes : List ℕ) where

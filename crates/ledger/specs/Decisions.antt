@@ -16,11 +16,12 @@ use Rattle.federation.specs.declared.Settings.{Settings}
 use Rattle.checks.specs.Checks.{examined}
 use Rattle.journal.specs.Journal.{equalIn, hasRoom, insideOf}
 use Rattle.ledger.specs.declared.Change.{Change}
-use Rattle.ledger.specs.declared.Change.the-variants.{Book, Hold, Nothing, RecordAcknowledgement, RecordSignature, Sign}
+use Rattle.ledger.specs.declared.Change.the-variants.{Book, Hold, Nothing, Record, Sign}
 use Rattle.ledger.specs.declared.Consent.{Consent}
 use Rattle.ledger.specs.declared.Consent.the-variants.{Already, Denied, Fresh}
 use Rattle.ledger.specs.declared.Decision.{Decision}
 use Rattle.ledger.specs.declared.Vault.{Vault}
+use Rattle.ledger.specs.declared.Votes.{Votes}
 use Rattle.ledger.specs.Vaults.{admissionAt, holding, vaultPreflight}
 
 -- "A refusal alters no set, book or order."
@@ -81,14 +82,15 @@ unfoldable pub receiving : Vault → ℕ → ℕ → ℕ → Decision
 receiving state acknowledgers v job =
     cond (jobHas (state .held) job) (answering (ones acknowledgers)) (voting acknowledgers v (Hold (holding state job)))
 
-unfoldable pub committing : Settings → Vault → ℕ → ℕ → ℕ → ℕ → ℕ → Decision
-committing s state recorded acknowledgers v job signers = gated (certificate s recorded signers) (receiving state acknowledgers v job)
+unfoldable pub committing : Settings → Vault → Votes → ℕ → ℕ → ℕ → Decision
+committing s state votes v job signers =
+    gated (certificate s (votes .signatures) signers) (receiving state (votes .acknowledgements) v job)
 
 -- ---- kind 6: "0 open, 1 certified, 2 finished"
-unfoldable pub statusOf : Settings → ℕ → ℕ → ℕ
-statusOf s signers acknowledgers =
-    cond (leb (thresholdOf s) (ones acknowledgers)) 2
-    (cond (leb (thresholdOf s) (ones signers)) 1 0)
+unfoldable pub statusOf : Settings → Votes → ℕ
+statusOf s votes =
+    cond (leb (thresholdOf s) (ones (votes .acknowledgements))) 2
+    (cond (leb (thresholdOf s) (ones (votes .signatures))) 1 0)
 
 -- ---- kind 8: "18"
 unfoldable pub ageing : Bool → ℕ → Decision
@@ -100,13 +102,11 @@ isNothing Nothing = true
 isNothing Book = false
 isNothing (Sign state) = false
 isNothing (Hold state) = false
-isNothing RecordSignature = false
-isNothing RecordAcknowledgement = false
+isNothing (Record column) = false
 
 abbrev pub isBook : Change → Bool
 isBook Nothing = false
 isBook Book = true
 isBook (Sign state) = false
 isBook (Hold state) = false
-isBook RecordSignature = false
-isBook RecordAcknowledgement = false
+isBook (Record column) = false

@@ -10,4 +10,5 @@ pub mod Register
 pub mod State
 pub mod Steps
 pub mod Vaults
+pub mod Votes
 pub mod Worlds

@@ -29,6 +29,7 @@ use Rattle.ledger.specs.Decisions.{answering, refusing}
 use Rattle.ledger.specs.declared.Change.the-variants.{Book}
 use Rattle.ledger.specs.declared.Decision.{Decision}
 use Rattle.ledger.specs.declared.Ledger.{Ledger}
+use Rattle.ledger.specs.declared.Votes.{Votes}
 
 -- a state that check 1 lets through
 pub record Sane (l : Ledger) : Type 0 where
@@ -104,10 +105,10 @@ module _ (job : ℕ → Job) (booked : ℕ) where
 abbrev pub Quorum : Settings → ℕ → Type 0
 Quorum s votes = AtLeast (thresholdOf s) votes
 
-pub data Status (s : Settings) (signers acknowledgers : ℕ) : ℕ → Type 0 where
-  uncertified : (Quorum s acknowledgers → ⊥) → (Quorum s signers → ⊥) → Status s signers acknowledgers 0
-  certified : (Quorum s acknowledgers → ⊥) → Quorum s signers → Status s signers acknowledgers 1
-  finished : Quorum s acknowledgers → Status s signers acknowledgers 2
+pub data Status (s : Settings) (votes : Votes) : ℕ → Type 0 where
+  uncertified : (Quorum s (votes .acknowledgements) → ⊥) → (Quorum s (votes .signatures) → ⊥) → Status s votes 0
+  certified : (Quorum s (votes .acknowledgements) → ⊥) → Quorum s (votes .signatures) → Status s votes 1
+  finished : Quorum s (votes .acknowledgements) → Status s votes 2
 
 -- ---- checks 15 and 16, by vaults: each named signer has signed, and they are at least n − b. Algorithm 2's "valid threshold signature".
 pub record Certificate (s : Settings) (recorded signers : ℕ) : Type 0 where

@@ -1,32 +1,41 @@
--- What the ledger keeps: the settings, how many records are booked, for each job the vaults whose signature and whose
--- acknowledgement are recorded, the arrival order, and the vaults. What a step changes is applied by one definition, at the end.
+-- What the ledger keeps: the settings, how many records are booked, the votes on each job, the arrival order, and the vaults. What a step
+-- changes is applied by one definition, at the end.
 use mathlib.Core.Bool.{Bool, cond, _&&_, _||_}
 use mathlib.Core.List.{List}
 use Prim.Native.Nat.{ℕ, _+_}
 use lib.Dec.{leb}
 use lib.ListN.{getD, set, replicate, take}
 use Rattle.base.specs.Search.{anyBelow}
-use Rattle.sets.specs.Bits.{withMember}
 use Rattle.ledger.specs.declared.Vault.{Vault}
 use Rattle.ledger.specs.declared.Change.{Change}
-use Rattle.ledger.specs.declared.Change.the-variants.{Book, Hold, Nothing, RecordAcknowledgement, RecordSignature, Sign}
+use Rattle.ledger.specs.declared.Change.the-variants.{Book, Hold, Nothing, Record, Sign}
 use Rattle.ledger.specs.declared.Ledger.{Ledger}
 use Rattle.federation.specs.Federation.{isLawful}
 use Rattle.journal.specs.Journal.{capacity}
 use Rattle.generations.specs.Generations.{isAt}
+use Rattle.ledger.specs.declared.Column.{Column}
+use Rattle.ledger.specs.declared.Column.the-variants.{Acknowledgements, Signatures}
+use Rattle.ledger.specs.declared.Votes.{Votes}
 use Rattle.ledger.specs.Vaults.{newVault}
+use Rattle.ledger.specs.Votes.{columnOf, noVotes, withVote}
 
 -- ---- views
 
 abbrev pub vaultAt : Ledger → ℕ → Vault
 vaultAt l v = getD (l .vaults) v newVault
 
--- the vaults whose signature of the job is recorded, and those whose acknowledgement is
-unfoldable pub signersOf : Ledger → ℕ → ℕ
-signersOf l job = getD (l .signatures) job 0
+abbrev pub votesAt : Ledger → ℕ → Votes
+votesAt l job = getD (l .votes) job noVotes
 
-unfoldable pub acknowledgersOf : Ledger → ℕ → ℕ
-acknowledgersOf l job = getD (l .acknowledgements) job 0
+-- the vaults whose vote on the job is recorded in the column
+unfoldable pub votesIn : Ledger → Column → ℕ → ℕ
+votesIn l column job = columnOf column (votesAt l job)
+
+abbrev pub signersOf : Ledger → ℕ → ℕ
+signersOf l = votesIn l Signatures
+
+abbrev pub acknowledgersOf : Ledger → ℕ → ℕ
+acknowledgersOf l = votesIn l Acknowledgements
 
 -- the jobs in arrival order
 abbrev pub arrived : Ledger → List ℕ
@@ -49,8 +58,7 @@ newLedger n b faulty =
       settings = record { n = n; b = b; faulty = faulty };
       booked = 0;
       arrivals = 0;
-      signatures = replicate 128 0;
-      acknowledgements = replicate 128 0;
+      votes = replicate 128 noVotes;
       order = replicate 128 0;
       vaults = replicate 16 newVault;
     }
@@ -62,34 +70,19 @@ booking l =
       settings = l .settings;
       booked = l .booked + 1;
       arrivals = l .arrivals;
-      signatures = l .signatures;
-      acknowledgements = l .acknowledgements;
+      votes = l .votes;
       order = l .order;
       vaults = l .vaults;
     }
 
--- the vault's signature of the job recorded
-unfoldable pub countersigned : Ledger → ℕ → ℕ → Ledger
-countersigned l v job =
+-- the vault's vote on the job recorded
+unfoldable pub voted : Ledger → Column → ℕ → ℕ → Ledger
+voted l column v job =
     record {
       settings = l .settings;
       booked = l .booked;
       arrivals = l .arrivals;
-      signatures = set (l .signatures) job (withMember 16 (signersOf l job) v);
-      acknowledgements = l .acknowledgements;
-      order = l .order;
-      vaults = l .vaults;
-    }
-
--- the vault's acknowledgement of the job recorded
-unfoldable pub acknowledged : Ledger → ℕ → ℕ → Ledger
-acknowledged l v job =
-    record {
-      settings = l .settings;
-      booked = l .booked;
-      arrivals = l .arrivals;
-      signatures = l .signatures;
-      acknowledgements = set (l .acknowledgements) job (withMember 16 (acknowledgersOf l job) v);
+      votes = set (l .votes) job (withVote column v (votesAt l job));
       order = l .order;
       vaults = l .vaults;
     }
@@ -101,31 +94,31 @@ withVault l v state =
       settings = l .settings;
       booked = l .booked;
       arrivals = l .arrivals;
-      signatures = l .signatures;
-      acknowledgements = l .acknowledgements;
+      votes = l .votes;
       order = l .order;
       vaults = set (l .vaults) v state;
     }
 
--- "Arrival order is the order in which jobs are first held by a sound vault": a job that has not arrived goes to its end
-unfoldable pub arriving : Ledger → ℕ → Ledger
-arriving l job =
-    cond (hasArrived (l .order) (l .arrivals) job || leb capacity (l .arrivals)) l
-    (record {
+-- the job at the end of the order
+unfoldable pub enqueued : Ledger → ℕ → Ledger
+enqueued l job =
+    record {
       settings = l .settings;
       booked = l .booked;
       arrivals = l .arrivals + 1;
-      signatures = l .signatures;
-      acknowledgements = l .acknowledgements;
+      votes = l .votes;
       order = set (l .order) (l .arrivals) job;
       vaults = l .vaults;
-    })
+    }
+
+-- "Arrival order is the order in which jobs are first held by a sound vault": a job that has not arrived goes to its end
+unfoldable pub arriving : Ledger → ℕ → Ledger
+arriving l job = cond (hasArrived (l .order) (l .arrivals) job || leb capacity (l .arrivals)) l (enqueued l job)
 
 -- the one place where a ledger changes, by the vault and the job that the step names
 unfoldable pub applied : Ledger → Change → ℕ → ℕ → Ledger
 applied l Nothing v job = l
 applied l Book v job = booking l
-applied l (Sign state) v job = countersigned (withVault l v state) v job
-applied l (Hold state) v job = arriving (acknowledged (withVault l v state) v job) job
-applied l RecordSignature v job = countersigned l v job
-applied l RecordAcknowledgement v job = acknowledged l v job
+applied l (Sign state) v job = voted (withVault l v state) Signatures v job
+applied l (Hold state) v job = arriving (voted (withVault l v state) Acknowledgements v job) job
+applied l (Record column) v job = voted l column v job

@@ -16,13 +16,14 @@ use Rattle.federation.specs.declared.Settings.{Settings}
 use Rattle.journal.specs.Journal.{isBooked, jobAt, putAt}
 use Rattle.generations.specs.Generations.{ageIn}
 use Rattle.ledger.specs.declared.Change.{Change}
-use Rattle.ledger.specs.declared.Change.the-variants.{Book, Hold, Nothing, RecordAcknowledgement, RecordSignature, Sign}
+use Rattle.ledger.specs.declared.Change.the-variants.{Book, Hold, Nothing, Record, Sign}
+use Rattle.ledger.specs.declared.Column.{Column}
 use Rattle.ledger.specs.declared.Decision.{Decision}
 use Rattle.ledger.specs.declared.Ledger.{Ledger}
 use Rattle.ledger.specs.declared.Reply.{Reply}
 use Rattle.ledger.specs.Decisions.{ageing, answering, committing, gated, preflighting, proposal, statusOf, voting}
 use Rattle.ledger.specs.Holders.{isHeld}
-use Rattle.ledger.specs.State.{acknowledgersOf, applied, isSane, newLedger, signersOf, vaultAt}
+use Rattle.ledger.specs.State.{applied, isSane, newLedger, signersOf, vaultAt, votesAt, votesIn}
 
 -- ---- a new ledger: the threshold where the settings are lawful
 unfoldable pub newOf : ℕ → ℕ → ℕ → Reply
@@ -70,19 +71,16 @@ preflightDecision l journal v job =
 unfoldable pub commitDecision : Ledger → List ℕ → ℕ → ℕ → ℕ → Decision
 commitDecision l journal v job signers =
     gated (vaultGate l journal v job false)
-    (committing (l .settings) (vaultAt l v) (signersOf l job) (acknowledgersOf l job) v job signers)
+    (committing (l .settings) (vaultAt l v) (votesAt l job) v job signers)
 
 -- kinds 4 and 5: "A faulty vault may sign or acknowledge any booked job, by its own steps only."
-unfoldable pub faultySignDecision : Ledger → List ℕ → ℕ → ℕ → Decision
-faultySignDecision l journal v job = gated (vaultGate l journal v job true) (voting (signersOf l job) v RecordSignature)
-
-unfoldable pub faultyAcknowledgeDecision : Ledger → List ℕ → ℕ → ℕ → Decision
-faultyAcknowledgeDecision l journal v job = gated (vaultGate l journal v job true) (voting (acknowledgersOf l job) v RecordAcknowledgement)
+unfoldable pub faultyVoteDecision : Ledger → List ℕ → Column → ℕ → ℕ → Decision
+faultyVoteDecision l journal column v job = gated (vaultGate l journal v job true) (voting (votesIn l column job) v (Record column))
 
 -- kind 6: "4"
 unfoldable pub showDecision : Ledger → List ℕ → ℕ → Decision
 showDecision l journal job =
-    gated (bookedGate l journal job) (answering (statusOf (l .settings) (signersOf l job) (acknowledgersOf l job)))
+    gated (bookedGate l journal job) (answering (statusOf (l .settings) (votesAt l job)))
 
 -- kind 8: "4, 18"
 unfoldable pub generationsDecision : Ledger → List ℕ → ℕ → Decision
@@ -105,8 +103,7 @@ journalWith Book booked journal bytes = putAt journal booked bytes
 journalWith Nothing booked journal bytes = journal
 journalWith (Sign state) booked journal bytes = journal
 journalWith (Hold state) booked journal bytes = journal
-journalWith RecordSignature booked journal bytes = journal
-journalWith RecordAcknowledgement booked journal bytes = journal
+journalWith (Record column) booked journal bytes = journal
 
 -- ---- the operations; a proposal names no vault and no job
 unfoldable pub proposeOf : Ledger → List ℕ → List ℕ → Reply
@@ -121,11 +118,8 @@ preflightOf l journal v job = carried l (preflightDecision l journal v job) v jo
 unfoldable pub commitOf : Ledger → List ℕ → ℕ → ℕ → ℕ → Reply
 commitOf l journal v job signers = carried l (commitDecision l journal v job signers) v job
 
-unfoldable pub faultySignOf : Ledger → List ℕ → ℕ → ℕ → Reply
-faultySignOf l journal v job = carried l (faultySignDecision l journal v job) v job
-
-unfoldable pub faultyAcknowledgeOf : Ledger → List ℕ → ℕ → ℕ → Reply
-faultyAcknowledgeOf l journal v job = carried l (faultyAcknowledgeDecision l journal v job) v job
+unfoldable pub faultyVoteOf : Ledger → List ℕ → Column → ℕ → ℕ → Reply
+faultyVoteOf l journal column v job = carried l (faultyVoteDecision l journal column v job) v job
 
 -- the two that only read
 abbrev pub showOf : Ledger → List ℕ → ℕ → Outcome

@@ -6,7 +6,17 @@ use lib.ListN.{drop, length, take}
 use Rattle.outcome.specs.declared.Outcome.{Outcome}
 use Rattle.codec.specs.Codec.{recordSize}
 use Rattle.ledger.specs.State.{newLedger}
-use Rattle.ledger.specs.Steps.{carried, commitDecision, faultyAcknowledgeDecision, faultySignDecision, generationsDecision, journalAfter, preflightDecision, proposeDecision, showDecision}
+use Rattle.ledger.specs.Steps.{
+  carried,
+  commitDecision,
+  faultyVoteDecision,
+  generationsDecision,
+  journalAfter,
+  preflightDecision,
+  proposeDecision,
+  showDecision,
+}
+use Rattle.ledger.specs.declared.Column.{Column}
 use Rattle.ledger.specs.declared.Decision.{Decision}
 use Rattle.ledger.specs.declared.Ledger.{Ledger}
 use Rattle.ledger.specs.declared.Reply.{Reply}
@@ -16,8 +26,7 @@ pub data Request : Type 0 where
   propose : List ℕ → Request
   preflight : ℕ → ℕ → Request
   commit : ℕ → ℕ → ℕ → Request
-  faultySign : ℕ → ℕ → Request
-  faultyAcknowledge : ℕ → ℕ → Request
+  faultyVote : Column → ℕ → ℕ → Request
   show : ℕ → Request
   generations : ℕ → Request
 
@@ -26,8 +35,7 @@ abbrev pub vaultIn : Request → ℕ
 vaultIn (propose bytes) = 0
 vaultIn (preflight v job) = v
 vaultIn (commit v job signers) = v
-vaultIn (faultySign v job) = v
-vaultIn (faultyAcknowledge v job) = v
+vaultIn (faultyVote column v job) = v
 vaultIn (show job) = 0
 vaultIn (generations job) = 0
 
@@ -35,8 +43,7 @@ abbrev pub jobIn : Request → ℕ
 jobIn (propose bytes) = 0
 jobIn (preflight v job) = job
 jobIn (commit v job signers) = job
-jobIn (faultySign v job) = job
-jobIn (faultyAcknowledge v job) = job
+jobIn (faultyVote column v job) = job
 jobIn (show job) = job
 jobIn (generations job) = job
 
@@ -44,8 +51,7 @@ abbrev pub decisionOf : Ledger → List ℕ → Request → Decision
 decisionOf l journal (propose bytes) = proposeDecision l journal bytes
 decisionOf l journal (preflight v job) = preflightDecision l journal v job
 decisionOf l journal (commit v job signers) = commitDecision l journal v job signers
-decisionOf l journal (faultySign v job) = faultySignDecision l journal v job
-decisionOf l journal (faultyAcknowledge v job) = faultyAcknowledgeDecision l journal v job
+decisionOf l journal (faultyVote column v job) = faultyVoteDecision l journal column v job
 decisionOf l journal (show job) = showDecision l journal job
 decisionOf l journal (generations job) = generationsDecision l journal job
 
@@ -58,8 +64,7 @@ abbrev pub leftBy : Ledger → List ℕ → Request → List ℕ
 leftBy l journal (propose bytes) = journalAfter l journal bytes
 leftBy l journal (preflight v job) = journal
 leftBy l journal (commit v job signers) = journal
-leftBy l journal (faultySign v job) = journal
-leftBy l journal (faultyAcknowledge v job) = journal
+leftBy l journal (faultyVote column v job) = journal
 leftBy l journal (show job) = journal
 leftBy l journal (generations job) = journal
 

@@ -1,8 +1,6 @@
-// What a change is, and the journal that it leaves.
+// What a change is, for those who carry it out.
 ghost use mathlib.Core.Path.{_≡_};
 ghost use Rattle.ledger.specs.Decisions.{isBook, isNothing};
-ghost use Rattle.ledger.specs.Given.{Writable};
-ghost use Rattle.ledger.specs.Steps.{journalWith};
 use crate::Change;
 
 impl Change {
@@ -14,8 +12,7 @@ impl Change {
             Change::Book => false,
             Change::Sign(_) => false,
             Change::Hold(_) => false,
-            Change::RecordSignature => false,
-            Change::RecordAcknowledgement => false,
+            Change::Record(_) => false,
         }
     }
 
@@ -27,19 +24,7 @@ impl Change {
             Change::Book => true,
             Change::Sign(_) => false,
             Change::Hold(_) => false,
-            Change::RecordSignature => false,
-            Change::RecordAcknowledgement => false,
-        }
-    }
-
-    // A new record's bytes are put after the booked ones; no other change touches the journal.
-    pub(crate) fn write(self, journal: &mut [u8], booked: usize, bytes: &[u8])
-        requires { ⌜ Writable self booked (now journal) (now bytes) ⌝ }
-        ensures { λ _. ⌜ now (journal .exit) ≡ journalWith self booked (now (journal .entry)) (now (bytes .entry)) ⌝ }
-    {
-        if self.is_book() {
-            journal::put_at(journal, booked, bytes);
-            return;
+            Change::Record(_) => false,
         }
     }
 }

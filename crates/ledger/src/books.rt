@@ -2,15 +2,16 @@
 ghost use mathlib.Core.Path.{_≡_};
 ghost use Prim.Native.Nat.{_<_, _≤_};
 ghost use lib.ListN.{length};
-ghost use Rattle.journal.specs.Journal.{recordAt};
 ghost use Rattle.generations.specs.Generations.{isAt};
 ghost use Rattle.ledger.specs.State.{applied, arriving, hasArrived, isSane, newLedger};
 ghost use Rattle.ledger.specs.Steps.{newOf};
 ghost use Rattle.ledger.specs.Given.{Placed};
 use crate::Change;
+use crate::Column;
 use crate::Ledger;
 use crate::Reply;
 use crate::Vault;
+use crate::Votes;
 use federation::Settings;
 use journal::CAPACITY;
 use outcome::Outcome;
@@ -41,16 +42,18 @@ impl Ledger {
         ensures { λ r. ⌜ r ≡ newLedger n b faulty ⌝ }
     {
         let settings = Settings { n, b, faulty };
-        let signatures = [0u16; 128];
-        let acknowledgements = [0u16; 128];
+        let none = Votes {
+            signatures: 0,
+            acknowledgements: 0,
+        };
+        let votes = [none; 128];
         let order = [0u8; 128];
         let vaults = [Vault::new(); 16];
         Ledger {
             settings,
             booked: 0,
             arrivals: 0,
-            signatures,
-            acknowledgements,
+            votes,
             order,
             vaults,
         }
@@ -76,7 +79,7 @@ impl Ledger {
     }
 
     // Whether a run can have led here, as far as the settings and the counts tell.
-    pub(crate) fn is_sane(self) -> bool
+    pub fn is_sane(self) -> bool
         ensures { λ r. ⌜ r ≡ isSane self ⌝ }
     {
         let settings = self.settings;
@@ -87,13 +90,6 @@ impl Ledger {
             return false;
         }
         false
-    }
-
-    // The job's record inside the journal, or the empty part where check 4 fails.
-    pub fn lookup(self, journal: &[u8], job: u8) -> &[u8]
-        ensures { λ r. ⌜ now r ≡ recordAt (now (journal .entry)) (self .booked) job ⌝ }
-    {
-        journal::lookup(journal, self.booked, job as usize)
     }
 
     // The job goes to the end of the arrival order, unless it is there.
@@ -120,6 +116,7 @@ impl Ledger {
     {
         let v = vault as usize;
         let j = job as usize;
+        let votes = self.votes[j];
         match change {
             Change::Nothing => self,
             Change::Book => {
@@ -128,20 +125,16 @@ impl Ledger {
             }
             Change::Sign(state) => {
                 self.vaults[v] = state;
-                self.signatures[j] = sets::vaults::with(self.signatures[j], vault);
+                self.votes[j] = votes.with(Column::Signatures, vault);
                 self
             }
             Change::Hold(state) => {
                 self.vaults[v] = state;
-                self.acknowledgements[j] = sets::vaults::with(self.acknowledgements[j], vault);
+                self.votes[j] = votes.with(Column::Acknowledgements, vault);
                 self.arrive(job)
             }
-            Change::RecordSignature => {
-                self.signatures[j] = sets::vaults::with(self.signatures[j], vault);
-                self
-            }
-            Change::RecordAcknowledgement => {
-                self.acknowledgements[j] = sets::vaults::with(self.acknowledgements[j], vault);
+            Change::Record(column) => {
+                self.votes[j] = votes.with(column, vault);
                 self
             }
         }

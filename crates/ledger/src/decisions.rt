@@ -28,11 +28,15 @@ ghost use Rattle.ledger.specs.Decisions.{
 ghost use Rattle.ledger.specs.Given.{Aged, Known, Searchable};
 ghost use Rattle.ledger.specs.Holders.{isHeld};
 ghost use Rattle.ledger.specs.Steps.{gateOf};
+ghost use Rattle.ledger.specs.Votes.{columnOf};
+ghost use Rattle.ledger.specs.declared.Change.the-variants.{Record};
 use crate::Change;
+use crate::Column;
 use crate::Consent;
 use crate::Decision;
 use crate::Signing;
 use crate::Vault;
+use crate::Votes;
 use codec::RECORD;
 use federation::Settings;
 use outcome::Outcome;
@@ -86,11 +90,11 @@ pub fn gate(settings: Settings, vault: u8, faulty: bool, booked: bool) -> Verdic
 }
 
 // A faulty vault's vote.
-pub fn cast(gate: Verdict, votes: u16, vault: u8, change: Change) -> Decision
-    ensures { λ r. ⌜ r ≡ gated gate (voting votes vault change) ⌝ }
+pub fn cast(gate: Verdict, votes: Votes, column: Column, vault: u8) -> Decision
+    ensures { λ r. ⌜ r ≡ gated gate (voting (columnOf column votes) vault (Record column)) ⌝ }
 {
     match gate {
-        Verdict::Pass => vote(votes, vault, change),
+        Verdict::Pass => vote(votes.of(column), vault, Change::Record(column)),
         Verdict::Fail(why) => refuse(why),
     }
 }
@@ -164,17 +168,16 @@ fn certificate(settings: Settings, recorded: u16, signers: u16) -> Verdict
 fn certify(
     settings: Settings,
     state: Vault,
-    recorded: u16,
-    acknowledgers: u16,
+    votes: Votes,
     vault: u8,
     job: usize,
     signers: u16,
 ) -> Decision
-    ensures { λ r. ⌜ r ≡ committing settings state recorded acknowledgers vault job signers ⌝ }
+    ensures { λ r. ⌜ r ≡ committing settings state votes vault job signers ⌝ }
 {
-    let verdict = certificate(settings, recorded, signers);
+    let verdict = certificate(settings, votes.signatures, signers);
     match verdict {
-        Verdict::Pass => state.receive(acknowledgers, vault, job),
+        Verdict::Pass => state.receive(votes.acknowledgements, vault, job),
         Verdict::Fail(why) => refuse(why),
     }
 }
@@ -183,47 +186,38 @@ pub fn commit(
     gate: Verdict,
     settings: Settings,
     state: Vault,
-    recorded: u16,
-    acknowledgers: u16,
+    votes: Votes,
     vault: u8,
     job: usize,
     signers: u16,
 ) -> Decision
-    ensures { λ r. ⌜ r ≡ gated gate (committing settings state recorded acknowledgers vault job signers) ⌝ }
+    ensures { λ r. ⌜ r ≡ gated gate (committing settings state votes vault job signers) ⌝ }
 {
     match gate {
-        Verdict::Pass => certify(
-            settings,
-            state,
-            recorded,
-            acknowledgers,
-            vault,
-            job,
-            signers,
-        ),
+        Verdict::Pass => certify(settings, state, votes, vault, job, signers),
         Verdict::Fail(why) => refuse(why),
     }
 }
 
 // 2 finished, 1 certified, 0 open.
-fn status(settings: Settings, signers: u16, acknowledgers: u16) -> u32
-    ensures { λ r. ⌜ r ≡ statusOf settings signers acknowledgers ⌝ }
+fn status(settings: Settings, votes: Votes) -> u32
+    ensures { λ r. ⌜ r ≡ statusOf settings votes ⌝ }
 {
     let threshold = settings.threshold();
-    if threshold <= sets::vaults::size(acknowledgers) {
+    if threshold <= sets::vaults::size(votes.acknowledgements) {
         return 2;
     }
-    if threshold <= sets::vaults::size(signers) {
+    if threshold <= sets::vaults::size(votes.signatures) {
         return 1;
     }
     0
 }
 
-pub fn show(gate: Verdict, settings: Settings, signers: u16, acknowledgers: u16) -> Decision
-    ensures { λ r. ⌜ r ≡ gated gate (answering (statusOf settings signers acknowledgers)) ⌝ }
+pub fn show(gate: Verdict, settings: Settings, votes: Votes) -> Decision
+    ensures { λ r. ⌜ r ≡ gated gate (answering (statusOf settings votes)) ⌝ }
 {
     match gate {
-        Verdict::Pass => answer(status(settings, signers, acknowledgers)),
+        Verdict::Pass => answer(status(settings, votes)),
         Verdict::Fail(why) => refuse(why),
     }
 }

@@ -1,12 +1,10 @@
-// The custody ledger: the vaults' sets of jobs, the recorded signatures and acknowledgements, and one operation for each
-// kind of step. Every operation takes any arguments and any journal; its promise is one equation with a definition of
-// specs/Steps.antt, refused steps included. A step is decided from small pieces, and what it changes is applied in one place.
+// The custody ledger: the vaults' sets of jobs, the recorded votes, the arrival order; what each kind of step decides, from small pieces, and
+// the one place where what it changes is applied. The crate `operations` has a function for each kind of step on a ledger and a lent journal.
 mod booking;
 mod books;
 pub mod decisions;
-mod indexed;
-mod steps;
 mod vaults;
+mod voting;
 
 use federation::Settings;
 use outcome::Outcome;
@@ -31,14 +29,24 @@ pub struct Signing {
     pub vault: Vault,
 }
 
-// What a step changes: a vault that signs or holds comes back in its new state.
+// The votes on a job: the vaults whose signature of it is recorded, and those whose acknowledgement is.
+pub struct Votes {
+    pub signatures: u16,
+    pub acknowledgements: u16,
+}
+
+pub enum Column {
+    Signatures,
+    Acknowledgements,
+}
+
+// What a step changes: a vault that signs or holds comes back in its new state; of a faulty vault only its vote is recorded.
 pub enum Change {
     Nothing,
     Book,
     Sign(Vault),
     Hold(Vault),
-    RecordSignature,
-    RecordAcknowledgement,
+    Record(Column),
 }
 
 pub struct Decision {
@@ -46,13 +54,12 @@ pub struct Decision {
     pub change: Change,
 }
 
-// signatures and acknowledgements have a set of vaults for each job, order the jobs in the order of their arrival.
+// Votes are kept for each job; order has the jobs in the order of their arrival.
 pub struct Ledger {
     pub settings: Settings,
     pub booked: usize,
     pub arrivals: usize,
-    pub signatures: [u16; 128],
-    pub acknowledgements: [u16; 128],
+    pub votes: [Votes; 128],
     pub order: [u8; 128],
     pub vaults: [Vault; 16],
 }

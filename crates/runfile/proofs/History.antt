@@ -21,7 +21,7 @@ use Rattle.ledger.specs.Meaning.{Proposed, failed, full, insane, known, new}
 use Rattle.ledger.specs.Register.{feedAll, log, newRegister}
 use Rattle.ledger.specs.State.{newLedger}
 use Rattle.ledger.specs.Steps.{journalAfter, journalWith, proposeDecision}
-use Rattle.ledger.specs.Worlds.{Request, World, after as afterEvent, afterAll, commit, faultyAcknowledge, faultySign, generations, leftBy, lend, lent, overlay, preflight, propose, show, start, stepOf}
+use Rattle.ledger.specs.Worlds.{Request, World, after as afterEvent, afterAll, commit, faultyVote, generations, leftBy, lend, lent, overlay, preflight, propose, show, start, stepOf}
 use Rattle.ledger.specs.declared.Decision.{Decision}
 use Rattle.ledger.specs.declared.Ledger.{Ledger}
 use Rattle.runfile.specs.History.{Item, RunKeeps, begun, eventOf, events, itemOf, itemsNext, steps, told, worldOf, worldWith}
@@ -42,8 +42,7 @@ unfolding journalAfter
 left-length l journal (propose bytes) = proposed-length l journal bytes (proposeDecision l journal bytes) (proposed l journal bytes)
 left-length l journal (preflight v k) = refl
 left-length l journal (commit v k signers) = refl
-left-length l journal (faultySign v k) = refl
-left-length l journal (faultyAcknowledge v k) = refl
+left-length l journal (faultyVote c v k) = refl
 left-length l journal (show k) = refl
 left-length l journal (generations k) = refl
 

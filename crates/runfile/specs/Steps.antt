@@ -9,7 +9,8 @@ use Rattle.outcome.specs.declared.Outcome.the-variants.{Refused}
 use Rattle.outcome.specs.declared.Refusal.the-variants.{Unreadable}
 use Rattle.draw.specs.Draw.{drawOf}
 use Rattle.codec.specs.Codec.{recordSize}
-use Rattle.ledger.specs.Worlds.{Request, commit, faultyAcknowledge, faultySign, generations, leftBy, preflight, propose, show, stepOf}
+use Rattle.ledger.specs.declared.Column.the-variants.{Acknowledgements, Signatures}
+use Rattle.ledger.specs.Worlds.{Request, commit, faultyVote, generations, leftBy, preflight, propose, show, stepOf}
 use Rattle.ledger.specs.declared.Ledger.{Ledger}
 use Rattle.ledger.specs.declared.Reply.{Reply}
 use Rattle.runfile.specs.declared.Kind.{Kind}
@@ -55,8 +56,8 @@ abbrev pub commandIn : Kind → List ℕ → ℕ → Command
 commandIn Propose input at = request (propose (take recordSize (drop at input)))
 commandIn Preflight input at = request (preflight (getD input at 0) (getD input (at + 1) 0))
 commandIn Commit input at = request (commit (getD input at 0) (getD input (at + 1) 0) (wordAt input (at + 2)))
-commandIn FaultySign input at = request (faultySign (getD input at 0) (getD input (at + 1) 0))
-commandIn FaultyAcknowledge input at = request (faultyAcknowledge (getD input at 0) (getD input (at + 1) 0))
+commandIn FaultySign input at = request (faultyVote Signatures (getD input at 0) (getD input (at + 1) 0))
+commandIn FaultyAcknowledge input at = request (faultyVote Acknowledgements (getD input at 0) (getD input (at + 1) 0))
 commandIn Show input at = request (show (getD input at 0))
 commandIn Draw input at = draw (getD input at 0)
 commandIn Generations input at = request (generations (getD input at 0))

@@ -1,8 +1,10 @@
 // Each kind of step, carried out and printed.
 ghost use mathlib.Core.Path.{_≡_};
-ghost use Rattle.ledger.specs.Steps.{commitOf, faultyAcknowledgeOf, faultySignOf, journalAfter, preflightOf, proposeOf};
+ghost use Rattle.ledger.specs.Steps.{commitOf, faultyVoteOf, journalAfter, preflightOf, proposeOf};
+ghost use Rattle.ledger.specs.declared.Column.the-variants.{Acknowledgements, Signatures};
 ghost use Rattle.codec.specs.Codec.{written};
 ghost use lib.ListN.{replicate};
+use ledger::Column;
 use ledger::Ledger;
 use ledger::Reply;
 use libc::STDOUT_FILENO;
@@ -56,7 +58,7 @@ pub fn propose(l: Ledger, journal: &mut [u8], name: &[u8], job: Job) -> Ledger
 {
     let mut bytes = [0u8; 100];
     codec::write(job, &mut bytes);
-    let reply = l.propose(journal, &bytes);
+    let reply = operations::propose(l, journal, &bytes);
     io::write_all(STDOUT_FILENO, b"propose.");
     report(name, reply)
 }
@@ -65,7 +67,7 @@ pub fn preflight(l: Ledger, journal: &[u8], vault: u8, job: u8) -> Ledger
     ensures { λ r. ⌜ r ≡ preflightOf l (now (journal .entry)) vault job .ledger ⌝ }
 {
     named(b"preflight", vault, job);
-    report(b"", l.preflight(journal, vault, job))
+    report(b"", operations::preflight(l, journal, vault, job))
 }
 
 pub fn commit(l: Ledger, journal: &[u8], vault: u8, job: u8, signers: u16) -> Ledger
@@ -73,40 +75,46 @@ pub fn commit(l: Ledger, journal: &[u8], vault: u8, job: u8, signers: u16) -> Le
 {
     named(b"commit", vault, job);
     argument(signers as u64);
-    report(b"", l.commit(journal, vault, job, signers))
+    report(b"", operations::commit(l, journal, vault, job, signers))
 }
 
 pub fn sign(l: Ledger, journal: &[u8], vault: u8, job: u8) -> Ledger
-    ensures { λ r. ⌜ r ≡ faultySignOf l (now (journal .entry)) vault job .ledger ⌝ }
+    ensures { λ r. ⌜ r ≡ faultyVoteOf l (now (journal .entry)) Signatures vault job .ledger ⌝ }
 {
     named(b"faulty-sign", vault, job);
-    report(b"", l.faulty_sign(journal, vault, job))
+    report(
+        b"",
+        operations::faulty_vote(l, journal, Column::Signatures, vault, job),
+    )
 }
 
 pub fn acknowledge(l: Ledger, journal: &[u8], vault: u8, job: u8) -> Ledger
-    ensures { λ r. ⌜ r ≡ faultyAcknowledgeOf l (now (journal .entry)) vault job .ledger ⌝ }
+    ensures { λ r. ⌜ r ≡ faultyVoteOf l (now (journal .entry)) Acknowledgements vault job .ledger ⌝ }
 {
     named(b"faulty-acknowledge", vault, job);
-    report(b"", l.faulty_acknowledge(journal, vault, job))
+    report(
+        b"",
+        operations::faulty_vote(l, journal, Column::Acknowledgements, vault, job),
+    )
 }
 
 pub fn show(l: Ledger, journal: &[u8], job: u8) {
     io::write_all(STDOUT_FILENO, b"show");
     argument(job as u64);
-    line(b"", l.show(journal, job));
+    line(b"", operations::show(l, journal, job));
 }
 
 pub fn generations(l: Ledger, journal: &[u8], job: u8) {
     io::write_all(STDOUT_FILENO, b"generations");
     argument(job as u64);
-    line(b"", l.generations(journal, job));
+    line(b"", operations::generations(l, journal, job));
 }
 
 // The length of the part shown, and the frames of its first output.
 pub fn lookup(l: Ledger, journal: &[u8], job: u8) {
     io::write_all(STDOUT_FILENO, b"lookup");
     argument(job as u64);
-    let part = l.lookup(journal, job);
+    let part = operations::lookup(l, journal, job);
     figures(
         part.len() as u64,
         record::frames(codec::read(part), 4) as u64,

@@ -1,6 +1,6 @@
 use Rattle.ledger.proofs.Ledger.apply.Statement.{statement}
 use Rattle.ledger.proofs.Ledger.apply.Tie as tie
-use Rattle.ledger.specs.State.{acknowledged, acknowledgersOf, applied, booking, countersigned, signersOf, withVault}
+use Rattle.ledger.specs.State.{applied, booking, voted, withVault}
 use borrow.Author.Needs.{needs}
 
 returns : tie.Need-returns
@@ -12,20 +12,45 @@ unfolding applied booking
 returns-2 c = simp (c .enum-told2 .given .1)
 
 returns-3 : tie.Need-returns-3
-unfolding applied countersigned signersOf withVault
-returns-3 c = simp (c .before .before .before .change .given .1, c .with .ensures)
+unfolding applied voted withVault
+returns-3 c = simp (c .before .before .change .given .1, c .with .ensures)
 
 returns-4 : tie.Need-returns-4
-unfolding applied acknowledged acknowledgersOf withVault
-returns-4 c = simp (c .before .before .before .before .change2 .given .1, c .arrive .ensures, c .before .with2 .ensures)
+unfolding applied voted withVault
+returns-4 c = simp (c .before .before .before .change2 .given .1, c .arrive .ensures, c .before .with2 .ensures)
 
 returns-5 : tie.Need-returns-5
-unfolding applied countersigned signersOf
-returns-5 c = simp (c .before .before .enum-told3 .given .1, c .with3 .ensures)
-
-returns-6 : tie.Need-returns-6
-unfolding applied acknowledged acknowledgersOf
-returns-6 c = simp (c .before .before .enum-told4 .given .1, c .with4 .ensures)
+unfolding applied voted
+returns-5 c = simp (c .before .before .change3 .given .1, c .with3 .ensures)
 
 pub apply-spec : {M : Type 1} → statement M
-apply-spec = tie.close (tie.spec (λ c. search needs) (λ c. search needs) (λ c. search needs) (λ c. search needs) (λ c. search needs) (λ c. search needs) (λ c. search needs) (λ c. search needs) (λ c κs. search needs) (λ c. search needs) (λ c. search needs) (λ c. search needs) (λ c. search needs) (λ c. search needs) (λ c. search needs) (λ c. search needs) (λ c κs. search needs) (λ c. search needs) (λ c. search needs) (λ c κs. search needs) (λ c. search needs) (λ c. search needs) (λ c. search needs) (λ c κs. search needs) (λ c. search needs) (λ c. search needs) (λ c. search needs) (λ c. search needs) (λ c. search needs) (λ c κs. search needs) (λ c. search needs) (λ c. search needs) returns returns-2 returns-3 returns-4 returns-5 returns-6)
+apply-spec =
+    tie.close
+    (tie.spec
+    (λ c. search needs)
+    (λ c. search needs)
+    (λ c. search needs)
+    (λ c. search needs)
+    (λ c. search needs)
+    (λ c. search needs)
+    (λ c. search needs)
+    (λ c. search needs)
+    (λ c κs. search needs)
+    (λ c. search needs)
+    (λ c. search needs)
+    (λ c. search needs)
+    (λ c. search needs)
+    (λ c. search needs)
+    (λ c κs. search needs)
+    (λ c. search needs)
+    (λ c. search needs)
+    (λ c κs. search needs)
+    (λ c. search needs)
+    (λ c κs. search needs)
+    (λ c. search needs)
+    (λ c. search needs)
+    returns
+    returns-2
+    returns-3
+    returns-4
+    returns-5)

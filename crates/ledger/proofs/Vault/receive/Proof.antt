@@ -13,4 +13,13 @@ unfolding receiving
 returns-2 c = simp (sym (c .before .before .before .has .ensures) ∙ c .before .before .if1 .left, c .vote .ensures, c .before .commit .ensures)
 
 pub receive-spec : {M : Type 1} → statement M
-receive-spec = tie.close (tie.spec (λ c κs. search needs) (λ c κs. search needs) (λ c κs. search needs) returns (λ c κs. search needs) (λ c κs. search needs) returns-2)
+receive-spec =
+    tie.close
+    (tie.spec
+    (λ c κs. search needs)
+    (λ c κs. search needs)
+    (λ c κs. search needs)
+    returns
+    (λ c κs. search needs)
+    (λ c κs. search needs)
+    returns-2)

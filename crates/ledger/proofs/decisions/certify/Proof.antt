@@ -12,4 +12,13 @@ unfolding committing
 returns-2 c = simp (← c .before .before .before .before .certificate .ensures, c .before .before .verdict .given .1) (c .refuse .ensures)
 
 pub certify-spec : {M : Type 1} → statement M
-certify-spec = tie.close (tie.spec (λ c κs. search needs) (λ c. search needs) (λ c κs. search needs) (λ c. search needs) (λ c κs. search needs) returns returns-2)
+certify-spec =
+    tie.close
+    (tie.spec
+    (λ c κs. search needs)
+    (λ c. search needs)
+    (λ c κs. search needs)
+    (λ c. search needs)
+    (λ c κs. search needs)
+    returns
+    returns-2)

@@ -14,4 +14,14 @@ unfolding preflighting admissionAt
 returns-2 c = simp (← c .before .before .without .ensures, ← c .before .admission .ensures) (c .consent .ensures)
 
 pub consult-spec : {M : Type 1} → statement M
-consult-spec = tie.close (tie.spec (λ c κs. search needs) (λ c κs. search needs) (λ c κs. search needs) returns (λ c κs. search needs) (λ c κs. search needs) (λ c κs. search needs) returns-2)
+consult-spec =
+    tie.close
+    (tie.spec
+    (λ c κs. search needs)
+    (λ c κs. search needs)
+    (λ c κs. search needs)
+    returns
+    (λ c κs. search needs)
+    (λ c κs. search needs)
+    (λ c κs. search needs)
+    returns-2)

@@ -13,4 +13,13 @@ unfolding ageing
 returns-2 c = record { decision = simp (sym (c .before .before .is-held .ensures) ∙ c .before .if1 .left) (c .refuse .ensures); right = c .before .before .before .before .before .before .before .before .pre .1 .right; size = c .before .before .before .before .before .before .before .before .pre .1 .size }
 
 pub generations-spec : {M : Type 1} → statement M
-generations-spec = tie.close (tie.spec (λ c κs. search needs) (λ c κs. search needs) (λ c κs. search needs) (λ c. search needs) returns (λ c κs. search needs) returns-2)
+generations-spec =
+    tie.close
+    (tie.spec
+    (λ c κs. search needs)
+    (λ c κs. search needs)
+    (λ c κs. search needs)
+    (λ c. search needs)
+    returns
+    (λ c κs. search needs)
+    returns-2)

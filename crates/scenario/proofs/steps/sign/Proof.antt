@@ -6,7 +6,7 @@ use Rattle.scenario.proofs.steps.sign.Statement.{statement}
 use Rattle.scenario.proofs.steps.sign.Tie as tie
 
 returns : tie.Need-returns
-returns c = c .report .ensures ∙ ap (λ (x : Reply). x .ledger) (c .before .faulty-sign .ensures)
+returns c = c .report .ensures ∙ ap (λ (x : Reply). x .ledger) (c .before .faulty-vote .ensures)
 
 pub sign-spec : {M : Type 1} → statement M
 sign-spec = tie.close (tie.spec (λ c. search needs) (λ c κs. search needs) (λ c. search needs) (λ c κs. search needs) (λ c κs. search needs) returns)

@@ -1,0 +1,75 @@
+// What the operations share: the checks before a step, and the two ways of a step, carried out or turned back.
+ghost use mathlib.Core.Path.{_≡_};
+ghost use Rattle.ledger.specs.Given.{Placed, Writable};
+ghost use Rattle.ledger.specs.Steps.{bookedGate, carried, journalWith, turned, vaultGate};
+use ledger::Change;
+use ledger::Decision;
+use ledger::Ledger;
+use ledger::Reply;
+use ledger::decisions;
+use outcome::Outcome;
+use outcome::Refusal;
+use outcome::Verdict;
+
+// Checks 1 and 4.
+pub(crate) fn booked_gate(ledger: Ledger, journal: &[u8], job: u8) -> Verdict
+    ensures { λ r. ⌜ r ≡ bookedGate ledger (now (journal .entry)) job ⌝ }
+{
+    if ledger.is_sane() {
+        if journal::is_booked(journal, ledger.booked, job as usize) {
+            return Verdict::Pass;
+        }
+        return Verdict::Fail(Refusal::NotBooked);
+    }
+    Verdict::Fail(Refusal::Settings)
+}
+
+// Checks 1, 3, 5 and 4, of a step that is for faulty vaults or for correct ones.
+pub(crate) fn vault_gate(
+    ledger: Ledger,
+    journal: &[u8],
+    vault: u8,
+    job: u8,
+    faulty: bool,
+) -> Verdict
+    ensures { λ r. ⌜ r ≡ vaultGate ledger (now (journal .entry)) vault job faulty ⌝ }
+{
+    if ledger.is_sane() {
+        let settings = ledger.settings;
+        let booked = journal::is_booked(journal, ledger.booked, job as usize);
+        return decisions::gate(settings, vault, faulty, booked);
+    }
+    Verdict::Fail(Refusal::Settings)
+}
+
+pub(crate) fn carry(ledger: Ledger, decision: Decision, vault: u8, job: u8) -> Reply
+    requires { ⌜ Placed ledger vault job ⌝ }
+    ensures { λ r. ⌜ r ≡ carried ledger decision vault job ⌝ }
+{
+    let outcome = decision.outcome;
+    let change = decision.change;
+    Reply {
+        outcome,
+        ledger: ledger.apply(change, vault, job),
+    }
+}
+
+pub(crate) fn turn_back(ledger: Ledger, why: Refusal) -> Reply
+    ensures { λ r. ⌜ r ≡ turned ledger why ⌝ }
+{
+    Reply {
+        outcome: Outcome::Refused(why),
+        ledger,
+    }
+}
+
+// A new record's bytes are put after the booked ones; no other change touches the journal.
+pub(crate) fn write(change: Change, journal: &mut [u8], booked: usize, bytes: &[u8])
+    requires { ⌜ Writable change booked (now journal) (now bytes) ⌝ }
+    ensures { λ _. ⌜ now (journal .exit) ≡ journalWith change booked (now (journal .entry)) (now (bytes .entry)) ⌝ }
+{
+    if change.is_book() {
+        journal::put_at(journal, booked, bytes);
+        return;
+    }
+}

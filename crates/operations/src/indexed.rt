@@ -1,0 +1,84 @@
+// Steps that look into the index: it is made of the lent journal at once, and they decide as the run does.
+ghost use mathlib.Core.Path.{_≡_};
+ghost use Prim.Native.Nat.{_≤_};
+ghost use lib.ListN.{length};
+ghost use Rattle.generations.specs.Generations.{ageIn};
+ghost use Rattle.journal.specs.Journal.{Booked, jobAt};
+ghost use Rattle.ledger.specs.Decisions.{ageing, preflighting, proposal};
+ghost use Rattle.ledger.specs.Holders.{isHeld};
+use federation::Settings;
+use ledger::Decision;
+use ledger::Vault;
+use ledger::decisions;
+use outcome::Verdict;
+
+pub(crate) fn propose(journal: &[u8], booked: usize, bytes: &[u8]) -> Decision
+    requires { ⌜ booked ≤ 128 ⌝ }
+    ensures { λ r. ⌜ r ≡ proposal (now (journal .entry)) booked (now (bytes .entry)) ⌝ }
+{
+    let mut numbers = [0u16; index::NUMBERS];
+    let mut sets = [0u64; index::SETS];
+    let mut records = [0u16; index::RECORDS];
+    let inside = journal::inside(journal, booked);
+    index::build(&mut numbers, &mut sets, &mut records, journal, inside);
+    decisions::propose(&records, journal, booked, bytes)
+}
+
+pub(crate) fn preflight(
+    state: Vault,
+    journal: &[u8],
+    booked: usize,
+    signers: u16,
+    vault: u8,
+    job: usize,
+) -> Decision
+    requires { ⌜ (booked ≤ 128) × Booked (now journal) booked job ⌝ }
+    ensures { λ r. ⌜ r ≡ preflighting state (now (journal .entry)) booked signers vault job ⌝ }
+{
+    let mut numbers = [0u16; index::NUMBERS];
+    let mut sets = [0u64; index::SETS];
+    let mut records = [0u16; index::RECORDS];
+    index::build(&mut numbers, &mut sets, &mut records, journal, booked);
+    decisions::preflight(
+        Verdict::Pass,
+        state,
+        &numbers,
+        &sets,
+        journal,
+        booked,
+        signers,
+        vault,
+        job,
+    )
+}
+
+pub(crate) fn generations(
+    settings: Settings,
+    vaults: [Vault; 16],
+    order: &[u8],
+    arrivals: usize,
+    journal: &[u8],
+    booked: usize,
+    job: usize,
+) -> Decision
+    requires { ⌜ (settings .n ≤ 16) × (arrivals ≤ 128) × (length (now order) ≡ 128) × (booked ≤ 128) × Booked (now journal) booked job ⌝ }
+    ensures { λ r. ⌜ r ≡ ageing (isHeld settings vaults job) (ageIn (jobAt (now (journal .entry)) booked) (now (order .entry)) arrivals job) ⌝ }
+{
+    let mut numbers = [0u16; index::NUMBERS];
+    let mut sets = [0u64; index::SETS];
+    let mut records = [0u16; index::RECORDS];
+    let mut memo = [0u8; journal::CAPACITY];
+    index::build(&mut numbers, &mut sets, &mut records, journal, booked);
+    decisions::generations(
+        settings,
+        vaults,
+        order,
+        arrivals,
+        &numbers,
+        &sets,
+        journal,
+        booked,
+        &mut memo,
+        job,
+    )
+}

@@ -1,0 +1,146 @@
+// The product's operations: each kind of step on a ledger and a lent journal, and a record shown. Every operation takes any arguments and any journal; its
+// promise is one equation with a definition of ledger's specs/Steps.antt, refused steps included. Each is its row of checks, the decision that the run makes
+// too, and what it changes applied.
+mod gates;
+mod indexed;
+
+ghost use mathlib.Core.Path.{_≡_};
+ghost use Rattle.journal.specs.Journal.{recordAt};
+ghost use Rattle.ledger.specs.Steps.{
+  commitOf,
+  faultyVoteOf,
+  generationsOf,
+  journalAfter,
+  preflightOf,
+  proposeOf,
+  showOf,
+};
+use ledger::Column;
+use ledger::Ledger;
+use ledger::Reply;
+use ledger::decisions;
+use outcome::Outcome;
+use outcome::Refusal;
+use outcome::Verdict;
+
+// The job's record inside the journal, or the empty part where check 4 fails.
+pub fn lookup(ledger: Ledger, journal: &[u8], job: u8) -> &[u8]
+    ensures { λ r. ⌜ now r ≡ recordAt (now (journal .entry)) (ledger .booked) job ⌝ }
+{
+    journal::lookup(journal, ledger.booked, job as usize)
+}
+
+// Kind 1. The value is the record's number. A new record is written after the booked ones; else the journal stays as it was.
+pub fn propose(ledger: Ledger, journal: &mut [u8], bytes: &[u8]) -> Reply
+    ensures { λ r. ⌜ (r ≡ proposeOf ledger (now (journal .entry)) (now (bytes .entry))) × (now (journal .exit) ≡ journalAfter ledger (now (journal .entry)) (now (bytes .entry))) ⌝ }
+{
+    if ledger.is_sane() {
+        let booked = ledger.booked;
+        let decision = indexed::propose(&journal[..], booked, bytes);
+        let change = decision.change;
+        gates::write(change, journal, booked, bytes);
+        return gates::carry(ledger, decision, 0, 0);
+    }
+    gates::turn_back(ledger, Refusal::Settings)
+}
+
+// Kind 2: a correct vault is asked to sign a job. The value is the job's signatures afterwards.
+pub fn preflight(ledger: Ledger, journal: &[u8], vault: u8, job: u8) -> Reply
+    ensures { λ r. ⌜ r ≡ preflightOf ledger (now (journal .entry)) vault job ⌝ }
+{
+    let gate = gates::vault_gate(ledger, journal, vault, job, false);
+    match gate {
+        Verdict::Pass => {
+            let v = vault as usize;
+            let j = job as usize;
+            let state = ledger.vaults[v];
+            let votes = ledger.votes[j];
+            let decision = indexed::preflight(
+                state,
+                journal,
+                ledger.booked,
+                votes.signatures,
+                vault,
+                j,
+            );
+            gates::carry(ledger, decision, vault, job)
+        }
+        Verdict::Fail(why) => gates::turn_back(ledger, why),
+    }
+}
+
+// Kind 3: a correct vault is handed a job with the set of its signers. The value is the job's acknowledgements afterwards.
+pub fn commit(ledger: Ledger, journal: &[u8], vault: u8, job: u8, signers: u16) -> Reply
+    ensures { λ r. ⌜ r ≡ commitOf ledger (now (journal .entry)) vault job signers ⌝ }
+{
+    let gate = gates::vault_gate(ledger, journal, vault, job, false);
+    match gate {
+        Verdict::Pass => {
+            let v = vault as usize;
+            let j = job as usize;
+            let settings = ledger.settings;
+            let state = ledger.vaults[v];
+            let votes = ledger.votes[j];
+            let decision = decisions::commit(gate, settings, state, votes, vault, j, signers);
+            gates::carry(ledger, decision, vault, job)
+        }
+        Verdict::Fail(why) => gates::turn_back(ledger, why),
+    }
+}
+
+// Kinds 4 and 5: a faulty vault signs, or acknowledges. The value is the job's votes in that column afterwards.
+pub fn faulty_vote(ledger: Ledger, journal: &[u8], column: Column, vault: u8, job: u8) -> Reply
+    ensures { λ r. ⌜ r ≡ faultyVoteOf ledger (now (journal .entry)) column vault job ⌝ }
+{
+    let gate = gates::vault_gate(ledger, journal, vault, job, true);
+    match gate {
+        Verdict::Pass => {
+            let j = job as usize;
+            let votes = ledger.votes[j];
+            let decision = decisions::cast(gate, votes, column, vault);
+            gates::carry(ledger, decision, vault, job)
+        }
+        Verdict::Fail(why) => gates::turn_back(ledger, why),
+    }
+}
+
+// Kind 6: 2 finished, 1 certified, 0 open. Nothing changes.
+pub fn show(ledger: Ledger, journal: &[u8], job: u8) -> Outcome
+    ensures { λ r. ⌜ r ≡ showOf ledger (now (journal .entry)) job ⌝ }
+{
+    let gate = gates::booked_gate(ledger, journal, job);
+    match gate {
+        Verdict::Pass => {
+            let j = job as usize;
+            let settings = ledger.settings;
+            let votes = ledger.votes[j];
+            decisions::show(gate, settings, votes).outcome
+        }
+        Verdict::Fail(why) => Outcome::Refused(why),
+    }
+}
+
+// Kind 8: how many migrations lie between the job and the accessions that its tapes come from. Nothing changes.
+pub fn generations(ledger: Ledger, journal: &[u8], job: u8) -> Outcome
+    ensures { λ r. ⌜ r ≡ generationsOf ledger (now (journal .entry)) job ⌝ }
+{
+    let gate = gates::booked_gate(ledger, journal, job);
+    match gate {
+        Verdict::Pass => {
+            let settings = ledger.settings;
+            let vaults = ledger.vaults;
+            let order = ledger.order;
+            let j = job as usize;
+            indexed::generations(
+                settings,
+                vaults,
+                &order,
+                ledger.arrivals,
+                journal,
+                ledger.booked,
+                j,
+            ).outcome
+        }
+        Verdict::Fail(why) => Outcome::Refused(why),
+    }
+}
