@@ -170,7 +170,8 @@ module _ (r : Register) (k : ℕ) (b : Books r) (h : k < length (r .table)) (a :
   stood-by t (inl m) = let q = b .stands-by t (in-rest t m) in (q .0, (in-left (r .taken) (k ∷ []) (q .0) (q .1 .0), q .1 .1))
   stood-by t (inr m) = (k, (in-last (r .taken) k, m))
 
-  makers : (x : ℕ) → In x (r .made) ⊎ In x (labels (outputTapes j)) → (i : ℕ) × (In i (r .taken ++ (k ∷ [])) × In x (labels (outputTapes (tabled (r .table) i))))
+  makers : (x : ℕ) → In x (r .made) ⊎ In x (labels (outputTapes j))
+      → (i : ℕ) × (In i (r .taken ++ (k ∷ [])) × In x (labels (outputTapes (tabled (r .table) i))))
   makers x (inl m) = let q = b .made-by x m in (q .0, (in-left (r .taken) (k ∷ []) (q .0) (q .1 .0), q .1 .1))
   makers x (inr m) = (k, (in-last (r .taken) k, m))
 
@@ -189,11 +190,13 @@ module _ (r : Register) (k : ℕ) (b : Books r) (h : k < length (r .table)) (a :
       → (i : ℕ) → In i (r .taken ++ (k ∷ [])) → In t (outputTapes (tabled (r .table) i)) → i ≡ c
   only-maker c t m o i n p = one-maker i c (t .label) (in-snoc (r .taken) k i n) (in-snoc (r .taken) k c m) (labelled i t p) (labelled c t o)
 
-  created : (m : ℕ) → In m (r .taken) ⊎ (m ≡ k) → (t : Entry) → In t (inputTapes (tabled (r .table) m)) → OneCreator (tabled (r .table)) (r .taken ++ (k ∷ [])) m t
+  created : (m : ℕ) → In m (r .taken) ⊎ (m ≡ k) → (t : Entry) → In t (inputTapes (tabled (r .table) m))
+      → OneCreator (tabled (r .table)) (r .taken ++ (k ∷ [])) m t
   created m (inl p) t i =
       let o = b .creators m p t i in
       let c = o .made in
-      let here : In (o .creator) (r .taken) = subst (λ (l : List ℕ). In (o .creator) l) (sym (c .split)) (in-left (c .earlier) (m ∷ c .later) (o .creator) (c .before)) in
+      let here : In (o .creator) (r .taken) = subst (λ (l : List ℕ). In (o .creator) l) (sym (c .split))
+      (in-left (c .earlier) (m ∷ c .later) (o .creator) (c .before)) in
       record {
         creator = o .creator;
         made = record {
@@ -242,7 +245,8 @@ module _ (r : Register) (k : ℕ) (b : Books r) (h : k < length (r .table)) (a :
     frames = omega (
       arith,
       total-append (λ (t : Entry). t .frames) rest (outputTapes j),
-      without-total sameTape reflect-tape (λ (t : Entry). t .frames) (inputTapes j) (r .standing) (distinct-map (λ (t : Entry). t .label) (r .standing) (b .once)) inputs-once (a .standing),
+      without-total sameTape reflect-tape (λ (t : Entry). t .frames) (inputTapes j) (r .standing)
+          (distinct-map (λ (t : Entry). t .label) (r .standing) (b .once)) inputs-once (a .standing),
       well-formed .balance,
       b .frames,
     );
@@ -252,7 +256,9 @@ module _ (r : Register) (k : ℕ) (b : Books r) (h : k < length (r .table)) (a :
 pub books-enter : (r : Register) (bytes : List ℕ) → Books r → Books (entering r bytes)
 unfolding entering
 books-enter r bytes b =
-    let e : (k : ℕ) → In k (r .taken) → tabled (r .table ++ (bytes ∷ [])) k ≡ tabled (r .table) k = λ (k : ℕ) (m : In k (r .taken)). ap jobOf (List·getD-append (r .table) (bytes ∷ []) [] k (b .known k m)) in
+    let e : (k : ℕ) → In k (r .taken)
+    → tabled (r .table ++ (bytes ∷ [])) k ≡ tabled (r .table) k = λ (k : ℕ) (m : In k (r .taken)). ap jobOf
+    (List·getD-append (r .table) (bytes ∷ []) [] k (b .known k m)) in
     record {
       known = λ k m. omega (arith, b .known k m, length-append (r .table) (bytes ∷ []));
       stands = λ k t m o n. b .stands k t m (rw (e k m) at o) (λ i p q. n i p (rw (e i p) q));
@@ -263,7 +269,8 @@ books-enter r bytes b =
       creators = λ k m t i.
           let o = b .creators k m t (rw (e k m) at i) in
           let c = o .made in
-          let here : In (o .creator) (r .taken) = subst (λ (l : List ℕ). In (o .creator) l) (sym (c .split)) (in-left (c .earlier) (k ∷ c .later) (o .creator) (c .before)) in
+          let here : In (o .creator) (r .taken) = subst (λ (l : List ℕ). In (o .creator) l) (sym (c .split))
+          (in-left (c .earlier) (k ∷ c .later) (o .creator) (c .before)) in
           record {
             creator = o .creator;
             made = record { earlier = c .earlier; later = c .later; split = c .split; before = c .before; makes = rw (e (o .creator) here) (c .makes) };

@@ -77,7 +77,8 @@ module _ (l : Ledger) (journal : List ℕ) (v k : ℕ) (in-place : Entered l jou
 
   asked : jobHas (vault .signed) k ≡ false
       → preflightDecision l journal v k
-      ≡ (let s = consented (admission jobs (l .booked) (vault .held) (jobWithout (vault .signed) k) (jobs k)) vault k in consenting (s .consent) (s .vault) (signersOf l k) v)
+      ≡ (let s = consented (admission jobs (l .booked) (vault .held) (jobWithout (vault .signed) k) (jobs k)) vault k in consenting (s .consent)
+      (s .vault) (signersOf l k) v)
   unfolding preflightDecision preflighting consent vaultPreflight admissionAt
   asked s = simp (enters l journal v k false in-place, s)
 

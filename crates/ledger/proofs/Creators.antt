@@ -81,9 +81,11 @@ module _ (job : ℕ → Job) (order : List ℕ) (n : ℕ) (long : n ≤ length o
         let q = getD-in (m .earlier) 0 (o .creator) (m .before) in
         let cut = length-append (m .earlier) (k ∷ m .later) in
         let all = ap length (m .split) in
-        let here : getD ks (length (m .earlier)) 0 ≡ k = ap (λ (l : List ℕ). getD l (length (m .earlier)) 0) (m .split) ∙ getD-at (m .earlier) k (m .later) 0 (length (m .earlier)) refl in
+        let here : getD ks (length (m .earlier)) 0 ≡ k = ap (λ (l : List ℕ). getD l (length (m .earlier)) 0) (m .split)
+        ∙ getD-at (m .earlier) k (m .later) 0 (length (m .earlier)) refl in
         let inside : length (m .earlier) < n = omega (arith, size, cut, all) in
-        let stands : length (m .earlier) ≡ p = same-place (length (m .earlier)) p inside below (sym (getD-take n order (length (m .earlier)) 0 inside) ∙ here) in
+        let stands : length (m .earlier) ≡ p = same-place (length (m .earlier)) p inside below
+        (sym (getD-take n order (length (m .earlier)) 0 inside) ∙ here) in
         record {
           position = q .0;
           earlier = omega (arith, q .1, stands);
@@ -162,7 +164,8 @@ module _ {w : World} {r : Register} (inv : Inv w r) where
   creators-of : (k : ℕ) → In k (arrived (w .ledger)) → (t : Entry) → In t (inputTapes (bookedJob w k)) → OneCreator (bookedJob w) (arrived (w .ledger)) k t
   creators-of =
       subst (λ (l : List ℕ). (k : ℕ) → In k l → (t : Entry) → In t (inputTapes (bookedJob w k)) → OneCreator (bookedJob w) l k t) (inv .taken)
-      (subst (λ (table : List (List ℕ)). (k : ℕ) → In k (r .taken) → (t : Entry) → In t (inputTapes (tabled table k)) → OneCreator (tabled table) (r .taken) k t)
+      (subst (λ (table : List (List ℕ)). (k : ℕ) → In k (r .taken) → (t : Entry) → In t (inputTapes (tabled table k)) → OneCreator (tabled table)
+      (r .taken) k t)
       (inv .table) (inv .books .creators))
 
   inv-creators : (k : ℕ) → In k (arrived (w .ledger)) → ByCreators (bookedJob w) (arrived (w .ledger)) (ageAt w) k

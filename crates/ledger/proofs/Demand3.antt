@@ -151,7 +151,8 @@ module _ (n b faulty : ℕ) where
 -- ---- what the invariant says
 module _ {w : World} {r : Register} (i : Inv w r) where
   -- a quorum of acknowledgements has a correct vault in it, which holds the job; so the job is certified
-  finished-certified : (k : ℕ) → thresholdOf (w .ledger .settings) ≤ ones (acknowledgersOf (w .ledger) k) → thresholdOf (w .ledger .settings) ≤ ones (signersOf (w .ledger) k)
+  finished-certified : (k : ℕ) → thresholdOf (w .ledger .settings) ≤ ones (acknowledgersOf (w .ledger) k)
+      → thresholdOf (w .ledger .settings) ≤ ones (signersOf (w .ledger) k)
   unfolding votedAt
   finished-certified k a =
       let below = i .shape .votes-below Acknowledgements k in
@@ -186,7 +187,8 @@ pub never-ones : (es : List Event) (w : World) (r : Register) → Inv w r → (o
 never-ones [] w r i o m = absurd m
 never-ones (e ∷ es) w r i o m =
     ⊎-elim
-    (λ (q : o ≡ replyTo w e .outcome). λ (x : numberOf o ≡ 1). never-one (w .ledger) (lent w e) (reflect-sane (w .ledger) .complete (shape-sane (i .shape))) (e .request) (ap numberOf (sym q) ∙ x))
+    (λ (q : o ≡ replyTo w e .outcome). λ (x : numberOf o ≡ 1). never-one (w .ledger) (lent w e)
+    (reflect-sane (w .ledger) .complete (shape-sane (i .shape))) (e .request) (ap numberOf (sym q) ∙ x))
     (λ (n : In o (outcomes (after w e) es)). never-ones es (after w e) (feed r (e .request) (isDone (replyTo w e .outcome))) (kept w r i e) o n)
     m
 

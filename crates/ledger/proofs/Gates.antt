@@ -74,7 +74,13 @@ pub enters : (l : Ledger) (journal : List ℕ) (v job : ℕ) (faulty : Bool) →
     → vaultGate l journal v job faulty ≡ Pass
 unfolding vaultGate gateOf
 enters l journal v job faulty h =
-    simp (reflect-sane l .complete (h .sane), lt-ltb _ _ (h .vault), reflect-beq _ _ .complete (h .role), reflect-booked journal (l .booked) job .complete (h .known))
+    simp (
+      reflect-sane l .complete (h .sane),
+      lt-ltb _ _ (h .vault),
+      reflect-beq _ _ .complete (h .role),
+      reflect-booked journal
+          (l .booked) job .complete (h .known),
+    )
 
 -- ---- what a step may rely on behind its gate
 module _ (l : Ledger) (journal : List ℕ) (v job : ℕ) (faulty : Bool) where
@@ -127,7 +133,8 @@ module _ (l : Ledger) where
   pub sane-booked : (r : Bool) → r ≡ isSane l → r ≡ true → l .booked ≤ capacity
   sane-booked r p q = reflect-sane l .sound (sym p ∙ q) .booked
 
-pub ruleset entering = (placed, placed-vault, placed-job, placed-few, placed-known, known-job, known-booked, known-few, known-arrivals, known-vaults, sane-placed, sane-booked)
+pub ruleset entering =
+    (placed, placed-vault, placed-job, placed-few, placed-known, known-job, known-booked, known-few, known-arrivals, known-vaults, sane-placed, sane-booked)
 
 -- ---- the two ways of a step: its gate passes and what was decided is carried, or its gate fails
 module _ (l : Ledger) (v job : ℕ) where

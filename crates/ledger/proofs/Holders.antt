@@ -42,7 +42,8 @@ module _ (s : Settings) (votes : Votes) where
   unfolding statusOf
   status-means = by _ finished? _ certified?
     where
-      by : (a : Bool) → Reflects a (Quorum s (votes .acknowledgements)) → (c : Bool) → Reflects c (Quorum s (votes .signatures)) → Status s votes (cond a 2 (cond c 1 0))
+      by : (a : Bool) → Reflects a (Quorum s (votes .acknowledgements)) → (c : Bool) → Reflects c (Quorum s (votes .signatures))
+          → Status s votes (cond a 2 (cond c 1 0))
       by true p c q = finished (p .sound refl)
       by false p true q = certified (refuted p refl) (q .sound refl)
       by false p false q = uncertified (refuted p refl) (refuted q refl)

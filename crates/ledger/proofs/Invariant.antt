@@ -65,7 +65,8 @@ use Rattle.federation.specs.declared.Settings.{Settings}
 
 pub record Inv (w : World) (r : Register) : Type 0 where
   pub shape : Shape (w .ledger) (w .booked)
-  pub safe : Safe (w .ledger .settings) (w .ledger .booked) (tabled (r .table)) (heldAt (w .ledger)) (signedAt (w .ledger)) (recordedAt (w .ledger)) (ackedAt (w .ledger)) (signersOf (w .ledger))
+  pub safe : Safe (w .ledger .settings) (w .ledger .booked) (tabled (r .table)) (heldAt (w .ledger)) (signedAt (w .ledger)) (recordedAt (w .ledger))
+      (ackedAt (w .ledger)) (signersOf (w .ledger))
   pub fit : (x : List ℕ) → In x (r .table) → examined x ≡ Pass
   pub books : Books r
   pub running : r .running ≡ true
@@ -251,10 +252,13 @@ module _ {w : World} {r : Register} (i : Inv w r) where
 
     safe-next : Safe (next .settings) (next .booked) job (heldAt next) (signedAt next) (recordedAt next) (ackedAt next) (signersOf next)
     safe-next =
-        subst (λ (s : Settings). Safe s (next .booked) job (heldAt next) (signedAt next) (recordedAt next) (ackedAt next) (signersOf next)) (sym (hold-settings l v k))
+        subst (λ (s : Settings). Safe s (next .booked) job (heldAt next) (signedAt next) (recordedAt next) (ackedAt next) (signersOf next))
+        (sym (hold-settings l v k))
         (subst (λ (n : ℕ). Safe (l .settings) n job (heldAt next) (signedAt next) (recordedAt next) (ackedAt next) (signersOf next)) (sym (hold-booked l v k))
-        (subst (λ (f : ℕ → ℕ → Bool). Safe (l .settings) (l .booked) job (heldAt next) f (recordedAt next) (ackedAt next) (signersOf next)) (sym (hold-signed l v k))
-        (subst (λ (f : ℕ → ℕ → Bool). Safe (l .settings) (l .booked) job (heldAt next) (signedAt l) f (ackedAt next) (signersOf next)) (sym (hold-recorded l v k))
+        (subst (λ (f : ℕ → ℕ → Bool). Safe (l .settings) (l .booked) job (heldAt next) f (recordedAt next) (ackedAt next) (signersOf next))
+        (sym (hold-signed l v k))
+        (subst (λ (f : ℕ → ℕ → Bool). Safe (l .settings) (l .booked) job (heldAt next) (signedAt l) f (ackedAt next) (signersOf next))
+        (sym (hold-recorded l v k))
         (subst (λ (f : ℕ → ℕ). Safe (l .settings) (l .booked) job (heldAt next) (signedAt l) (recordedAt l) (ackedAt next) f) (sym (hold-signers l v k))
         (safe-hold (i .safe) v k hk quorum grown (hold-acked l v k (omega (arith, i .shape .votes, is-job k hk)) (is-vault v (c .below))))))))
 
@@ -295,9 +299,11 @@ module _ {w : World} {r : Register} (i : Inv w r) where
       table = table-next;
       unique = i .unique;
       taken = ap (λ (t : List ℕ). t ++ (k ∷ [])) (i .taken)
-          ∙ sym (hold-first l v k (refutes (reflect-arrived l k order-long) (λ m. new (subst (λ (x : List ℕ). In k x) (sym (i .taken)) m))) (space k hk quorum new) (omega (arith, space k hk quorum new, i .shape .order)));
+          ∙ sym (hold-first l v k (refutes (reflect-arrived l k order-long) (λ m. new (subst (λ (x : List ℕ). In k x) (sym (i .taken)) m)))
+          (space k hk quorum new) (omega (arith, space k hk quorum new, i .shape .order)));
       once = distinct-snoc (r .taken) k (i .once) new;
-      taken-held = λ n x. ⊎-elim (λ (m : In n (r .taken)). still-held n (i .taken-held n m)) (λ (e : n ≡ k). subst (λ (z : ℕ). Held next z) (sym e) now-held) (in-snoc (r .taken) k n x);
+      taken-held = λ n x. ⊎-elim (λ (m : In n (r .taken)). still-held n (i .taken-held n m)) (λ (e : n ≡ k). subst (λ (z : ℕ). Held next z) (sym e) now-held)
+          (in-snoc (r .taken) k n x);
       held-taken = λ u n t. ⊎-elim
           (λ (o : heldAt l u n ≡ true). in-left (r .taken) (k ∷ []) n (i .held-taken u n o))
           (λ e. subst (λ (z : ℕ). In z (r .taken ++ (k ∷ []))) (sym (e .1)) (in-last (r .taken) k))
@@ -316,13 +322,18 @@ module _ {w : World} {r : Register} (i : Inv w r) where
         by true e = inv-again (taken? .sound e)
         by false e =
             let new : In k (r .taken) → ⊥ = refuted taken? e in
-            simp (lt-ltb k (length (r .table)) (omega (arith, table-length i)), reflect-admissible r (getD (r .table) k []) .complete (can-take k hk quorum new)) (inv-first new)
+            simp (
+              lt-ltb k (length (r .table)) (omega (arith, table-length i)),
+              reflect-admissible r (getD (r .table) k []) .complete
+                  (can-take k hk quorum new),
+            ) (inv-first new)
 
   -- ---- a request answered 0 that changes nothing
   inv-idle : (q : Request) → Idle w q → Inv w (feedDone r q)
   unfolding feedProposal feedCommit heldAt
   inv-idle (propose bytes) m =
-      simp (any-in (λ x. sameList x bytes) (r .table) bytes (subst (λ (t : List (List ℕ)). In bytes t) (sym (i .table)) m) (reflect-same bytes bytes .complete refl)) i
+      simp (any-in (λ x. sameList x bytes) (r .table) bytes (subst (λ (t : List (List ℕ)). In bytes t) (sym (i .table)) m)
+      (reflect-same bytes bytes .complete refl)) i
   inv-idle (preflight v k) m = i
   inv-idle (commit v k signers) m =
       simp (reflect-member k (r .taken) (reflect-eq k) .complete (i .held-taken v k (m .held))) i
@@ -335,7 +346,8 @@ module _ {w : World} {r : Register} (i : Inv w r) where
   unfolding feedProposal
   feeds-new bytes n =
       simp (in-none (λ x. sameList x bytes) (r .table)
-      (λ x m. refutes (reflect-same x bytes) (λ (e : x ≡ bytes). n (subst (λ (t : List (List ℕ)). In bytes t) (i .table) (subst (λ (z : List ℕ). In z (r .table)) e m)))))
+      (λ x m. refutes (reflect-same x bytes)
+      (λ (e : x ≡ bytes). n (subst (λ (t : List (List ℕ)). In bytes t) (i .table) (subst (λ (z : List ℕ). In z (r .table)) e m)))))
 
   -- an answered request is fed to the running register
   fed : (q : Request) (w′ : World) → Inv w′ (feedDone r q) → Inv w′ (feed r q true)

@@ -80,7 +80,8 @@ module _ (job : ℕ → Job) (booked : ℕ) where
         cond a (Fail (NotCreated first11))
         (cond b (Fail (Retired first12)) (cond c (Fail (InputReserved first13)) (cond d (Fail (OutputReserved first14)) Pass)))
 
-    answered : (a b c d : Bool) → ltb first11 8 ≡ a → ltb first12 8 ≡ b → ltb first13 8 ≡ c → ltb first14 8 ≡ d → Admission job booked held others j (answer a b c d)
+    answered : (a b c d : Bool) → ltb first11 8 ≡ a → ltb first12 8 ≡ b → ltb first13 8 ≡ c → ltb first14 8 ≡ d
+        → Admission job booked held others j (answer a b c d)
     unfolding answer
     answered true b c d ea eb ec ed = missing _ (first-sound 8 not-created _ (ltb-true _ _ ea) refl)
     answered false true c d ea eb ec ed =

@@ -113,4 +113,5 @@ module _ (job : ℕ → Job) (booked : ℕ) (held others : JobSet) (j : Job) whe
       (λ i h n. n .1 .1 (a .admissible .frontier _ (input-in i (n .0) (n .1 .0)) .created))
       (λ i h n. a .admissible .frontier _ (input-in i (n .0) (n .1 .0)) .unconsumed (n .1 .1))
       (λ i h n. a .unmarked-inputs (labelOf j i) (in-map (λ (t : Entry). t .label) (inputTapes j) _ (input-in i (n .0) (n .1 .0))) (n .1 .1))
-      (λ i h n. ⊎-elim (a .admissible .fresh (labelOf j i) (output-in i h (n .0) (n .1 .0))) (a .unmarked-outputs (labelOf j i) (output-in i h (n .0) (n .1 .0))) (n .1 .1)))
+      (λ i h n. ⊎-elim (a .admissible .fresh (labelOf j i) (output-in i h (n .0) (n .1 .0)))
+      (a .unmarked-outputs (labelOf j i) (output-in i h (n .0) (n .1 .0))) (n .1 .1)))

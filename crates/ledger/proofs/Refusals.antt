@@ -181,7 +181,8 @@ module _ (l : Ledger) (journal : List ℕ) (sane : isSane l ≡ true) where
   ages b age = either b _ _ (done age) (refuses NotHeld (fails NotHeld refl))
 
   fine : (q : Request) → Fine (stepOf l journal q .outcome)
-  unfolding proposeDecision proposal settling preflightDecision preflighting admissionAt commitDecision committing faultyVoteDecision showDecision generationsDecision
+  unfolding proposeDecision proposal settling preflightDecision preflighting admissionAt commitDecision committing faultyVoteDecision showDecision
+      generationsDecision
   fine (propose bytes) = behind (saneGate l) _ sane-gate (behind (examined bytes) _ (examines bytes) (places _ _ _ _))
   fine (preflight v k) = behind (vaultGate l journal v k false) _ (vault-gate v k false) (consents _ _ _ _ _ (admits _ _ _ _ _))
   fine (commit v k signers) =

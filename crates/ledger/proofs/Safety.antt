@@ -143,7 +143,8 @@ module _ {st : Settings} {booked : ℕ} {job : ℕ → Job} {held signed recorde
         s .apart v i k (s .backs v i (m .correct) (is v i (m .first))) (s .backs v k (m .correct) (is v k (m .second))) ne
 
     -- each input of a certified job was made by a held job
-    pub certified-rooted : (k : ℕ) → thresholdOf st ≤ ones (signers k) → (t : Entry) → In t (inputTapes (job k)) → (v : ℕ) × (Correct st v × Rooted job held v t)
+    pub certified-rooted : (k : ℕ) → thresholdOf st ≤ ones (signers k) → (t : Entry) → In t (inputTapes (job k))
+        → (v : ℕ) × (Correct st v × Rooted job held v t)
     certified-rooted k a t m =
         let q = meeting lawful (signers k) (signers k) (below k) (below k) a a in
         (q .vault, (q .correct, s .rooted (q .vault) k (q .correct) (is (q .vault) k (q .first)) t m))

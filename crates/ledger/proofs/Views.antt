@@ -162,7 +162,8 @@ module _ (l : Ledger) (c : Column) (v k : ℕ) where
 
   pub voted-other : votesIn (voted l c v k) (other c) ≡ votesIn l (other c)
   unfolding votesIn voted
-  voted-other = λ i m. at-store (l .votes) k (withVote c v (votesAt l k)) noVotes (λ u x y. columnOf (other c) y ≡ columnOf (other c) x) (λ u x. refl) (kept c) m i
+  voted-other =
+      λ i m. at-store (l .votes) k (withVote c v (votesAt l k)) noVotes (λ u x y. columnOf (other c) y ≡ columnOf (other c) x) (λ u x. refl) (kept c) m i
     where
       kept : (c : Column) → columnOf (other c) (withVote c v (votesAt l k)) ≡ columnOf (other c) (votesAt l k)
       kept Signatures = refl
@@ -174,7 +175,8 @@ module _ (l : Ledger) (job : ℕ) where
   unfolding arriving
   arrive-again e = simp e
 
-  pub arrive-first : hasArrived (l .order) (l .arrivals) job ≡ false → l .arrivals < 128 → l .arrivals < length (l .order) → arrived (arriving l job) ≡ arrived l ++ (job ∷ [])
+  pub arrive-first : hasArrived (l .order) (l .arrivals) job ≡ false → l .arrivals < 128 → l .arrivals < length (l .order)
+      → arrived (arriving l job) ≡ arrived l ++ (job ∷ [])
   unfolding arriving enqueued
   arrive-first e h h′ = simp (e, lt-leb 128 (l .arrivals) h) (rw add-one (take-suc-set (l .order) (l .arrivals) job h′))
 

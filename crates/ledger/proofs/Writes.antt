@@ -59,7 +59,8 @@ module _ (journal : List ℕ) (booked : ℕ) (bytes : List ℕ) where
       no q = absurd (true≢false (sym (ap isBook q)))
 
       by : (v : Verdict) → examined bytes ≡ v → (a b : Bool) → hasRoom journal booked ≡ b
-          → gated v (cond a (record { outcome = Done (equalIn journal booked bytes); change = Nothing }) (cond b (record { outcome = Done booked; change = Book }) (record { outcome = Refused Full; change = Nothing }))) .change ≡ Book
+          → gated v (cond a (record { outcome = Done (equalIn journal booked bytes); change = Nothing })
+          (cond b (record { outcome = Done booked; change = Book }) (record { outcome = Refused Full; change = Nothing }))) .change ≡ Book
           → (examined bytes ≡ Pass) × (hasRoom journal booked ≡ true)
       by (Fail why) p a b q h = no h
       by Pass p true b q h = no h

@@ -109,7 +109,8 @@ pub record Holds (s : Settings) (w : World) (r : Register) : Type 0 where
   -- generations rest on it
   pub creators : (k : ℕ) → In k (r .taken) → (t : Entry) → In t (inputTapes (tabled (r .table) k)) → OneCreator (tabled (r .table)) (r .taken) k t
   -- a finished job is certified
-  pub certified : (k : ℕ) → thresholdOf (w .ledger .settings) ≤ ones (acknowledgersOf (w .ledger) k) → thresholdOf (w .ledger .settings) ≤ ones (signersOf (w .ledger) k)
+  pub certified : (k : ℕ) → thresholdOf (w .ledger .settings) ≤ ones (acknowledgersOf (w .ledger) k)
+      → thresholdOf (w .ledger .settings) ≤ ones (signersOf (w .ledger) k)
 
 abbrev pub Demand3 : Type 0
 Demand3 =

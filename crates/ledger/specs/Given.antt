@@ -42,7 +42,8 @@ pub record Searchable (journal : List ℕ) (booked : ℕ) (records : List ℕ) :
   pub indexed : IndexedRecords journal (insideOf journal booked) records
 
 -- what kind 8 decides of a booked job, and a memo that stays right
-pub record Aged (s : Settings) (vaults : List Vault) (order : List ℕ) (arrivals : ℕ) (journal : List ℕ) (booked : ℕ) (memo : List ℕ) (job : ℕ) (d : Decision) : Type 0 where
+pub record Aged (s : Settings) (vaults : List Vault) (order : List ℕ) (arrivals : ℕ) (journal : List ℕ) (booked : ℕ) (memo : List ℕ) (job : ℕ)
+    (d : Decision) : Type 0 where
   pub decision : d ≡ ageing (isHeld s vaults job) (ageIn (jobAt journal booked) order arrivals job)
   pub right : Memo (jobAt journal booked) order arrivals memo
   pub size : length memo ≡ capacity

@@ -32,7 +32,8 @@ pub fn lookup(ledger: Ledger, journal: &[u8], job: u8) -> &[u8]
 
 // Kind 1. The value is the record's number. A new record is written after the booked ones; else the journal stays as it was.
 pub fn propose(ledger: Ledger, journal: &mut [u8], bytes: &[u8]) -> Reply
-    ensures { λ r. ⌜ (r ≡ proposeOf ledger (now (journal .entry)) (now (bytes .entry))) × (now (journal .exit) ≡ journalAfter ledger (now (journal .entry)) (now (bytes .entry))) ⌝ }
+    ensures { λ r. ⌜ r ≡ proposeOf ledger (now (journal .entry)) (now (bytes .entry)) ⌝ }
+    ensures { λ _. ⌜ now (journal .exit) ≡ journalAfter ledger (now (journal .entry)) (now (bytes .entry)) ⌝ }
 {
     if ledger.is_sane() {
         let booked = ledger.booked;

@@ -21,8 +21,12 @@ carry-requires c κs = search by
 returns : tie.Need-returns
 unfolding proposeOf journalAfter proposeDecision saneGate
 returns c =
-    let s = sym (c .before .before .before .before .before .before .before .before .is-sane .ensures) ∙ c .before .before .before .before .before .before .before .if1 .taken in
-    (simp (s, ← c .before .before .before .before .before .propose .ensures) (c .carry .ensures), simp (s, ← c .before .before .before .before .before .propose .ensures) (c .before .before .before .write .ensures))
+    let s = sym (c .before .before .before .before .before .before .before .before .is-sane .ensures)
+    ∙ c .before .before .before .before .before .before .before .if1 .taken in (
+      simp (s, ← c .before .before .before .before .before .propose .ensures) (c .carry .ensures),
+      simp
+          (s, ← c .before .before .before .before .before .propose .ensures) (c .before .before .before .write .ensures),
+    )
 
 returns-2 : tie.Need-returns-2
 unfolding proposeOf journalAfter proposeDecision saneGate applied

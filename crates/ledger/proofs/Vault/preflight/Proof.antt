@@ -10,7 +10,8 @@ returns c = simp (sym (c .before .has .ensures) ∙ c .if1 .taken)
 
 returns-2 : tie.Need-returns-2
 unfolding vaultPreflight
-returns-2 c = simp (sym (c .before .before .before .before .has .ensures) ∙ c .before .before .before .if1 .left, c .before .enum-told .given .1, c .sign .ensures)
+returns-2 c =
+    simp (sym (c .before .before .before .before .has .ensures) ∙ c .before .before .before .if1 .left, c .before .enum-told .given .1, c .sign .ensures)
 
 returns-3 : tie.Need-returns-3
 unfolding vaultPreflight

@@ -6,11 +6,26 @@ use mathlib.Core.Path.{_∙_, sym}
 
 returns : tie.Need-returns
 unfolding ageing
-returns c = record { decision = simp (sym (c .before .before .before .before .before .before .is-held .ensures) ∙ c .before .before .before .before .before .if1 .taken, ← c .before .before .before .age .ensures .0) (c .answer .ensures); right = c .before .before .before .age .ensures .1 .0; size = c .before .before .before .age .ensures .1 .1 }
+returns c =
+    record {
+      decision = simp (
+        sym (c .before .before .before .before .before .before .is-held .ensures) ∙
+            c .before .before .before .before .before .if1 .taken,
+        ← c .before .before .before .age .ensures .0,
+      ) (c .answer .ensures);
+      right = c .before .before .before .age .ensures .1 .0;
+      size = c .before .before .before .age .ensures .1 .1;
+    }
 
 returns-2 : tie.Need-returns-2
 unfolding ageing
-returns-2 c = record { decision = simp (sym (c .before .before .is-held .ensures) ∙ c .before .if1 .left) (c .refuse .ensures); right = c .before .before .before .before .before .before .before .before .pre .1 .right; size = c .before .before .before .before .before .before .before .before .pre .1 .size }
+returns-2 c =
+    record {
+      decision = simp (sym (c .before .before .is-held .ensures) ∙ c .before .if1 .left)
+          (c .refuse .ensures);
+      right = c .before .before .before .before .before .before .before .before .pre .1 .right;
+      size = c .before .before .before .before .before .before .before .before .pre .1 .size;
+    }
 
 pub generations-spec : {M : Type 1} → statement M
 generations-spec =

@@ -22,14 +22,24 @@ returns : tie.Need-returns Inv-loop μ-loop
 unfolding isHeld holdsAt
 returns c =
     let s = c .before .before .before .before .before .args in
-    any-found (holdsAt (s .settings) (s .t2) (s .job)) _ (c .before .before .before .before .loop .v) _ (c .before .holds .ensures) (c .if1 .taken) (omega arith)
+    any-found (holdsAt (s .settings) (s .t2) (s .job)) _ (c .before .before .before .before .loop .v) _ (c .before .holds .ensures) (c .if1 .taken)
+    (omega arith)
 
 loop-again : tie.Need-loop-again Inv-loop μ-loop
 unfolding holdsAt
 loop-again c =
     let s = c .before .before .before .before .before .args in
-    let l = c .before .before .before .before .loop in
-    (l .inv .0, (l .inv .1 .0, (omega arith, any-more (holdsAt (s .settings) (s .t2) (s .job)) _ _ (c .before .holds .ensures) (c .if1 .left) (l .inv .1 .1 .1))))
+    let l = c .before .before .before .before .loop in (
+      l .inv .0,
+      (
+        l .inv .1 .0,
+        (
+          omega arith,
+          any-more (holdsAt (s .settings) (s .t2) (s .job)) _ _ (c .before .holds .ensures) (c .if1 .left)
+              (l .inv .1 .1 .1),
+        ),
+      ),
+    )
 
 returns-2 : tie.Need-returns-2 Inv-loop μ-loop
 unfolding isHeld

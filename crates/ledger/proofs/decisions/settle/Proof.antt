@@ -15,7 +15,8 @@ unfolding insideOf
 inside-booked journal booked n e = omega arith
 
 -- the index is that of what lies inside
-searched : (journal : List ℕ) (booked n : ℕ) (records : List ℕ) → n ≡ insideOf journal booked → IndexedRecords journal (insideOf journal booked) records → IndexedRecords journal n records
+searched : (journal : List ℕ) (booked n : ℕ) (records : List ℕ) → n ≡ insideOf journal booked
+    → IndexedRecords journal (insideOf journal booked) records → IndexedRecords journal n records
 searched journal booked n records e i = rw e i
 
 find-requires : tie.Need-find-requires

@@ -6,7 +6,9 @@ use mathlib.Core.Path.{_∙_, sym}
 
 returns : tie.Need-returns
 unfolding vaultGate
-returns c = simp (sym (c .before .before .before .before .is-sane .ensures) ∙ c .before .before .before .if1 .taken, ← c .before .is-booked .ensures) (c .gate .ensures)
+returns c =
+    simp (sym (c .before .before .before .before .is-sane .ensures) ∙ c .before .before .before .if1 .taken, ← c .before .is-booked .ensures)
+    (c .gate .ensures)
 
 returns-2 : tie.Need-returns-2
 unfolding vaultGate

@@ -10,7 +10,10 @@ put-at-requires c κs =
     (c .before .before .before .before .before .pre .room b, c .before .before .before .before .before .pre .size b)
 
 returns : tie.Need-returns
-returns c = let s = c .before .before .before .before .before .before .before .before .args in written (s .change) _ (s .booked) (now (s .journal)) (now (s .bytes)) _ (c .before .before .before .before .before .is-book .ensures) (c .before .before .before .before .if1 .taken) (c .before .before .put-at .ensures)
+returns c =
+    let s = c .before .before .before .before .before .before .before .before .args in
+    written (s .change) _ (s .booked) (now (s .journal)) (now (s .bytes)) _ (c .before .before .before .before .before .is-book .ensures)
+    (c .before .before .before .before .if1 .taken) (c .before .before .put-at .ensures)
 
 returns-2 : tie.Need-returns-2
 returns-2 c =

@@ -10,7 +10,9 @@ build-requires c κs =
     (b .0, b .1, record { no-numbers = refl; no-sets = refl; no-records = refl })
 
 propose-requires : tie.Need-propose-requires
-propose-requires c κs = searchable _ _ _ _ _ _ (c .before .before .before .before .before .before .before .before .before .before .before .pre) (c .before .before .before .before .before .before .before .before .inside .ensures) (c .before .before .before .before .build .ensures)
+propose-requires c κs =
+    searchable _ _ _ _ _ _ (c .before .before .before .before .before .before .before .before .before .before .before .pre)
+    (c .before .before .before .before .before .before .before .before .inside .ensures) (c .before .before .before .before .build .ensures)
 
 pub propose-spec : {M : Type 1} → statement M
 propose-spec =
