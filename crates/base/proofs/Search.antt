@@ -10,7 +10,7 @@ use native.Mathlib.Numerals.{add-one}
 use native.Mathlib.Omega.{arith}
 use lib.Dec.{ltb}
 use borrow.Author.Tests.{le-ltb, ltb-false, not-false, not-true}
-use Rattle.base.proofs.Reflect.{and-true, not-true-false, or-intro, or-true}
+use Rattle.base.proofs.Reflect.{and-true, by-cases, not-true-false, or-intro, or-true}
 use Rattle.base.specs.Reflect.{Reflects}
 use Rattle.base.specs.Search.{Every, Least, Some, allBelow, anyBelow, firstBelow, sumFrom}
 
@@ -80,15 +80,17 @@ module _ (p : ℕ → Bool) where
   search-view : (n : ℕ) → ((i : ℕ) × Least n Passes i) ⊎ (anyBelow n p ≡ false)
   unfolding anyBelow
   search-view zero = inr refl
-  search-view (suc n) = ⊎-elim (λ s. inl (wider s)) (λ none. here (p n) refl none) (search-view n)
+  search-view (suc n) =
+      ⊎-elim
+      (λ s. inl (wider s))
+      (λ none.
+      by-cases (λ b. ((i : ℕ) × Least (suc n) Passes i) ⊎ ((b || anyBelow n p) ≡ false)) (p n)
+      (λ e. inl (n, record { below = le-refl (suc n); has = e; none-before = λ k l t. true≢false (sym t ∙ any-none n none k l) }))
+      (λ e. inr none))
+      (search-view n)
     where
       wider : (i : ℕ) × Least n Passes i → (i : ℕ) × Least (suc n) Passes i
       wider s = (s .0, record { below = omega (arith, s .1 .below); has = s .1 .has; none-before = s .1 .none-before })
-
-      here : (b : Bool) → p n ≡ b → anyBelow n p ≡ false → ((i : ℕ) × Least (suc n) Passes i) ⊎ ((p n || anyBelow n p) ≡ false)
-      here true e none =
-          inl (n, record { below = le-refl (suc n); has = e; none-before = λ k l t. true≢false (sym t ∙ any-none n none k l) })
-      here false e none = inr (simp (e, none))
 
   pub first-least : (n : ℕ) → firstBelow n p < n → Least n Passes (firstBelow n p)
   first-least n l =
