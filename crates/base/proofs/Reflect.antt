@@ -56,6 +56,10 @@ pub not-true-false : (b : Bool) → (b ≡ true → ⊥) → b ≡ false
 not-true-false true h = absurd (h refl)
 not-true-false false h = refl
 
+-- two tests that hold in the same cases
+pub same-truth : (a b : Bool) → (a ≡ true → b ≡ true) → (b ≡ true → a ≡ true) → a ≡ b
+same-truth a b f g = by-cases (λ t. t ≡ b) a (λ e. sym (f e)) (λ e. sym (not-true-false b (λ h. true≢false (sym (g h) ∙ e))))
+
 -- a test that decides a claim is false exactly where the claim fails
 pub refuted : {b : Bool} {P : Type 0} → Reflects b P → b ≡ false → P → ⊥
 refuted r e p = true≢false (sym (r .complete p) ∙ e)
@@ -109,4 +113,4 @@ decided {b} r h = r .sound (not-false-true b (λ e. h (refuted r e)))
 
 -- tests of one claim are equal
 pub reflects-same : {a b : Bool} {P : Type 0} → Reflects a P → Reflects b P → a ≡ b
-reflects-same {a} {b} p q = by-cases (λ t. t ≡ b) a (λ e. sym (q .complete (p .sound e))) (λ e. sym (refutes q (refuted p e)))
+reflects-same {a} {b} p q = same-truth a b (λ e. q .complete (p .sound e)) (λ e. p .complete (q .sound e))

@@ -15,7 +15,7 @@ use Rattle.base.specs.Reflect.{Reflects}
 use Rattle.base.specs.Search.{Every, Least, Some, allBelow, anyBelow, firstBelow, sumFrom}
 
 -- a number below suc n is n or below n
-last-or-below : {n i : ℕ} → i < suc n → (i ≡ n) ⊎ (i < n)
+pub last-or-below : {n i : ℕ} → i < suc n → (i ≡ n) ⊎ (i < n)
 last-or-below l = eq-or-lt-of-le (le-of-suc-le-suc l)
 
 module _ (p : ℕ → Bool) where

@@ -1,20 +1,28 @@
--- The set at the number of an entry that is one of so many.
+-- What the set at the entry's number says, turned about for the makers.
 use borrow.Author.Needs.{needs}
-use borrow.Author.Tests.{lt-ltb}
+use borrow.Author.Tests.{eq-eqb, lt-ltb, ne-eqb}
 use Rattle.base.proofs.Tests.{chain}
-use Rattle.index.proofs.checks.met_at.Statement.{statement}
-use Rattle.index.specs.Checks.{metAt}
-use Rattle.index.proofs.checks.met_at.Tie as tie
+use Rattle.index.proofs.checks.offends_at.Statement.{statement}
+use Rattle.index.specs.Checks.{offendsAt}
+use Rattle.index.proofs.checks.offends_at.Tie as tie
 
 returns : tie.Need-returns
-unfolding metAt
-returns c = simp (lt-ltb _ _ (c .before .before .if1 .taken), c .meets .ensures, c .before .set-of .ensures .0)
+unfolding offendsAt
+returns c =
+    let m = c .before in
+    simp (lt-ltb _ _ (m .before .before .if1 .taken), eq-eqb _ _ (c .if2 .taken), m .meets .ensures, m .before .set-of .ensures .0)
 
 returns-2 : tie.Need-returns-2
-unfolding metAt
-returns-2 c = search chain depth 8
+unfolding offendsAt
+returns-2 c =
+    let m = c .before in
+    simp (lt-ltb _ _ (m .before .before .if1 .taken), ne-eqb _ _ (c .if2 .left), m .meets .ensures, m .before .set-of .ensures .0)
 
-pub met-at-spec : {M : Type 1} → statement M
-met-at-spec =
+returns-3 : tie.Need-returns-3
+unfolding offendsAt
+returns-3 c = search chain depth 8
+
+pub offends-at-spec : {M : Type 1} → statement M
+offends-at-spec =
     tie.close
-    (tie.spec (λ c. search needs) (λ c κs. search needs) (λ c κs. search needs) returns returns-2)
+    (tie.spec (λ c. search needs) (λ c κs. search needs) (λ c κs. search needs) returns returns-2 returns-3)
