@@ -9,6 +9,7 @@ use native.Mathlib.Nat.{eq-or-lt-of-le, le-antisymm, le-of-suc-le-suc, le-refl, 
 use native.Mathlib.Numerals.{add-one}
 use native.Mathlib.Omega.{arith}
 use lib.Dec.{ltb}
+use borrow.Author.Needs.{needs}
 use borrow.Author.Tests.{le-ltb, ltb-false, not-false, not-true}
 use Rattle.base.proofs.Reflect.{and-true, by-cases, not-true-false, or-intro, or-true}
 use Rattle.base.specs.Reflect.{Reflects}
@@ -211,6 +212,12 @@ pub ruleset searches = (
   not-true,
   not-false,
 )
+
+pub ruleset loops = (searches, needs)
+
+-- the invariant of a loop that returns at the first of n numbers that passes
+abbrev pub NoneBefore : ℕ → (ℕ → Bool) → ℕ → Type 0
+NoneBefore n p i = (i ≤ n) × (anyBelow i p ≡ false)
 
 -- ---- the loop `for i in 0..k { sum += f(n + i); }`, whose invariant is `sum + sumFrom f (n + i) (k - i) ≡ r`
 module _ (f : ℕ → ℕ) (n k r : ℕ) where

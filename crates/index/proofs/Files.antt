@@ -3,7 +3,7 @@ use mathlib.Core.Bool.{Bool, _||_, cond, false, true, true≢false}
 use mathlib.Core.List.{List}
 use mathlib.Core.Logic.{_≢_, ⊎-elim}
 use mathlib.Core.Path.{_∙_, _≡_, ap, refl, sym}
-use Prim.Native.Nat.{_%_, _*_, _+_, _-_, _/_, _<_, _≤_, min, suc, zero, ℕ}
+use Prim.Native.Nat.{_%_, _*_, _+_, _-_, _<_, _≤_, suc, zero, ℕ}
 use native.Mathlib.Nat.{mod-lt, not-suc-le-zero}
 use native.Mathlib.Numerals.{add-one}
 use native.Mathlib.Omega.{arith}
@@ -15,10 +15,10 @@ use Rattle.base.proofs.Lists.{reflect-same}
 use Rattle.base.proofs.Reflect.{by-cases, by-test, not-true-false}
 use Rattle.base.proofs.Search.{first-none, last-or-below}
 use Rattle.base.specs.Search.{anyBelow, firstBelow}
-use Rattle.codec.specs.Codec.{jobOf, recordSize}
+use Rattle.codec.specs.Codec.{jobOf}
 use Rattle.record.specs.Entries.{framesOf, labelOf}
 use Rattle.record.specs.declared.Job.{Job}
-use Rattle.journal.specs.Journal.{capacity, equalAt, equalIn, insideOf, slotAt}
+use Rattle.journal.specs.Journal.{capacity, equalAt, slotAt}
 use Rattle.index.proofs.Chains.{last-has, last-le, last-no, last-skip, last-yes}
 use Rattle.index.specs.Chains.{lastBelow}
 use Rattle.index.specs.Places.{bucketOf, buckets, slotJob}
@@ -176,11 +176,3 @@ filed-new job = record {
   linked = λ k l. absurd (not-suc-le-zero l);
   headed = λ b l. getD-replicate {A = ℕ} recordsSize b 0 0 (omega arith);
 }
-
--- what is found is the ledger's equal
-pub found-equal : (journal bytes : List ℕ) (booked : ℕ) → recordSize * booked ≤ length journal
-    → firstBelow booked (equalAt journal bytes) ≡ equalIn journal booked bytes
-unfolding equalIn insideOf
-found-equal journal bytes booked h =
-    let e : booked ≡ min booked (length journal / recordSize) = omega arith in
-    ap (λ (n : ℕ). firstBelow n (equalAt journal bytes)) e

@@ -18,11 +18,6 @@ returns-2 c =
     let m = c .before in
     simp (lt-ltb _ _ (m .before .before .if1 .taken), ne-eqb _ _ (c .if2 .left), m .meets .ensures, m .before .set-of .ensures .0)
 
-returns-3 : tie.Need-returns-3
-unfolding offendsAt
-returns-3 c = search chain depth 8
-
 pub offends-at-spec : {M : Type 1} → statement M
-offends-at-spec =
-    tie.close
-    (tie.spec (λ c. search needs) (λ c κs. search needs) (λ c κs. search needs) returns returns-2 returns-3)
+unfolding offendsAt
+offends-at-spec = tie.close (tie.spec (λ c. search needs) (λ c κs. search needs) (λ c κs. search needs) returns returns-2 (λ c. search chain depth 8))
