@@ -8,14 +8,6 @@ use Rattle.checks.proofs.first_repeated.Tie as tie
 pub first-repeated-spec : {M : Type 1} → statement M
 first-repeated-spec =
     tie.close
-    (tie.spec
-    (λ job i₀ i. NoneBefore 8 (repeatedAt job) i)
-    (λ job i₀ i. 8 - i)
-    (λ c. search loops depth 8)
-    (λ c. search loops depth 8)
-    (λ c κs. search loops depth 8)
-    (λ c. search loops depth 8)
-    (λ c. search loops depth 8)
-    (λ c. search loops depth 8)
-    (λ c. search loops depth 8)
-    (λ c. search loops depth 8))
+    (tie.spec (λ job i₀ i. NoneBefore 8 (repeatedAt job) i) (λ job i₀ i. 8 - i) (λ c. search loops depth 8) (λ c. search loops depth 8)
+    (λ c κs. search loops depth 8) (λ c. search loops depth 8) (λ c. search loops depth 8) (λ c. search loops depth 8)
+    (λ c. search loops depth 8) (λ c. search loops depth 8))

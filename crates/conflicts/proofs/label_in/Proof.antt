@@ -11,13 +11,5 @@ Inv-loop half job label i₀ i = (half ≤ 4) × NoneBefore 4 (isLabelAt half jo
 pub label-in-spec : {M : Type 1} → statement M
 label-in-spec =
     tie.close
-    (tie.spec
-    Inv-loop
-    (λ half job label i₀ i. 4 - i)
-    (λ c. search loops depth 8)
-    (λ c κs. search loops depth 8)
-    (λ c. search loops depth 8)
-    (λ c. search loops depth 8)
-    (λ c. search loops depth 8)
-    (λ c. search loops depth 8)
-    (λ c. search loops depth 8))
+    (tie.spec Inv-loop (λ half job label i₀ i. 4 - i) (λ c. search loops depth 8) (λ c κs. search loops depth 8) (λ c. search loops depth 8)
+    (λ c. search loops depth 8) (λ c. search loops depth 8) (λ c. search loops depth 8) (λ c. search loops depth 8))

@@ -14,13 +14,5 @@ abbrev μ-loop : tie.MeasureT-loop
 pub shares-in-spec : {M : Type 1} → statement M
 shares-in-spec =
     tie.close
-    (tie.spec
-    Inv-loop
-    μ-loop
-    (λ c. search loops depth 8)
-    (λ c κs. search loops depth 8)
-    (λ c. search loops depth 8)
-    (λ c. search loops depth 8)
-    (λ c. search loops depth 8)
-    (λ c. search loops depth 8)
-    (λ c. search loops depth 8))
+    (tie.spec Inv-loop μ-loop (λ c. search loops depth 8) (λ c κs. search loops depth 8) (λ c. search loops depth 8)
+    (λ c. search loops depth 8) (λ c. search loops depth 8) (λ c. search loops depth 8) (λ c. search loops depth 8))

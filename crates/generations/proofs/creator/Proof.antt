@@ -11,11 +11,5 @@ Inv-loop order makers p q₀ q = NoneBefore p (isMaker order makers) q
 pub creator-spec : {M : Type 1} → statement M
 creator-spec =
     tie.close
-    (tie.spec Inv-loop (λ order makers p q₀ q. p - q)
-    (λ c. search loops depth 8)
-    (λ c κs. search loops depth 8)
-    (λ c. search loops depth 8)
-    (λ c. search loops depth 8)
-    (λ c. search loops depth 8)
-    (λ c. search loops depth 8)
-    (λ c. search loops depth 8))
+    (tie.spec Inv-loop (λ order makers p q₀ q. p - q) (λ c. search loops depth 8) (λ c κs. search loops depth 8) (λ c. search loops depth 8)
+    (λ c. search loops depth 8) (λ c. search loops depth 8) (λ c. search loops depth 8) (λ c. search loops depth 8))

@@ -13,11 +13,5 @@ Inv-loop order job n i₀ i = (n ≡ length order) × NoneBefore n (isAt order j
 pub position-spec : {M : Type 1} → statement M
 position-spec =
     tie.close
-    (tie.spec Inv-loop (λ order job n i₀ i. n - i)
-    (λ c. search loops depth 8)
-    (λ c κs. search loops depth 8)
-    (λ c. search loops depth 8)
-    (λ c. search loops depth 8)
-    (λ c. search loops depth 8)
-    (λ c. search loops depth 8)
-    (λ c. search loops depth 8))
+    (tie.spec Inv-loop (λ order job n i₀ i. n - i) (λ c. search loops depth 8) (λ c κs. search loops depth 8) (λ c. search loops depth 8)
+    (λ c. search loops depth 8) (λ c. search loops depth 8) (λ c. search loops depth 8) (λ c. search loops depth 8))

@@ -10,18 +10,6 @@ pub lookup-spec : {M : Type 1} → statement M
 unfolding recordAt isBooked slotAt
 lookup-spec =
     tie.close
-    (tie.spec
-    (λ c. search needs)
-    (λ c. search needs)
-    (λ c. search needs)
-    (λ c. search tests)
-    (λ c. search needs)
-    (λ c. search needs)
-    (λ c. search needs)
-    (λ c. search tests)
-    (λ c. search needs)
-    (λ c. search needs)
-    (λ c. search needs)
-    (λ c. search needs)
-    (λ c. search needs)
-    (λ c. search (tests, add-sub-cancel-left)))
+    (tie.spec (λ c. search needs) (λ c. search needs) (λ c. search needs) (λ c. search tests) (λ c. search needs) (λ c. search needs)
+    (λ c. search needs) (λ c. search tests) (λ c. search needs) (λ c. search needs) (λ c. search needs) (λ c. search needs)
+    (λ c. search needs) (λ c. search (tests, add-sub-cancel-left)))

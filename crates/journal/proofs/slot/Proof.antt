@@ -9,4 +9,5 @@ pub slot-spec : {M : Type 1} → statement M
 unfolding slotAt
 slot-spec =
     tie.close
-    (tie.spec (λ c. search needs) (λ c. search needs) (λ c. search needs) (λ c. search needs) (λ c. search needs) (λ c. search add-sub-cancel-left))
+    (tie.spec (λ c. search needs) (λ c. search needs) (λ c. search needs) (λ c. search needs) (λ c. search needs)
+    (λ c. search add-sub-cancel-left))

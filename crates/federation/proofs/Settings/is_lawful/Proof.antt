@@ -25,13 +25,5 @@ pub is-lawful-spec : {M : Type 1} → statement M
 unfolding isLawful
 is-lawful-spec =
     tie.close
-    (tie.spec
-    (λ c. search needs)
-    (λ c. search chain)
-    (λ c. search needs)
-    (λ c. search needs)
-    (λ c. search chain depth 8)
-    (λ c κs. search needs)
-    returns-3
-    (λ c κs. search needs)
-    returns-4)
+    (tie.spec (λ c. search needs) (λ c. search chain) (λ c. search needs) (λ c. search needs) (λ c. search chain depth 8)
+    (λ c κs. search needs) returns-3 (λ c κs. search needs) returns-4)

@@ -15,13 +15,5 @@ pub first-offending-spec : {M : Type 1} → statement M
 unfolding firstOffending
 first-offending-spec =
     tie.close
-    (tie.spec
-    Inv-loop
-    μ-loop
-    (λ c. search loops depth 8)
-    (λ c κs. search loops depth 8)
-    (λ c. search loops depth 8)
-    (λ c. search loops depth 8)
-    (λ c. search loops depth 8)
-    (λ c. search loops depth 8)
-    (λ c. search loops depth 8))
+    (tie.spec Inv-loop μ-loop (λ c. search loops depth 8) (λ c κs. search loops depth 8) (λ c. search loops depth 8)
+    (λ c. search loops depth 8) (λ c. search loops depth 8) (λ c. search loops depth 8) (λ c. search loops depth 8))

@@ -20,4 +20,5 @@ returns-2 c =
 
 pub offends-at-spec : {M : Type 1} → statement M
 unfolding offendsAt
-offends-at-spec = tie.close (tie.spec (λ c. search needs) (λ c κs. search needs) (λ c κs. search needs) returns returns-2 (λ c. search chain depth 8))
+offends-at-spec =
+    tie.close (tie.spec (λ c. search needs) (λ c κs. search needs) (λ c κs. search needs) returns returns-2 (λ c. search chain depth 8))

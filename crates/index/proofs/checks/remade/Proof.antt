@@ -16,11 +16,4 @@ returns-2 c = simp (← c .before .first-offending .ensures, le-ltb _ _ (c .if1 
 pub remade-spec : {M : Type 1} → statement M
 remade-spec =
     tie.close
-    (tie.spec
-    (λ c. search needs)
-    (λ c. search needs)
-    (λ c κs. search needs)
-    (λ c. search needs)
-    (λ c. search needs)
-    returns
-    returns-2)
+    (tie.spec (λ c. search needs) (λ c. search needs) (λ c κs. search needs) (λ c. search needs) (λ c. search needs) returns returns-2)
