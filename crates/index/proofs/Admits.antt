@@ -146,15 +146,17 @@ module _ (job : ℕ → Job) (n : ℕ) (numbers sets : List ℕ) (t : Entered jo
   unfolding offendsAt consumedAt
   consumed-same s w e l =
       simp (zero-add, lt-ltb e 4 l, used-input (job k) e l)
-      (where-used (ltb e (job k .inputs)) _ _ (λ u. listers-meet job n numbers sets t few k e lk (omega arith) (used-input (job k) e l ∙ u) s w 0 (omega arith)))
+      (where-used (ltb e (job k .inputs)) _ _ (λ u.
+      listers-meet job n numbers sets t few k e lk (omega arith) (used-input (job k) e l ∙ u) s w 0 (omega arith)))
 
   remade-same : (e : ℕ) → e < 4 → offendsAt numbers sets (job k .outputs) (8 * k + 4) 1 (jobUnion held others) e ≡ remadeAt job n held others (job k) (4 + e)
   unfolding offendsAt remadeAt madeBefore
   remade-same e l =
       let z : 8 * k + 4 + e ≡ 8 * k + (4 + e) = omega arith in
+      let w = union-words held others hw ow in
       simp (le-leb 4 (4 + e) (omega arith), used-output (job k) e, z)
       (where-used (ltb e (job k .outputs)) _ _ (λ u.
-      listers-meet job n numbers sets t few k (4 + e) lk (omega arith) (used-output (job k) e ∙ u) (jobUnion held others) (union-words held others hw ow) 1 (omega arith)
+      listers-meet job n numbers sets t few k (4 + e) lk (omega arith) (used-output (job k) e ∙ u) (jobUnion held others) w 1 (omega arith)
       ∙ listed-union job n 4 held others (labelOf (job k) (4 + e))))
 
   -- of four inputs, where outputs never offend

@@ -11,15 +11,14 @@ returns-3 : tie.Need-returns-3
 unfolding isLawful
 returns-3 c =
     let d = c .before in
-    simp
-    (le-leb _ _ (d .before .before .if1 .left), lt-ltb _ _ (d .before .if2 .left), sym (d .within .ensures) ∙ not-true _ (c .if3 .taken))
+    simp (le-leb _ _ (d .before .before .if1 .left), lt-ltb _ _ (d .before .if2 .left), sym (d .within .ensures) ∙ not-true _ (c .if3 .taken))
 
 returns-4 : tie.Need-returns-4
 unfolding isLawful
 returns-4 c =
     let d = c .before .before in
-    simp
-    (le-leb _ _ (d .before .before .if1 .left), lt-ltb _ _ (d .before .if2 .left), sym (d .within .ensures) ∙ not-false _ (c .before .if3 .left), c .size .ensures)
+    let within = sym (d .within .ensures) ∙ not-false _ (c .before .if3 .left) in
+    simp (le-leb _ _ (d .before .before .if1 .left), lt-ltb _ _ (d .before .if2 .left), within, c .size .ensures)
 
 pub is-lawful-spec : {M : Type 1} → statement M
 unfolding isLawful
