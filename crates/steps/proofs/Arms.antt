@@ -33,6 +33,7 @@ use Rattle.runfile.specs.declared.Kind.{Kind}
 use Rattle.runfile.specs.declared.Kind.the-variants.{Commit, Draw, FaultyAcknowledge, FaultySign, Generations, Preflight, Propose, Show, Unknown}
 use Rattle.steps.specs.Decided.{Answered, bookedOr, decidedBy, gateBy, jobOf, vaultOf}
 use Rattle.steps.specs.Reading.{Asked}
+use Rattle.steps.specs.declared.Books.{Books}
 use Rattle.steps.specs.declared.Step.{Step}
 use Rattle.steps.specs.declared.View.{View}
 
@@ -106,14 +107,13 @@ drawn o o′ e = rw e
 pub ruleset arms = (searched, known-behind, told, record-whole, regated, with-signers, drawn)
 
 -- ---- generations
-module _ {s : Settings} {vaults : List Vault} {order : List ℕ} {arrivals : ℕ} {journal : List ℕ} {booked : ℕ} {memo : List ℕ} {job : ℕ}
-    (b : Bool) (e : b ≡ isBooked journal booked job) where
-  pub aged : {d : Decision} → b ≡ true → Aged s vaults order arrivals journal booked memo job d
-      → Answered s vaults order arrivals journal booked memo job (d .outcome)
+module _ (a : Books) (order journal memo : List ℕ) (job : ℕ) (b : Bool) (e : b ≡ isBooked journal (a .booked) job) where
+  pub aged : (d : Decision) → b ≡ true → Aged (a .settings) (a .vaults) order (a .arrivals) journal (a .booked) memo job d
+      → Answered a order journal memo job (d .outcome)
   unfolding bookedOr
-  aged t a = record { outcome = simp (sym e ∙ t) (ap (λ (d : Decision). d .outcome) (a .decision)); right = a .right; size = a .size }
+  aged d t h = record { outcome = simp (sym e ∙ t) (ap (λ (d : Decision). d .outcome) (h .decision)); right = h .right; size = h .size }
 
-  pub unbooked : b ≡ false → Memo (jobAt journal booked) order arrivals memo → length memo ≡ capacity
-      → Answered s vaults order arrivals journal booked memo job (Refused NotBooked)
+  pub unbooked : b ≡ false → Memo (jobAt journal (a .booked)) order (a .arrivals) memo → length memo ≡ capacity
+      → Answered a order journal memo job (Refused NotBooked)
   unfolding bookedOr
   unbooked f m z = record { outcome = simp (sym e ∙ f); right = m; size = z }

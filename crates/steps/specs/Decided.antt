@@ -8,7 +8,6 @@ use Rattle.outcome.specs.declared.Outcome.{Outcome}
 use Rattle.outcome.specs.declared.Refusal.the-variants.{NotBooked, NotHeld, Unreadable}
 use Rattle.outcome.specs.declared.Verdict.{Verdict}
 use Rattle.outcome.specs.declared.Verdict.the-variants.{Fail, Pass}
-use Rattle.federation.specs.declared.Settings.{Settings}
 use Rattle.journal.specs.Journal.{capacity, isBooked, jobAt}
 use Rattle.generations.specs.Generations.{ageIn}
 use Rattle.generations.specs.Memo.{Memo}
@@ -19,8 +18,8 @@ use Rattle.ledger.specs.Steps.{gateOf}
 use Rattle.ledger.specs.Worlds.{Request, commit, faultyAcknowledge, faultySign, generations, jobIn, preflight, propose, show, vaultIn}
 use Rattle.ledger.specs.declared.Change.the-variants.{Nothing, RecordAcknowledgement, RecordSignature}
 use Rattle.ledger.specs.declared.Decision.{Decision}
-use Rattle.ledger.specs.declared.Vault.{Vault}
 use Rattle.runfile.specs.Steps.{Command, draw, request, unreadable}
+use Rattle.steps.specs.declared.Books.{Books}
 use Rattle.steps.specs.declared.View.{View}
 
 -- the vault and the job that a command names
@@ -61,13 +60,13 @@ decidedBy w journal (draw u) = record { outcome = drawOf (w .settings) u; change
 decidedBy w journal unreadable = refusing Unreadable
 
 -- kind 8, which looks at all vaults
-abbrev pub surveyed : Settings → List Vault → List ℕ → ℕ → List ℕ → ℕ → ℕ → Decision
-surveyed s vaults order arrivals journal booked job =
-    gated (bookedOr (isBooked journal booked job)) (ageing (isHeld s vaults job) (ageIn (jobAt journal booked) order arrivals job))
+abbrev pub surveyed : Books → List ℕ → List ℕ → ℕ → Decision
+surveyed a order journal job =
+    gated (bookedOr (isBooked journal (a .booked) job))
+    (ageing (isHeld (a .settings) (a .vaults) job) (ageIn (jobAt journal (a .booked)) order (a .arrivals) job))
 
 -- its answer, and a memo that stays right
-pub record Answered (s : Settings) (vaults : List Vault) (order : List ℕ) (arrivals : ℕ) (journal : List ℕ) (booked : ℕ) (memo : List ℕ)
-    (job : ℕ) (o : Outcome) : Type 0 where
-  pub outcome : o ≡ surveyed s vaults order arrivals journal booked job .outcome
-  pub right : Memo (jobAt journal booked) order arrivals memo
+pub record Answered (a : Books) (order journal memo : List ℕ) (job : ℕ) (o : Outcome) : Type 0 where
+  pub outcome : o ≡ surveyed a order journal job .outcome
+  pub right : Memo (jobAt journal (a .booked)) order (a .arrivals) memo
   pub size : length memo ≡ capacity

@@ -46,19 +46,19 @@ unfoldable pub operationOf : ℕ → Operation
 operationOf b = rowOf (kindOf b)
 
 -- nothing that can be read
-abbrev pub unread : List ℕ → ℕ → Step
-unread input at = record { kind = Unknown; wide = false; vault = 0; job = 0; at = at; end = length input }
+abbrev pub unread : List ℕ → ℕ → ℕ → Step
+unread input number at = record { number = number; kind = Unknown; wide = false; vault = 0; job = 0; at = at; end = length input }
 
--- the step of a form whose body starts at `at` and ends at `end`
-abbrev pub stepIn : Form → Kind → Bool → List ℕ → ℕ → ℕ → Step
-stepIn Bare kind wide input at end = record { kind = kind; wide = wide; vault = 0; job = 0; at = at; end = end }
-stepIn OfJob kind wide input at end = record { kind = kind; wide = wide; vault = 0; job = getD input at 0; at = at; end = end }
-stepIn OfVault kind wide input at end =
-    record { kind = kind; wide = wide; vault = getD input at 0; job = getD input (at + 1) 0; at = at; end = end }
-stepIn Unreadable kind wide input at end = unread input at
+-- a step of an operation, whose body starts at `at` and ends at `end`
+abbrev pub naming : Operation → ℕ → ℕ → ℕ → ℕ → ℕ → Step
+naming o number v job at end = record { number = number; kind = o .kind; wide = o .wide; vault = v; job = job; at = at; end = end }
 
-abbrev pub formed : Operation → List ℕ → ℕ → ℕ → Step
-formed o input at end = stepIn (o .form) (o .kind) (o .wide) input at end
+-- by the form of the body
+abbrev pub formed : Form → Operation → List ℕ → ℕ → ℕ → ℕ → Step
+formed Bare o input number at end = naming o number 0 0 at end
+formed OfJob o input number at end = naming o number 0 (getD input at 0) at end
+formed OfVault o input number at end = naming o number (getD input at 0) (getD input (at + 1) 0) at end
+formed Unreadable o input number at end = unread input number at
 
 -- the vault and the job of a step are those that its command names
 pub record Asked (input : List ℕ) (s : Step) : Type 0 where
@@ -68,8 +68,9 @@ pub record Asked (input : List ℕ) (s : Step) : Type 0 where
   -- a record is all there
   pub whole : s .kind ≡ Propose → s .at + recordSize ≤ length input
 
--- the step that stands at pos
-pub record Read (input : List ℕ) (pos : ℕ) (s : Step) : Type 0 where
+-- the step that stands at pos, with its number
+pub record Read (input : List ℕ) (pos number : ℕ) (s : Step) : Type 0 where
+  pub number-is : s .number ≡ number
   pub kind-is : s .kind ≡ kindAt input pos
   pub wide-is : s .wide ≡ isWide (s .kind)
   pub at-is : s .at ≡ pos + 1

@@ -7,14 +7,13 @@ ghost use Rattle.journal.specs.Journal.{isBooked};
 ghost use Rattle.runfile.specs.Steps.{commandIn};
 ghost use Rattle.steps.specs.Decided.{Answered, bookedOr, decidedBy, gateBy};
 ghost use Rattle.steps.specs.Reading.{Asked};
+use crate::Books;
 use crate::Step;
 use crate::View;
 use crate::reading;
 use codec::RECORD;
-use federation::Settings;
 use ledger::Change;
 use ledger::Decision;
-use ledger::Vault;
 use ledger::decisions;
 use outcome::Outcome;
 use outcome::Refusal;
@@ -110,31 +109,30 @@ pub(crate) fn decide(
 
 // Kind 8: what it answers; it changes nothing but the memo.
 pub(crate) fn age(
-    settings: Settings,
-    vaults: [Vault; 16],
+    books: Books,
     order: &[u8],
-    arrivals: usize,
     numbers: &[u16],
     sets: &[u64],
     journal: &[u8],
-    booked: usize,
     memo: &mut [u8],
     job: u8,
 ) -> Outcome
-    requires { ⌜ (settings .n ≤ 16) × Ready (now journal) booked (now numbers) (now sets) (now order) arrivals (now memo) ⌝ }
-    ensures { λ r. ⌜ Answered settings vaults (now (order .entry)) arrivals (now (journal .entry)) booked (now (memo .exit)) job r ⌝ }
+    requires { ⌜ (books .settings .n ≤ 16)
+        × Ready (now journal) (books .booked) (now numbers) (now sets) (now order) (books .arrivals) (now memo) ⌝ }
+    ensures { λ r. ⌜ Answered books (now (order .entry)) (now (journal .entry)) (now (memo .exit)) job r ⌝ }
 {
     let j = job as usize;
-    if journal::is_booked(journal, booked, j) {
+    if journal::is_booked(journal, books.booked, j) {
+        let vaults = books.vaults;
         return decisions::generations(
-            settings,
+            books.settings,
             vaults,
             order,
-            arrivals,
+            books.arrivals,
             numbers,
             sets,
             journal,
-            booked,
+            books.booked,
             memo,
             j,
         ).outcome;

@@ -8,9 +8,9 @@ mod turning;
 use federation::Settings;
 use ledger::Change;
 use ledger::Vault;
-use runfile::Kind;
 pub use reading::step_at;
 pub use reading::word_at;
+use runfile::Kind;
 pub use turning::carry_out;
 pub use turning::survey;
 
@@ -30,8 +30,9 @@ pub struct Operation {
     pub wide: bool,
 }
 
-// A step: the vault and the job that it names, 0 where it names none, where its body starts, and where the next step stands.
+// A step: its number, the vault and the job that it names, 0 where it names none, where its body starts, and where the next step stands.
 pub struct Step {
+    pub number: u32,
     pub kind: Kind,
     pub wide: bool,
     pub vault: u8,
@@ -47,6 +48,14 @@ pub struct View {
     pub state: Vault,
     pub signers: u16,
     pub acknowledgers: u16,
+}
+
+// What a step looks at that looks at all vaults.
+pub struct Books {
+    pub settings: Settings,
+    pub booked: usize,
+    pub arrivals: usize,
+    pub vaults: [Vault; 16],
 }
 
 // What a step changes in the ledger, and where its text ends.

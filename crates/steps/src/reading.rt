@@ -65,10 +65,11 @@ fn operation_of(byte: u8) -> Operation
 }
 
 // "Refusal 2 prints its line and ends": nothing is left to read.
-fn unreadable(input: &[u8], at: usize) -> Step
-    ensures { λ r. ⌜ r ≡ unread (now (input .entry)) at ⌝ }
+fn unreadable(input: &[u8], number: u32, at: usize) -> Step
+    ensures { λ r. ⌜ r ≡ unread (now (input .entry)) number at ⌝ }
 {
     Step {
+        number,
         kind: Kind::Unknown,
         wide: false,
         vault: 0,
@@ -80,15 +81,16 @@ fn unreadable(input: &[u8], at: usize) -> Step
 
 impl Operation {
     // Its step, whose body starts at `at` and ends at `end`.
-    fn step(self, input: &[u8], at: usize, end: usize) -> Step
+    fn step(self, input: &[u8], number: u32, at: usize, end: usize) -> Step
         requires { ⌜ at ≤ longest ⌝ }
-        ensures { λ r. ⌜ r ≡ formed self (now (input .entry)) at end ⌝ }
+        ensures { λ r. ⌜ r ≡ formed (self .form) self (now (input .entry)) number at end ⌝ }
     {
         let kind = self.kind;
         let wide = self.wide;
         let form = self.form;
         match form {
             Form::Bare => Step {
+                number,
                 kind,
                 wide,
                 vault: 0,
@@ -97,6 +99,7 @@ impl Operation {
                 end,
             },
             Form::OfJob => Step {
+                number,
                 kind,
                 wide,
                 vault: 0,
@@ -105,6 +108,7 @@ impl Operation {
                 end,
             },
             Form::OfVault => Step {
+                number,
                 kind,
                 wide,
                 vault: byte_at(input, at),
@@ -112,21 +116,21 @@ impl Operation {
                 at,
                 end,
             },
-            Form::Unreadable => unreadable(input, at),
+            Form::Unreadable => unreadable(input, number, at),
         }
     }
 }
 
-// What stands at `pos`: nothing that can be read, where the kind is unknown or the body is cut short.
-pub fn step_at(input: &[u8], pos: usize) -> Step
+// The step that stands at `pos`, with this number: nothing that can be read, where the kind is unknown or the body is cut short.
+pub fn step_at(input: &[u8], pos: usize, number: u32) -> Step
     requires { ⌜ (pos < length (now input)) × (length (now input) ≤ longest) ⌝ }
-    ensures { λ r. ⌜ Read (now (input .entry)) pos r ⌝ }
+    ensures { λ r. ⌜ Read (now (input .entry)) pos number r ⌝ }
 {
     let operation = operation_of(input[pos]);
     let at = pos + 1;
     let end = at + operation.size;
     if end <= input.len() {
-        return operation.step(input, at, end);
+        return operation.step(input, number, at, end);
     }
-    unreadable(input, at)
+    unreadable(input, number, at)
 }

@@ -19,15 +19,11 @@ pub(crate) fn store(
     input: &[u8],
     at: usize,
 )
-    requires {
-      ⌜ Writable change booked (now journal) (take recordSize (drop at (now input)))
-      × Indexed (now journal) booked (now numbers) (now sets) (now records)
-      × (at ≤ longest) ⌝
-    }
-    ensures {
-      λ _. ⌜ Stored change booked (now (journal .entry)) (take recordSize (drop at (now (input .entry))))
-      (now (journal .exit)) (now (numbers .exit)) (now (sets .exit)) (now (records .exit)) ⌝
-    }
+    requires { ⌜ Writable change booked (now journal) (take recordSize (drop at (now input)))
+        × Indexed (now journal) booked (now numbers) (now sets) (now records)
+        × (at ≤ longest) ⌝ }
+    ensures { λ _. ⌜ Stored change booked (now (journal .entry)) (take recordSize (drop at (now (input .entry))))
+        (now (journal .exit)) (now (numbers .exit)) (now (sets .exit)) (now (records .exit)) ⌝ }
 {
     if change.is_book() {
         let bytes = &input[at..at + RECORD];

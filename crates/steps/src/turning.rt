@@ -5,13 +5,12 @@ ghost use Rattle.index.specs.Index.{Indexed};
 ghost use Rattle.generations.specs.Memo.{Ready};
 ghost use Rattle.steps.specs.Reading.{Asked};
 ghost use Rattle.steps.specs.Turned.{CarriedOut, Surveyed, longestText};
+use crate::Books;
 use crate::Step;
 use crate::Told;
 use crate::View;
 use crate::deciding;
 use crate::storing;
-use federation::Settings;
-use ledger::Vault;
 
 // A step that looks at one vault.
 pub fn carry_out(
@@ -22,20 +21,15 @@ pub fn carry_out(
     records: &mut [u16],
     journal: &mut [u8],
     input: &[u8],
-    number: u32,
     out: &mut [u8],
     at: usize,
 ) -> Told
-    requires {
-      ⌜ Asked (now input) step
-      × Indexed (now journal) (view .booked) (now numbers) (now sets) (now records)
-      × (number < 1000000)
-      × (at + longestText ≤ length (now out)) ⌝
-    }
-    ensures {
-      λ r. ⌜ CarriedOut (now (input .entry)) step view number at (now (journal .entry)) (now (out .entry)) r
-      (now (journal .exit)) (now (numbers .exit)) (now (sets .exit)) (now (records .exit)) (now (out .exit)) ⌝
-    }
+    requires { ⌜ Asked (now input) step
+        × Indexed (now journal) (view .booked) (now numbers) (now sets) (now records)
+        × (step .number < 1000000)
+        × (at + longestText ≤ length (now out)) ⌝ }
+    ensures { λ r. ⌜ CarriedOut (now (input .entry)) step view at (now (journal .entry)) (now (out .entry)) r
+        (now (journal .exit)) (now (numbers .exit)) (now (sets .exit)) (now (records .exit)) (now (out .exit)) ⌝ }
 {
     let decision = deciding::decide(
         step,
@@ -48,7 +42,7 @@ pub fn carry_out(
     );
     let change = decision.change;
     let outcome = decision.outcome;
-    let end = text::write_line(out, at, number, outcome);
+    let end = text::write_line(out, at, step.number, outcome);
     storing::store(
         change,
         numbers,
@@ -64,42 +58,23 @@ pub fn carry_out(
 
 // A step that looks at all vaults.
 pub fn survey(
-    settings: Settings,
-    vaults: [Vault; 16],
+    step: Step,
+    books: Books,
     order: &[u8],
-    arrivals: usize,
     numbers: &[u16],
     sets: &[u64],
     journal: &[u8],
-    booked: usize,
     memo: &mut [u8],
-    job: u8,
-    number: u32,
     out: &mut [u8],
     at: usize,
 ) -> usize
-    requires {
-      ⌜ (settings .n ≤ 16)
-      × Ready (now journal) booked (now numbers) (now sets) (now order) arrivals (now memo)
-      × (number < 1000000)
-      × (at + longestText ≤ length (now out)) ⌝
-    }
-    ensures {
-      λ r. ⌜ Surveyed settings vaults (now (order .entry)) arrivals (now (journal .entry)) booked job number at
-      (now (out .entry)) (now (memo .exit)) (now (out .exit)) r ⌝
-    }
+    requires { ⌜ (books .settings .n ≤ 16)
+        × Ready (now journal) (books .booked) (now numbers) (now sets) (now order) (books .arrivals) (now memo)
+        × (step .number < 1000000)
+        × (at + longestText ≤ length (now out)) ⌝ }
+    ensures { λ r. ⌜ Surveyed books step at (now (order .entry)) (now (journal .entry)) (now (out .entry))
+        (now (memo .exit)) (now (out .exit)) r ⌝ }
 {
-    let outcome = deciding::age(
-        settings,
-        vaults,
-        order,
-        arrivals,
-        numbers,
-        sets,
-        journal,
-        booked,
-        memo,
-        job,
-    );
-    text::write_line(out, at, number, outcome)
+    let outcome = deciding::age(books, order, numbers, sets, journal, memo, step.job);
+    text::write_line(out, at, step.number, outcome)
 }
