@@ -5,7 +5,8 @@ use mathlib.Core.Path.{_∙_, _≡_, refl, subst}
 use Prim.Native.Nat.{_+_, _<_, _≤_, ℕ}
 use native.Mathlib.Omega.{arith}
 use lib.ListN.{length}
-use Rattle.run.specs.Pieces.{Advanced, Filled, Piece, Started, blank, longestText, runOf}
+use Rattle.run.specs.Pieces.{Advanced, Filled, Piece, Started, blank, runOf}
+use Rattle.steps.specs.Turned.{longestText}
 use Rattle.runfile.specs.Run.{journalSize, runText, textFrom}
 use Rattle.text.specs.Text.{Put}
 use Rattle.run.specs.declared.Progress.{Progress}
