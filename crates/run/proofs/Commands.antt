@@ -20,12 +20,13 @@ use Rattle.ledger.proofs.Writes.{unwritten}
 use Rattle.ledger.specs.Decisions.{ageing, answering, committing, gated, isBook, isNothing, preflighting, refusing, statusOf, voting}
 use Rattle.ledger.specs.Given.{Placed}
 use Rattle.ledger.specs.Meaning.{Proposed, Sane, failed, full, insane, known, new}
-use Rattle.ledger.specs.State.{acknowledgersOf, applied, signersOf, vaultAt}
-use Rattle.ledger.specs.Steps.{bookedGate, commitDecision, faultyAcknowledgeDecision, faultySignDecision, gateOf, generationsDecision, journalAfter}
+use Rattle.ledger.specs.State.{applied, signersOf, vaultAt, votesAt, votesIn}
+use Rattle.ledger.specs.Steps.{bookedGate, commitDecision, faultyVoteDecision, gateOf, generationsDecision, journalAfter}
 use Rattle.ledger.specs.Steps.{journalWith, preflightDecision, proposeDecision, saneGate, showDecision, vaultGate}
 use Rattle.ledger.specs.Worlds.{decisionOf}
 use Rattle.ledger.specs.declared.Change.{Change}
-use Rattle.ledger.specs.declared.Change.the-variants.{Nothing, RecordAcknowledgement, RecordSignature}
+use Rattle.ledger.specs.declared.Change.the-variants.{Nothing, Record}
+use Rattle.ledger.specs.declared.Column.the-variants.{Acknowledgements, Signatures}
 use Rattle.ledger.specs.declared.Decision.{Decision}
 use Rattle.ledger.specs.declared.Ledger.{Ledger}
 use Rattle.runfile.specs.Steps.{Command, commandIn, draw, journalBy, replyOf, request, unreadable, wordAt}
@@ -62,8 +63,7 @@ viewAt l v job = record {
   settings = l .settings;
   booked = l .booked;
   state = vaultAt l (v % 16);
-  signers = getD (l .signatures) (job % 128) 0;
-  acknowledgers = getD (l .acknowledgements) (job % 128) 0;
+  votes = votesAt l (job % 128);
 }
 
 abbrev pub booksOf : Ledger → Books
@@ -152,16 +152,16 @@ module _ (l : Ledger) (s : Sane l) (journal : List ℕ) where
     second = getD input (at + 1) 0
 
     pub decided-is : (k : Kind) → isWide k ≡ false → decidedBy (viewAt l (vaultOf (command k)) (jobOf (command k))) journal (command k) ≡ decision k
-    unfolding proposeDecision preflightDecision commitDecision faultySignDecision faultyAcknowledgeDecision showDecision saneGate signersOf acknowledgersOf
+    unfolding proposeDecision preflightDecision commitDecision faultyVoteDecision showDecision saneGate votesIn
     decided-is Propose n = simp (reflect-sane l .complete s)
     decided-is Preflight n =
         at-vault first second false (λ v job. preflighting (vaultAt l v) journal (l .booked) (signersOf l job) first second)
     decided-is Commit n =
         at-vault first second false
-        (λ v job. committing (l .settings) (vaultAt l v) (signersOf l job) (acknowledgersOf l job) first second (wordAt input (at + 2)))
-    decided-is FaultySign n = at-vault first second true (λ v job. voting (signersOf l job) first RecordSignature)
-    decided-is FaultyAcknowledge n = at-vault first second true (λ v job. voting (acknowledgersOf l job) first RecordAcknowledgement)
-    decided-is Show n = at-job first (λ job. answering (statusOf (l .settings) (signersOf l job) (acknowledgersOf l job)))
+        (λ v job. committing (l .settings) (vaultAt l v) (votesAt l job) first second (wordAt input (at + 2)))
+    decided-is FaultySign n = at-vault first second true (λ v job. voting (votesIn l Signatures job) first (Record Signatures))
+    decided-is FaultyAcknowledge n = at-vault first second true (λ v job. voting (votesIn l Acknowledgements job) first (Record Acknowledgements))
+    decided-is Show n = at-job first (λ job. answering (statusOf (l .settings) (votesAt l job)))
     decided-is Draw n = refl
     decided-is Generations n = absurd (true≢false n)
     decided-is Unknown n = refl
@@ -224,7 +224,7 @@ module _ (l : Ledger) (s : Sane l) (journal : List ℕ) where
     quiet c q e = absurd (true≢false (sym (ap isNothing q) ∙ e))
 
     pub there : (k : Kind) → isNothing (decision k .change) ≡ false → There (vaultOf (command k)) (jobOf (command k)) (decision k)
-    unfolding preflightDecision commitDecision faultySignDecision faultyAcknowledgeDecision showDecision
+    unfolding preflightDecision commitDecision faultyVoteDecision showDecision
     there Propose e = record {
       placed = record { vault = omega arith; job = omega arith; booked = s .booked; arrivals = s .arrivals };
       below = λ n. absurd (loud-book _ (proposed l journal bytes) e n);

@@ -25,9 +25,9 @@ use Rattle.index.specs.Records.{recordsSize}
 use Rattle.generations.proofs.Memos.{memo-arrive, memo-book, memo-none}
 use Rattle.generations.specs.Memo.{Memo, Ready}
 use Rattle.ledger.specs.Given.{Writable}
-use Rattle.ledger.specs.State.{acknowledged, applied, arriving, booking, countersigned, hasArrived, newLedger, withVault}
+use Rattle.ledger.specs.State.{applied, arriving, booking, enqueued, hasArrived, newLedger, voted, withVault}
 use Rattle.ledger.specs.declared.Change.{Change}
-use Rattle.ledger.specs.declared.Change.the-variants.{Book, Hold, Nothing, RecordAcknowledgement, RecordSignature, Sign}
+use Rattle.ledger.specs.declared.Change.the-variants.{Book, Hold, Nothing, Record, Sign}
 use Rattle.ledger.specs.declared.Ledger.{Ledger}
 use Rattle.ledger.specs.declared.Vault.{Vault}
 use Rattle.runfile.specs.Run.{journalSize}
@@ -80,7 +80,7 @@ module _ (l : Ledger) (journal numbers sets records memo : List ℕ) (k : Kept l
   -- a job arrives
   kept-arrive : (m : Ledger) (job : ℕ) (journal′ numbers′ sets′ records′ : List ℕ) → job < l .booked → m .settings ≡ l .settings → m .booked ≡ l .booked → m .arrivals ≡ l .arrivals
       → m .order ≡ l .order → journal′ ≡ journal → Indexed journal′ (l .booked) numbers′ sets′ records′ → Kept (arriving m job) journal′ numbers′ sets′ records′ memo
-  unfolding arriving
+  unfolding arriving enqueued
   kept-arrive m job journal′ numbers′ sets′ records′ b es eb ea eo ej i = by (hasArrived (m .order) (m .arrivals) job) refl (leb capacity (m .arrivals)) refl
     where
       same : Kept m journal′ numbers′ sets′ records′ memo
@@ -98,15 +98,7 @@ module _ (l : Ledger) (journal numbers sets records memo : List ℕ) (k : Kept l
               below : q ≢ m .arrivals → q < m .arrivals
               below n = ⊎-elim (λ (x : q ≡ m .arrivals). absurd (n x)) (λ (x : q < m .arrivals). x) (eq-or-lt-of-le (le-of-suc-le-suc (rw add-one at h)))
 
-      by : (a : Bool) → hasArrived (m .order) (m .arrivals) job ≡ a → (f : Bool) → leb capacity (m .arrivals) ≡ f → Kept (cond (a || f) m (record {
-        settings = m .settings;
-        booked = m .booked;
-        arrivals = m .arrivals + 1;
-        signatures = m .signatures;
-        acknowledgements = m .acknowledgements;
-        order = set (m .order) (m .arrivals) job;
-        vaults = m .vaults;
-      })) journal′ numbers′ sets′ records′ memo
+      by : (a : Bool) → hasArrived (m .order) (m .arrivals) job ≡ a → (f : Bool) → leb capacity (m .arrivals) ≡ f → Kept (cond (a || f) m (enqueued m job)) journal′ numbers′ sets′ records′ memo
       by true e f g = same
       by false e true g = same
       by false e false g =
@@ -125,14 +117,13 @@ module _ (l : Ledger) (journal numbers sets records memo : List ℕ) (k : Kept l
   pub kept-applied : (change : Change) (v job : ℕ) (bytes journal′ numbers′ sets′ records′ : List ℕ) → Writable change (l .booked) journal bytes
       → ((state : Vault) → change ≡ Hold state → job < l .booked) → Stored change (l .booked) journal bytes journal′ numbers′ sets′ records′
       → Kept (applied l change v job) journal′ numbers′ sets′ records′ memo
-  unfolding applied countersigned acknowledged withVault
+  unfolding applied voted withVault
   kept-applied Nothing v job bytes journal′ numbers′ sets′ records′ w b t = kept-same l journal′ numbers′ sets′ records′ refl refl refl refl (t .written) (t .indexed)
   kept-applied Book v job bytes journal′ numbers′ sets′ records′ w b t = kept-book bytes journal′ numbers′ sets′ records′ w t
   kept-applied (Sign state) v job bytes journal′ numbers′ sets′ records′ w b t = kept-same _ journal′ numbers′ sets′ records′ refl refl refl refl (t .written) (t .indexed)
   kept-applied (Hold state) v job bytes journal′ numbers′ sets′ records′ w b t =
       kept-arrive _ job journal′ numbers′ sets′ records′ (b state refl) refl refl refl refl (t .written) (t .indexed)
-  kept-applied RecordSignature v job bytes journal′ numbers′ sets′ records′ w b t = kept-same _ journal′ numbers′ sets′ records′ refl refl refl refl (t .written) (t .indexed)
-  kept-applied RecordAcknowledgement v job bytes journal′ numbers′ sets′ records′ w b t = kept-same _ journal′ numbers′ sets′ records′ refl refl refl refl (t .written) (t .indexed)
+  kept-applied (Record column) v job bytes journal′ numbers′ sets′ records′ w b t = kept-same _ journal′ numbers′ sets′ records′ refl refl refl refl (t .written) (t .indexed)
 
   -- ---- generations
   pub ready : Ready journal (l .booked) numbers sets (l .order) (l .arrivals) memo

@@ -15,7 +15,7 @@ use Rattle.ledger.specs.Given.{Placed, Writable}
 use Rattle.ledger.specs.State.{applied}
 use Rattle.ledger.specs.Steps.{journalWith}
 use Rattle.ledger.specs.declared.Change.{Change}
-use Rattle.ledger.specs.declared.Change.the-variants.{Book, Hold, Nothing, RecordAcknowledgement, RecordSignature, Sign}
+use Rattle.ledger.specs.declared.Change.the-variants.{Book, Hold, Nothing, Record, Sign}
 use Rattle.ledger.specs.declared.Decision.{Decision}
 use Rattle.ledger.specs.declared.Ledger.{Ledger}
 use Rattle.ledger.specs.declared.Vault.{Vault}
@@ -56,8 +56,7 @@ is-nothing Nothing e = refl
 is-nothing Book e = cc
 is-nothing (Sign state) e = cc
 is-nothing (Hold state) e = cc
-is-nothing RecordSignature e = cc
-is-nothing RecordAcknowledgement e = cc
+is-nothing (Record column) e = cc
 
 -- nothing changed
 same-ledger : (l : Ledger) (c : Change) (v job : ℕ) → c ≡ Nothing → l ≡ applied l c v job

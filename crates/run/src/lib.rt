@@ -106,8 +106,7 @@ pub fn advance(
             settings: ledger.settings,
             booked: ledger.booked,
             state: ledger.vaults[(step.vault % 16) as usize],
-            signers: ledger.signatures[(step.job % 128) as usize],
-            acknowledgers: ledger.acknowledgements[(step.job % 128) as usize],
+            votes: ledger.votes[(step.job % 128) as usize],
         };
         let told = steps::carry_out(step, view, numbers, sets, records, journal, input, out, at);
         at = told.at;

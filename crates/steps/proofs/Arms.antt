@@ -24,7 +24,9 @@ use Rattle.ledger.proofs.Gates.{passed-rest, passed-test}
 use Rattle.ledger.specs.Decisions.{committing, gated}
 use Rattle.ledger.specs.Given.{Aged, Known, Searchable}
 use Rattle.ledger.specs.Steps.{gateOf}
-use Rattle.ledger.specs.Worlds.{commit, faultyAcknowledge, faultySign, generations, preflight, propose, show}
+use Rattle.ledger.specs.declared.Column.the-variants.{Acknowledgements, Signatures}
+use Rattle.ledger.specs.declared.Votes.{Votes}
+use Rattle.ledger.specs.Worlds.{commit, faultyVote, generations, preflight, propose, show}
 use Rattle.ledger.specs.declared.Change.the-variants.{Nothing}
 use Rattle.ledger.specs.declared.Decision.{Decision}
 use Rattle.ledger.specs.declared.Vault.{Vault}
@@ -61,8 +63,8 @@ abbrev again : Kind → ℕ → ℕ → List ℕ → ℕ → Command
 again Propose v job input at = request (propose (take (at + 100 - at) (drop at input)))
 again Preflight v job input at = request (preflight v job)
 again Commit v job input at = request (commit v job (wordAt input (at + 2)))
-again FaultySign v job input at = request (faultySign v job)
-again FaultyAcknowledge v job input at = request (faultyAcknowledge v job)
+again FaultySign v job input at = request (faultyVote Signatures v job)
+again FaultyAcknowledge v job input at = request (faultyVote Acknowledgements v job)
 again Show v job input at = request (show job)
 again Draw v job input at = draw job
 again Generations v job input at = request (generations job)
@@ -97,9 +99,9 @@ pub regated : (g g′ : Verdict) (d r : Decision) → g ≡ g′ → r ≡ gated
 regated g g′ d r e h = rw e at h
 
 -- with the signers that were read
-pub with-signers : (g : Verdict) (s : Settings) (state : Vault) (recorded acknowledgers v job x y : ℕ) (r : Decision) → x ≡ y
-    → r ≡ gated g (committing s state recorded acknowledgers v job x) → r ≡ gated g (committing s state recorded acknowledgers v job y)
-with-signers g s state recorded acknowledgers v job x y r e h = rw e at h
+pub with-signers : (g : Verdict) (s : Settings) (state : Vault) (votes : Votes) (v job x y : ℕ) (r : Decision) → x ≡ y
+    → r ≡ gated g (committing s state votes v job x) → r ≡ gated g (committing s state votes v job y)
+with-signers g s state votes v job x y r e h = rw e at h
 
 pub drawn : (o o′ : Outcome) → o ≡ o′ → _≡_ {A = Decision} (record { outcome = o; change = Nothing }) (record { outcome = o′; change = Nothing })
 drawn o o′ e = rw e

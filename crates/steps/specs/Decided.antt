@@ -15,8 +15,9 @@ use Rattle.draw.specs.Draw.{drawOf}
 use Rattle.ledger.specs.Decisions.{ageing, answering, committing, gated, preflighting, proposal, refusing, statusOf, voting}
 use Rattle.ledger.specs.Holders.{isHeld}
 use Rattle.ledger.specs.Steps.{gateOf}
-use Rattle.ledger.specs.Worlds.{Request, commit, faultyAcknowledge, faultySign, generations, jobIn, preflight, propose, show, vaultIn}
-use Rattle.ledger.specs.declared.Change.the-variants.{Nothing, RecordAcknowledgement, RecordSignature}
+use Rattle.ledger.specs.Votes.{columnOf}
+use Rattle.ledger.specs.Worlds.{Request, commit, faultyVote, generations, jobIn, preflight, propose, show, vaultIn}
+use Rattle.ledger.specs.declared.Change.the-variants.{Nothing, Record}
 use Rattle.ledger.specs.declared.Decision.{Decision}
 use Rattle.runfile.specs.Steps.{Command, draw, request, unreadable}
 use Rattle.steps.specs.declared.Books.{Books}
@@ -45,13 +46,12 @@ gateBy w journal v faulty job = gateOf (w .settings) v faulty (isBooked journal 
 abbrev pub requested : View → List ℕ → Request → Decision
 requested w journal (propose bytes) = proposal journal (w .booked) bytes
 requested w journal (preflight v job) =
-    gated (gateBy w journal v false job) (preflighting (w .state) journal (w .booked) (w .signers) v job)
+    gated (gateBy w journal v false job) (preflighting (w .state) journal (w .booked) (w .votes .signatures) v job)
 requested w journal (commit v job named) =
-    gated (gateBy w journal v false job) (committing (w .settings) (w .state) (w .signers) (w .acknowledgers) v job named)
-requested w journal (faultySign v job) = gated (gateBy w journal v true job) (voting (w .signers) v RecordSignature)
-requested w journal (faultyAcknowledge v job) = gated (gateBy w journal v true job) (voting (w .acknowledgers) v RecordAcknowledgement)
+    gated (gateBy w journal v false job) (committing (w .settings) (w .state) (w .votes) v job named)
+requested w journal (faultyVote column v job) = gated (gateBy w journal v true job) (voting (columnOf column (w .votes)) v (Record column))
 requested w journal (show job) =
-    gated (bookedOr (isBooked journal (w .booked) job)) (answering (statusOf (w .settings) (w .signers) (w .acknowledgers)))
+    gated (bookedOr (isBooked journal (w .booked) job)) (answering (statusOf (w .settings) (w .votes)))
 requested w journal (generations job) = refusing NotHeld
 
 abbrev pub decidedBy : View → List ℕ → Command → Decision

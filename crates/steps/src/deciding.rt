@@ -13,6 +13,7 @@ use crate::View;
 use crate::reading;
 use codec::RECORD;
 use ledger::Change;
+use ledger::Column;
 use ledger::Decision;
 use ledger::decisions;
 use outcome::Outcome;
@@ -57,6 +58,7 @@ pub(crate) fn decide(
     let vault = step.vault;
     let at = step.at;
     let j = step.job as usize;
+    let votes = view.votes;
     match kind {
         Kind::Propose => decisions::propose(records, journal, view.booked, &input[at..at + RECORD]),
         Kind::Preflight => decisions::preflight(
@@ -66,7 +68,7 @@ pub(crate) fn decide(
             sets,
             journal,
             view.booked,
-            view.signers,
+            votes.signatures,
             vault,
             j,
         ),
@@ -74,30 +76,24 @@ pub(crate) fn decide(
             view.gate(journal, vault, false, j),
             view.settings,
             view.state,
-            view.signers,
-            view.acknowledgers,
+            votes,
             vault,
             j,
             reading::word_at(input, at + 2),
         ),
         Kind::FaultySign => decisions::cast(
             view.gate(journal, vault, true, j),
-            view.signers,
+            votes,
+            Column::Signatures,
             vault,
-            Change::RecordSignature,
         ),
         Kind::FaultyAcknowledge => decisions::cast(
             view.gate(journal, vault, true, j),
-            view.acknowledgers,
+            votes,
+            Column::Acknowledgements,
             vault,
-            Change::RecordAcknowledgement,
         ),
-        Kind::Show => decisions::show(
-            booked_or(view.booked, journal, j),
-            view.settings,
-            view.signers,
-            view.acknowledgers,
-        ),
+        Kind::Show => decisions::show(booked_or(view.booked, journal, j), view.settings, votes),
         Kind::Draw => Decision {
             outcome: draw::draw(view.settings, step.job),
             change: Change::Nothing,

@@ -8,6 +8,7 @@ mod turning;
 use federation::Settings;
 use ledger::Change;
 use ledger::Vault;
+use ledger::Votes;
 pub use reading::step_at;
 pub use reading::word_at;
 use runfile::Kind;
@@ -46,8 +47,7 @@ pub struct View {
     pub settings: Settings,
     pub booked: usize,
     pub state: Vault,
-    pub signers: u16,
-    pub acknowledgers: u16,
+    pub votes: Votes,
 }
 
 // What a step looks at that looks at all vaults.
