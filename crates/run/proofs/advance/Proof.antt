@@ -35,25 +35,25 @@ loop-again c =
     (turn-wide (s .before .before .before .loop .inv .0) (s .before .before .loop-test .taken) _ (s .step-at .ensures) _ _ _ (c .before .before .before .before .before .before .before .before .before .before .before .before .before .before .before .if2 .taken) (c .before .before .before .before .survey .ensures) (s .before .if1 .left) (search needs), search needs)
 
 carry-out-requires : tie.Need-carry-out-requires Inv-loop μ-loop
-carry-out-requires c κs = let s = c .before .before .before .before .before .before .before .before .before .before .before .before .before in to-carry-out (s .before .before .before .loop .inv .0) _ (s .before .before .loop-test .taken) (s .step-at .ensures) (s .before .if1 .left)
+carry-out-requires c κs = let s = c .before .before .before .before .before .before .before .before .before .before .before in to-carry-out (s .before .before .before .loop .inv .0) _ (s .before .before .loop-test .taken) (s .step-at .ensures) (s .before .if1 .left)
 
 loop-again-2 : tie.Need-loop-again-2 Inv-loop μ-loop
 loop-again-2 c =
-    let s = c .before .before .before .before .before .before .before .before .before .before .before .before .before .before .before .before .before .before .before .before .before .before .before .before .before .before in
-    (turn-quiet (s .before .before .before .loop .inv .0) (s .before .before .loop-test .taken) _ (s .step-at .ensures) (c .before .before .before .before .before .before .before .before .before .before .before .before .before .before .before .before .before .before .before .before .before .before .before .before .before .if2 .left) _ _ _ _ _ _ (c .before .before .before .before .before .before .before .before .before .before .before .before .carry-out .ensures) _ (c .before .is-nothing .ensures) (c .if3 .taken) (s .before .if1 .left) (search needs), search needs)
+    let s = c .before .before .before .before .before .before .before .before .before .before .before .before .before .before .before .before .before .before .before .before .before .before .before .before in
+    (turn-quiet (s .before .before .before .loop .inv .0) (s .before .before .loop-test .taken) _ (s .step-at .ensures) (c .before .before .before .before .before .before .before .before .before .before .before .before .before .before .before .before .before .before .before .before .before .before .before .if2 .left) _ _ _ _ _ _ (c .before .before .before .before .before .before .before .before .before .before .before .before .carry-out .ensures) _ (c .before .is-nothing .ensures) (c .if3 .taken) (s .before .if1 .left) (search needs), search needs)
 
 apply-requires : tie.Need-apply-requires Inv-loop μ-loop
 apply-requires c κs =
-    let s = c .before .before .before .before .before .before .before .before .before .before .before .before .before .before .before .before .before .before .before .before .before .before .before .before .before .before in
-    loud-placed (s .before .before .before .loop .inv .0) (s .before .before .loop-test .taken) _ (s .step-at .ensures) (c .before .before .before .before .before .before .before .before .before .before .before .before .before .before .before .before .before .before .before .before .before .before .before .before .before .if2 .left) _ _ _ _ _ _ (c .before .before .before .before .before .before .before .before .before .before .before .before .carry-out .ensures) _ (c .before .is-nothing .ensures) (c .if3 .left)
+    let s = c .before .before .before .before .before .before .before .before .before .before .before .before .before .before .before .before .before .before .before .before .before .before .before .before in
+    loud-placed (s .before .before .before .loop .inv .0) (s .before .before .loop-test .taken) _ (s .step-at .ensures) (c .before .before .before .before .before .before .before .before .before .before .before .before .before .before .before .before .before .before .before .before .before .before .before .if2 .left) _ _ _ _ _ _ (c .before .before .before .before .before .before .before .before .before .before .before .before .carry-out .ensures) _ (c .before .is-nothing .ensures) (c .if3 .left)
 
 loop-less-3 : tie.Need-loop-less-3 Inv-loop μ-loop
-loop-less-3 c = reads-on (c .before .before .before .before .before .before .before .before .before .before .before .before .before .before .before .before .before .before .before .before .before .before .before .before .before .before .before .step-at .ensures)
+loop-less-3 c = reads-on (c .before .before .before .before .before .before .before .before .before .before .before .before .before .before .before .before .before .before .before .before .before .before .before .before .before .step-at .ensures)
 
 loop-again-3 : tie.Need-loop-again-3 Inv-loop μ-loop
 loop-again-3 c =
-    let s = c .before .before .before .before .before .before .before .before .before .before .before .before .before .before .before .before .before .before .before .before .before .before .before .before .before .before .before in
-    (turn-loud (s .before .before .before .loop .inv .0) (s .before .before .loop-test .taken) _ (s .step-at .ensures) (c .before .before .before .before .before .before .before .before .before .before .before .before .before .before .before .before .before .before .before .before .before .before .before .before .before .before .if2 .left) _ _ _ _ _ _ (c .before .before .before .before .before .before .before .before .before .before .before .before .before .carry-out .ensures) _ (c .before .before .is-nothing .ensures) (c .before .if3 .left) _ (c .apply .ensures) (s .before .if1 .left) (search needs), search (needs, c .before .before .before .before .before .before .before .before .before .before .before .before .before .carry-out .kept, s .before .before .before .loop .inv .1))
+    let s = c .before .before .before .before .before .before .before .before .before .before .before .before .before .before .before .before .before .before .before .before .before .before .before .before .before in
+    (turn-loud (s .before .before .before .loop .inv .0) (s .before .before .loop-test .taken) _ (s .step-at .ensures) (c .before .before .before .before .before .before .before .before .before .before .before .before .before .before .before .before .before .before .before .before .before .before .before .before .if2 .left) _ _ _ _ _ _ (c .before .before .before .before .before .before .before .before .before .before .before .before .before .carry-out .ensures) _ (c .before .before .is-nothing .ensures) (c .before .if3 .left) _ (c .apply .ensures) (s .before .if1 .left) (search needs), search (needs, c .before .before .before .before .before .before .before .before .before .before .before .before .before .carry-out .kept, s .before .before .before .loop .inv .1))
 
 pub advance-spec : {M : Type 1} → statement M
 advance-spec =
@@ -76,9 +76,6 @@ advance-spec =
     (λ c κs. search by)
     (λ c. search by)
     loop-again
-    (λ c. search by)
-    (λ c. search by)
-    (λ c. search by)
     (λ c. search by)
     (λ c. search by)
     (λ c. search by)
