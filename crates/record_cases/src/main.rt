@@ -1,5 +1,6 @@
 // Examines a table of records and prints a line for each: the record, the byte that is off and by how much, and the two
-// figures of the answer. Document 01 decides what they must be; `stdout` holds them.
+// figures of the answer; then each cell of the drive table, by drive and label. Documents 01 and 02 decide what they
+// must be; `stdout` holds them.
 ghost use Prim.Native.Nat.{_<_};
 use libc::STDOUT_FILENO;
 use outcome::Outcome;
@@ -220,6 +221,80 @@ fn drives() {
     );
 }
 
+fn line(job: Job, name: &[u8], drive: u8, label: &[u8; 8]) {
+    let mut bytes = [0u8; 100];
+    codec::write(job, &mut bytes);
+    io::write_all(STDOUT_FILENO, name);
+    io::write_all(STDOUT_FILENO, b" ");
+    io::print_decimal(STDOUT_FILENO, drive as u64);
+    io::write_all(STDOUT_FILENO, b" ");
+    io::write_all(STDOUT_FILENO, label);
+    io::write_all(STDOUT_FILENO, b" ");
+    report(examined(&bytes));
+}
+
+// A tape of the medium taken in, migrated to the drive's own medium, and from it.
+fn cell(drive: u8, own: &[u8; 8], label: &[u8; 8]) {
+    line(accession_of(drive, tape(label, 5)), b"in", drive, label);
+    line(
+        move_one(drive, tape(label, 5), tape(own, 5)),
+        b"from",
+        drive,
+        label,
+    );
+    line(
+        move_one(drive, tape(own, 5), tape(label, 5)),
+        b"to",
+        drive,
+        label,
+    );
+}
+
+fn row(drive: u8, own: &[u8; 8]) {
+    cell(drive, own, b"VAA001L5");
+    cell(drive, own, b"VAA001L6");
+    cell(drive, own, b"VAA001L7");
+    cell(drive, own, b"VAA001L8");
+    cell(drive, own, b"VAA001L9");
+    cell(drive, own, b"VAA001M8");
+}
+
+fn table() {
+    row(5, b"VAB001L5");
+    row(6, b"VAB001L6");
+    row(7, b"VAB001L7");
+    row(8, b"VAB001L8");
+    row(9, b"VAB001L9");
+}
+
+fn accession_of_two(drive: u8, one: Entry, other: Entry) -> Job {
+    let z = none();
+    Job {
+        kind: 0,
+        drive,
+        inputs: 0,
+        outputs: 2,
+        entries: [z, z, z, z, one, other, z, z],
+    }
+}
+
+// Labels that end in `M`: M8 is a medium of its own, and the only one.
+fn type_m() {
+    let l8 = tape(b"VAA001L8", 5);
+    let m8 = tape(b"VAA001M8", 5);
+    whole(accession_of_two(8, l8, m8), b"two8");
+    whole(accession_of_two(9, l8, m8), b"two9");
+    whole(accession_of_two(8, m8, m8), b"twice");
+    whole(move_one(8, m8, l8), b"M8toL8");
+    whole(move_one(8, tape(b"VAA001L7", 5), m8), b"L7toM8");
+    whole(move_one(8, l8, m8), b"L8toM8");
+    whole(accession_of(8, tape(b"VAA001M5", 5)), b"M5");
+    whole(accession_of(8, tape(b"VAA001M6", 5)), b"M6");
+    whole(accession_of(8, tape(b"VAA001M7", 5)), b"M7");
+    whole(accession_of(8, tape(b"VAA001M9", 5)), b"M9");
+    whole(accession_of(8, tape(b"VAA001N8", 5)), b"N8");
+}
+
 // The first n of these bytes, too few or too many.
 fn first(bytes: &[u8], n: usize, name: &[u8]) {
     io::write_all(STDOUT_FILENO, name);
@@ -244,5 +319,7 @@ fn main() {
     sweep(full(), b"full");
     edges();
     drives();
+    table();
+    type_m();
     lengths();
 }
