@@ -2,19 +2,18 @@
 use mathlib.Core.Bool.{Bool, _&&_, _||_, false, true}
 use mathlib.Core.Logic.{_⊎_, inl, inr, ⊎-elim}
 use mathlib.Core.Path.{_∙_, _≡_, ap, refl, sym}
-use Prim.Native.Nat.{_-_, _<_, _≤_, ℕ}
+use Prim.Native.Nat.{_<_, ℕ}
 use lib.Dec.{eqb}
 use borrow.Author.Tests.{lt-ltb, ltb-true}
 use Rattle.base.proofs.Reflect.{and-false, reflect-as, refutes}
-use Rattle.base.specs.Reflect.{Reflects}
 use Rattle.record.proofs.Meaning.{reflect-m8, reflect-type-l, type-l-other}
 use Rattle.record.specs.Drives.{isDrive, isInTable, supports}
 use Rattle.record.specs.Entries.{labelOf}
-use Rattle.record.specs.Labels.{M8, charAt, isM8, media, mediumOf, typeL}
+use Rattle.record.specs.Labels.{M8, mediumOf, typeL}
 use Rattle.record.specs.Meaning.{EndsM8, Label, Named, Used}
 use Rattle.record.specs.declared.Job.{Job}
 use Rattle.checks.proofs.Meaning.{reflect-formed, reflect-unsupported}
-use Rattle.checks.specs.Before.{SinceM8, WasLabel, WithoutM8, took}
+use Rattle.checks.specs.Before.{SinceM8, WasLabel, took}
 use Rattle.checks.specs.Meaning.{UnsupportedAt, WellFormed, takes}
 
 -- a claim that each used label has may take the place of another
