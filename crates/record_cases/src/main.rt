@@ -233,21 +233,24 @@ fn line(job: Job, name: &[u8], drive: u8, label: &[u8; 8]) {
     report(examined(&bytes));
 }
 
+fn taken_in(drive: u8, label: &[u8; 8]) {
+    line(accession_of(drive, tape(label, 5)), b"in", drive, label);
+}
+
+fn moved(drive: u8, from: &[u8; 8], to: &[u8; 8], name: &[u8], label: &[u8; 8]) {
+    line(
+        move_one(drive, tape(from, 5), tape(to, 5)),
+        name,
+        drive,
+        label,
+    );
+}
+
 // A tape of the medium taken in, migrated to the drive's own medium, and from it.
 fn cell(drive: u8, own: &[u8; 8], label: &[u8; 8]) {
-    line(accession_of(drive, tape(label, 5)), b"in", drive, label);
-    line(
-        move_one(drive, tape(label, 5), tape(own, 5)),
-        b"from",
-        drive,
-        label,
-    );
-    line(
-        move_one(drive, tape(own, 5), tape(label, 5)),
-        b"to",
-        drive,
-        label,
-    );
+    taken_in(drive, label);
+    moved(drive, label, own, b"from", label);
+    moved(drive, own, label, b"to", label);
 }
 
 fn row(drive: u8, own: &[u8; 8]) {
@@ -278,21 +281,28 @@ fn accession_of_two(drive: u8, one: Entry, other: Entry) -> Job {
     }
 }
 
+fn both(drive: u8, one: &[u8; 8], other: &[u8; 8], name: &[u8]) {
+    line(
+        accession_of_two(drive, tape(one, 5), tape(other, 5)),
+        name,
+        drive,
+        other,
+    );
+}
+
 // Labels that end in `M`: M8 is a medium of its own, and the only one.
 fn type_m() {
-    let l8 = tape(b"VAA001L8", 5);
-    let m8 = tape(b"VAA001M8", 5);
-    whole(accession_of_two(8, l8, m8), b"two8");
-    whole(accession_of_two(9, l8, m8), b"two9");
-    whole(accession_of_two(8, m8, m8), b"twice");
-    whole(move_one(8, m8, l8), b"M8toL8");
-    whole(move_one(8, tape(b"VAA001L7", 5), m8), b"L7toM8");
-    whole(move_one(8, l8, m8), b"L8toM8");
-    whole(accession_of(8, tape(b"VAA001M5", 5)), b"M5");
-    whole(accession_of(8, tape(b"VAA001M6", 5)), b"M6");
-    whole(accession_of(8, tape(b"VAA001M7", 5)), b"M7");
-    whole(accession_of(8, tape(b"VAA001M9", 5)), b"M9");
-    whole(accession_of(8, tape(b"VAA001N8", 5)), b"N8");
+    both(8, b"VAA001L8", b"VAA001M8", b"L8 and");
+    both(9, b"VAA001L8", b"VAA001M8", b"L8 and");
+    both(8, b"VAA001M8", b"VAA001M8", b"M8 and");
+    moved(8, b"VAA001M8", b"VAA001L8", b"M8 to", b"VAA001L8");
+    moved(8, b"VAA001L7", b"VAA001M8", b"L7 to", b"VAA001M8");
+    moved(8, b"VAA001L8", b"VAA001M8", b"L8 to", b"VAA001M8");
+    taken_in(8, b"VAA001M5");
+    taken_in(8, b"VAA001M6");
+    taken_in(8, b"VAA001M7");
+    taken_in(8, b"VAA001M9");
+    taken_in(8, b"VAA001N8");
 }
 
 // The first n of these bytes, too few or too many.
