@@ -1,5 +1,5 @@
-//! Run files near each edge of document 01, with the text that it asks for, worked out here and not by any of the programs.
-//! Its figures are written out, so that no constant of this crate vouches for itself.
+//! Run files near each edge of document 01 and of the change requests, with the text that they ask for, worked out here and not by any of the
+//! programs. The documents' figures are written out, so that no constant of this crate vouches for itself.
 
 use crate::record::Bytes;
 use crate::step::Step;
@@ -191,7 +191,8 @@ const TYPE_M: [Answer; 15] = [
     (8, 5),
 ];
 
-/// M8 taken in by each drive, M5, M6, M7 and M9; migrations from M8 and to it, tapes of both types that share six characters; drive 9 again.
+/// M8 taken in by each drive; M5, M6, M7 and M9; migrations from M8 and to it, and an accession of labels that differ in the medium; drive 9
+/// again.
 fn type_m() -> Vec<u8> {
     let m8 = (b"VAA001M8", 9);
     let l8 = (b"VAA001L8", 9);

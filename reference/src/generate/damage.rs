@@ -6,7 +6,7 @@ use super::traffic::{action, look_at_all};
 use super::FAMILIES;
 use crate::random::Random;
 use crate::record::{
-    entry_start, Bytes, Tape, FIRST_OUTPUT, HEAD_BYTES, LABEL_BYTES, MEDIA, RECORD_BYTES,
+    entry_start, Bytes, Medium, Tape, FIRST_OUTPUT, HEAD_BYTES, LABEL_BYTES, MEDIA, RECORD_BYTES,
 };
 use crate::settings::HEADER_BYTES;
 use crate::write::migration;
@@ -101,9 +101,19 @@ fn wrong_frames(random: &mut Random, record: &mut Bytes) {
     record[at..at + 4].copy_from_slice(&wrong.to_le_bytes());
 }
 
-/// A byte just outside (or just inside) what a label may have there.
+/// Endings that are nearly a medium.
+const NO_MEDIA: [Medium; 8] = [
+    *b"M5", *b"M6", *b"M7", *b"M9", *b"m8", *b"N8", *b"L4", *b"8M",
+];
+
+/// An ending that is no medium, or a byte just outside (or just inside) what a label may have there.
 fn wrong_label(random: &mut Random, record: &mut Bytes) {
     let entry = *random.pick(&used(record));
+    if random.chance(25) {
+        let end = entry_start(entry) + LABEL_BYTES;
+        record[end - 2..end].copy_from_slice(&random.pick(&NO_MEDIA)[..]);
+        return;
+    }
     let byte = random.below(LABEL_BYTES as u64) as usize;
     let near: &[u8] = match byte {
         6 => b"KLMNlm1",
