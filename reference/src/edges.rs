@@ -1,5 +1,5 @@
-//! Run files near each edge of document 01, with the text that it asks for, worked out here and not by any of the programs.
-//! Its figures are written out, so that no constant of this crate vouches for itself.
+//! Run files near each edge of document 01 and of the change requests, with the text that they ask for, worked out here and not by any of the
+//! programs. The documents' figures are written out, so that no constant of this crate vouches for itself.
 
 use crate::record::Bytes;
 use crate::step::Step;
@@ -29,6 +29,7 @@ pub fn all() -> Vec<Edge> {
         edge("kind 255", unknown(255), &[(4, 0), (2, 0)]),
         edge("a body cut short", cut_short(), &[(0, 0), (2, 0)]),
         edge("a chain of 128 jobs", chain(), &chain_answers()),
+        edge("labels that end in M", type_m(), &TYPE_M),
         one_run_whole(),
     ]
 }
@@ -169,6 +170,52 @@ fn chain_answers() -> Vec<Answer> {
     (0..128)
         .flat_map(|i| [(0, i), (0, 1), (0, 1), (0, i)])
         .collect()
+}
+
+/// Document 02, M-100. "Drive 8, and no other, reads and writes them."
+const TYPE_M: [Answer; 15] = [
+    (0, 0),
+    (8, 4),
+    (8, 4),
+    (8, 4),
+    (8, 4),
+    (6, 0),
+    (6, 0),
+    (6, 0),
+    (6, 0),
+    (0, 1),
+    (0, 2),
+    (0, 3),
+    (0, 4),
+    (8, 0),
+    (8, 5),
+];
+
+/// M8 taken in by each drive; M5, M6, M7 and M9; migrations from M8 and to it, and an accession of labels that differ in the medium; drive 9
+/// again.
+fn type_m() -> Vec<u8> {
+    let m8 = (b"VAA001M8", 9);
+    let l8 = (b"VAA001L8", 9);
+    let l7 = (b"VAA001L7", 9);
+    let taken_in = |drive: u8, label: &[u8; 8]| propose(record(0, drive, &[], &[(label, 9)]));
+    let steps = [
+        taken_in(8, b"VAA001M8"),
+        taken_in(5, b"VAA001M8"),
+        taken_in(6, b"VAA001M8"),
+        taken_in(7, b"VAA001M8"),
+        taken_in(9, b"VAA001M8"),
+        taken_in(8, b"VAA001M5"),
+        taken_in(8, b"VAA001M6"),
+        taken_in(8, b"VAA001M7"),
+        taken_in(8, b"VAA001M9"),
+        propose(record(1, 8, &[m8], &[l8])),
+        propose(record(1, 8, &[l7], &[m8])),
+        propose(record(1, 8, &[l8], &[m8])),
+        propose(record(0, 8, &[], &[l8, m8])),
+        propose(record(1, 9, &[m8], &[l8])),
+        propose(record(0, 9, &[], &[l8, m8])),
+    ];
+    run_file(1, 0, 0, &steps)
 }
 
 fn one_run_whole() -> Edge {
