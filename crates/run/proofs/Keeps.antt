@@ -1,7 +1,7 @@
 -- What a run keeps stays right: whatever a step decides, the journal, its index, the arrival order and the memo follow the ledger.
-use mathlib.Core.Bool.{Bool, _||_, cond, false, true}
+use mathlib.Core.Bool.{Bool, _||_, false, true, true≢false}
 use mathlib.Core.List.{List}
-use mathlib.Core.Logic.{_≢_, ⊎-elim}
+use mathlib.Core.Logic.{_≢_, inr, ⊎-elim}
 use mathlib.Core.Path.{_∙_, _≡_, ap, refl, subst, sym}
 use Prim.Native.Nat.{_*_, _+_, _<_, _≤_, ℕ}
 use native.Mathlib.Nat.{eq-or-lt-of-le, le-of-suc-le-suc, not-suc-le-zero}
@@ -11,7 +11,7 @@ use lib.Dec.{eqb, leb}
 use lib.ListN.{getD, length, length-replicate, length-set, replicate, set}
 use lib.Seq.{getD-set-other, getD-set-same}
 use borrow.Author.Tests.{eqb-false, eqb-true, leb-false}
-use Rattle.base.proofs.Reflect.{by-cases}
+use Rattle.base.proofs.Reflect.{by-cases, or-false}
 use Rattle.federation.proofs.Lawful.{reflect-lawful}
 use Rattle.federation.specs.Federation.{isLawful}
 use Rattle.codec.specs.Codec.{jobOf, recordSize}
@@ -35,95 +35,98 @@ use Rattle.run.specs.Kept.{Kept}
 use Rattle.steps.specs.Stored.{Stored}
 
 -- ---- what is kept, after a change
+-- a ledger with the same settings, counts and order
+record Alike (m l : Ledger) : Type 0 where
+  settings : m .settings ≡ l .settings
+  booked : m .booked ≡ l .booked
+  arrivals : m .arrivals ≡ l .arrivals
+  order : m .order ≡ l .order
+
+-- a job at the end of an order, of jobs that are all booked
+module _ (order : List ℕ) (n job booked : ℕ) (below : job < booked) (arrived : (q : ℕ) → q < n → getD order q 0 < booked) (room : n < length order) where
+  arrived-at : (q : ℕ) → q < n + 1 → getD (set order n job) q 0 < booked
+  arrived-at q h =
+      by-cases (λ b. getD (set order n job) q 0 < booked) (eqb q n)
+      (λ e. rw (eqb-true q n e, getD-set-same order n job 0 room) below)
+      (λ e. let other : q ≢ n = eqb-false q n e in
+      let earlier : q < n = ⊎-elim (λ (x : q ≡ n). absurd (other x)) (λ (x : q < n). x) (eq-or-lt-of-le (le-of-suc-le-suc (rw add-one at h))) in
+      rw (getD-set-other order n q job 0 other) (arrived q earlier))
+
 module _ (l : Ledger) (journal numbers sets records memo : List ℕ) (k : Kept l journal numbers sets records memo) where
   -- the booked jobs are read as before where one more record is put
   grown-jobs : (bytes : List ℕ) → length bytes ≡ recordSize → recordSize * l .booked + recordSize ≤ length journal
       → (j : ℕ) → j < l .booked → jobAt journal (l .booked) j ≡ jobAt (putAt journal (l .booked) bytes) (l .booked + 1) j
   unfolding slotJob
   grown-jobs bytes size room j b =
+      let put = putAt journal (l .booked) bytes in
       sym (slot-booked journal (l .booked) j (omega arith) b)
       ∙ ap jobOf (sym (slot-before (l .booked) journal bytes size room j b))
-      ∙ slot-booked (putAt journal (l .booked) bytes) (l .booked + 1) j (omega (arith, put-length (l .booked) journal bytes size room)) (omega arith)
+      ∙ slot-booked put (l .booked + 1) j (omega (arith, put-length (l .booked) journal bytes size room)) (omega arith)
 
-  kept-book : (bytes journal′ numbers′ sets′ records′ : List ℕ) → Writable Book (l .booked) journal bytes → Stored Book (l .booked) journal bytes journal′ numbers′ sets′ records′
-      → Kept (booking l) journal′ numbers′ sets′ records′ memo
-  unfolding booking
-  kept-book bytes journal′ numbers′ sets′ records′ w t =
-      let few = w .few refl in
-      let room = w .room refl in
-      let size = w .size refl in
-      record {
-        sane = record { lawful = k .sane .lawful; booked = omega arith; arrivals = k .sane .arrivals };
-        order-size = k .order-size;
-        arrived = λ q h. omega (arith, k .arrived q h);
-        journal-size = ap length (t .written) ∙ put-length (l .booked) journal bytes size room ∙ k .journal-size;
-        indexed = t .indexed;
-        memo-size = k .memo-size;
-        right = subst (λ (x : List ℕ). Memo (jobAt x (l .booked + 1)) (l .order) (l .arrivals) memo) (sym (t .written))
-            (memo-book (jobAt journal (l .booked)) (jobAt (putAt journal (l .booked) bytes) (l .booked + 1)) (l .order) (l .arrivals) memo
-            (λ q h. grown-jobs bytes size room (getD (l .order) q 0) (k .arrived q h)) (k .right));
-      }
+  -- with a journal and an index afterwards
+  module _ (journal′ numbers′ sets′ records′ : List ℕ) where
+    abbrev KeptBy : Ledger → Type 0
+    KeptBy m = Kept m journal′ numbers′ sets′ records′ memo
 
-  -- a ledger with the same settings, counts and order
-  kept-same : (m : Ledger) (journal′ numbers′ sets′ records′ : List ℕ) → m .settings ≡ l .settings → m .booked ≡ l .booked → m .arrivals ≡ l .arrivals → m .order ≡ l .order
-      → journal′ ≡ journal → Indexed journal′ (l .booked) numbers′ sets′ records′ → Kept m journal′ numbers′ sets′ records′ memo
-  kept-same m journal′ numbers′ sets′ records′ es eb ea eo ej i = record {
-    sane = record { lawful = rw es (k .sane .lawful); booked = omega (arith, k .sane .booked); arrivals = omega (arith, k .sane .arrivals) };
-    order-size = ap length eo ∙ k .order-size;
-    arrived = λ q h. rw (eo, eb) (k .arrived q (omega (arith, h)));
-    journal-size = ap length ej ∙ k .journal-size;
-    indexed = rw eb i;
-    memo-size = k .memo-size;
-    right = rw (eo, eb, ea, ej) (k .right);
-  }
+    abbrev StoredBy : Change → List ℕ → Type 0
+    StoredBy change bytes = Stored change (l .booked) journal bytes journal′ numbers′ sets′ records′
 
-  -- a job arrives
-  kept-arrive : (m : Ledger) (job : ℕ) (journal′ numbers′ sets′ records′ : List ℕ) → job < l .booked → m .settings ≡ l .settings → m .booked ≡ l .booked → m .arrivals ≡ l .arrivals
-      → m .order ≡ l .order → journal′ ≡ journal → Indexed journal′ (l .booked) numbers′ sets′ records′ → Kept (arriving m job) journal′ numbers′ sets′ records′ memo
-  unfolding arriving enqueued
-  kept-arrive m job journal′ numbers′ sets′ records′ b es eb ea eo ej i = by (hasArrived (m .order) (m .arrivals) job) refl (leb capacity (m .arrivals)) refl
-    where
-      same : Kept m journal′ numbers′ sets′ records′ memo
-      same = kept-same m journal′ numbers′ sets′ records′ es eb ea eo ej i
+    kept-book : (bytes : List ℕ) → Writable Book (l .booked) journal bytes → StoredBy Book bytes → KeptBy (booking l)
+    unfolding booking
+    kept-book bytes w t =
+        let few = w .few refl in
+        let room = w .room refl in
+        let size = w .size refl in
+        record {
+          sane = record { lawful = k .sane .lawful; booked = omega arith; arrivals = k .sane .arrivals };
+          order-size = k .order-size;
+          arrived = λ q h. omega (arith, k .arrived q h);
+          journal-size = ap length (t .written) ∙ put-length (l .booked) journal bytes size room ∙ k .journal-size;
+          indexed = t .indexed;
+          memo-size = k .memo-size;
+          right = subst (λ (x : List ℕ). Memo (jobAt x (l .booked + 1)) (l .order) (l .arrivals) memo) (sym (t .written))
+              (memo-book (jobAt journal (l .booked)) (jobAt (putAt journal (l .booked) bytes) (l .booked + 1)) (l .order) (l .arrivals) memo
+              (λ q h. grown-jobs bytes size room (getD (l .order) q 0) (k .arrived q h)) (k .right));
+        }
 
-      arrived-at : (q : ℕ) → m .arrivals < length (m .order) → q < m .arrivals + 1 → getD (set (m .order) (m .arrivals) job) q 0 < m .booked
-      arrived-at q room h = at (eqb q (m .arrivals)) refl
-        where
-          at : (t : Bool) → eqb q (m .arrivals) ≡ t → getD (set (m .order) (m .arrivals) job) q 0 < m .booked
-          at true e = rw (eqb-true q (m .arrivals) e, getD-set-same (m .order) (m .arrivals) job 0 room, eb) b
-          at false e =
-              let n : q ≢ m .arrivals = eqb-false q (m .arrivals) e in
-              rw (getD-set-other (m .order) (m .arrivals) q job 0 n) (same .arrived q (below n))
-            where
-              below : q ≢ m .arrivals → q < m .arrivals
-              below n = ⊎-elim (λ (x : q ≡ m .arrivals). absurd (n x)) (λ (x : q < m .arrivals). x) (eq-or-lt-of-le (le-of-suc-le-suc (rw add-one at h)))
+    kept-same : (m : Ledger) → Alike m l → journal′ ≡ journal → Indexed journal′ (l .booked) numbers′ sets′ records′ → KeptBy m
+    kept-same m a e i = record {
+      sane = record { lawful = rw (a .settings) (k .sane .lawful); booked = omega (arith, k .sane .booked); arrivals = omega (arith, k .sane .arrivals) };
+      order-size = ap length (a .order) ∙ k .order-size;
+      arrived = λ q h. rw (a .order, a .booked) (k .arrived q (omega (arith, h)));
+      journal-size = ap length e ∙ k .journal-size;
+      indexed = rw (a .booked) i;
+      memo-size = k .memo-size;
+      right = rw (a .order, a .booked, a .arrivals, e) (k .right);
+    }
 
-      by : (a : Bool) → hasArrived (m .order) (m .arrivals) job ≡ a → (f : Bool) → leb capacity (m .arrivals) ≡ f → Kept (cond (a || f) m (enqueued m job)) journal′ numbers′ sets′ records′ memo
-      by true e f g = same
-      by false e true g = same
-      by false e false g =
-          let room : m .arrivals < capacity = leb-false capacity (m .arrivals) g in
-          record {
-            sane = record { lawful = same .sane .lawful; booked = same .sane .booked; arrivals = omega arith };
-            order-size = length-set (m .order) (m .arrivals) job ∙ same .order-size;
-            arrived = λ q h. arrived-at q (omega (arith, same .order-size)) h;
-            journal-size = same .journal-size;
-            indexed = same .indexed;
-            memo-size = same .memo-size;
-            right = memo-arrive (jobAt journal′ (m .booked)) (m .order) (m .arrivals) job memo (same .right);
-          }
+    -- a job arrives
+    kept-arrive : (m : Ledger) (job : ℕ) → job < m .booked → KeptBy m → KeptBy (arriving m job)
+    unfolding arriving enqueued
+    kept-arrive m job b same =
+        let has = hasArrived (m .order) (m .arrivals) job in
+        let full = leb capacity (m .arrivals) in
+        by-cases (λ x. KeptBy (arriving m job)) (has || full) (λ e. rw e same)
+        (λ e. let room : m .arrivals < capacity = leb-false capacity (m .arrivals) (or-false has full e .1) in
+        rw e (record {
+          sane = record { lawful = same .sane .lawful; booked = same .sane .booked; arrivals = omega arith };
+          order-size = length-set (m .order) (m .arrivals) job ∙ same .order-size;
+          arrived = arrived-at (m .order) (m .arrivals) job (m .booked) b (same .arrived) (omega (arith, same .order-size));
+          journal-size = same .journal-size;
+          indexed = same .indexed;
+          memo-size = same .memo-size;
+          right = memo-arrive (jobAt journal′ (m .booked)) (m .order) (m .arrivals) job memo (same .right);
+        }))
 
-  -- whatever the change
-  pub kept-applied : (change : Change) (v job : ℕ) (bytes journal′ numbers′ sets′ records′ : List ℕ) → Writable change (l .booked) journal bytes
-      → ((state : Vault) → change ≡ Hold state → job < l .booked) → Stored change (l .booked) journal bytes journal′ numbers′ sets′ records′
-      → Kept (applied l change v job) journal′ numbers′ sets′ records′ memo
-  unfolding applied voted withVault
-  kept-applied Nothing v job bytes journal′ numbers′ sets′ records′ w b t = kept-same l journal′ numbers′ sets′ records′ refl refl refl refl (t .written) (t .indexed)
-  kept-applied Book v job bytes journal′ numbers′ sets′ records′ w b t = kept-book bytes journal′ numbers′ sets′ records′ w t
-  kept-applied (Sign state) v job bytes journal′ numbers′ sets′ records′ w b t = kept-same _ journal′ numbers′ sets′ records′ refl refl refl refl (t .written) (t .indexed)
-  kept-applied (Hold state) v job bytes journal′ numbers′ sets′ records′ w b t =
-      kept-arrive _ job journal′ numbers′ sets′ records′ (b state refl) refl refl refl refl (t .written) (t .indexed)
-  kept-applied (Record column) v job bytes journal′ numbers′ sets′ records′ w b t = kept-same _ journal′ numbers′ sets′ records′ refl refl refl refl (t .written) (t .indexed)
+    -- whatever the change
+    pub kept-applied : (change : Change) (v job : ℕ) (bytes : List ℕ) → Writable change (l .booked) journal bytes
+        → ((state : Vault) → change ≡ Hold state → job < l .booked) → StoredBy change bytes → KeptBy (applied l change v job)
+    unfolding applied voted withVault
+    kept-applied Nothing v job bytes w b t = kept-same l (search) (t .written) (t .indexed)
+    kept-applied Book v job bytes w b t = kept-book bytes w t
+    kept-applied (Sign state) v job bytes w b t = kept-same _ (search) (t .written) (t .indexed)
+    kept-applied (Hold state) v job bytes w b t = kept-arrive _ job (b state refl) (kept-same _ (search) (t .written) (t .indexed))
+    kept-applied (Record column) v job bytes w b t = kept-same _ (search) (t .written) (t .indexed)
 
   -- ---- generations
   pub ready : Ready journal (l .booked) numbers sets (l .order) (l .arrivals) memo
@@ -138,7 +141,8 @@ module _ (l : Ledger) (journal numbers sets records memo : List ℕ) (k : Kept l
   }
 
   -- another memo that is right
-  pub kept-memo : (memo′ : List ℕ) → Memo (jobAt journal (l .booked)) (l .order) (l .arrivals) memo′ → length memo′ ≡ capacity → Kept l journal numbers sets records memo′
+  pub kept-memo : (memo′ : List ℕ) → Memo (jobAt journal (l .booked)) (l .order) (l .arrivals) memo′ → length memo′ ≡ capacity
+      → Kept l journal numbers sets records memo′
   kept-memo memo′ r z = record {
     sane = k .sane;
     order-size = k .order-size;
@@ -158,7 +162,7 @@ kept-new n b faulty e = record {
   order-size = refl;
   arrived = λ q h. absurd (not-suc-le-zero h);
   journal-size = length-replicate {A = ℕ} journalSize 0;
-  indexed = indexed-none (replicate journalSize 0) (replicate numbersSize 0) (replicate setsSize 0) (replicate recordsSize 0) (record { no-numbers = refl; no-sets = refl; no-records = refl });
+  indexed = indexed-none _ _ _ _ (record { no-numbers = refl; no-sets = refl; no-records = refl });
   memo-size = refl;
   right = memo-none _ _ _ capacity;
 }

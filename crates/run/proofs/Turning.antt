@@ -32,7 +32,8 @@ use Rattle.steps.specs.Turned.{CarriedOut, Said, Surveyed, decisionAt, longestT
 use Rattle.steps.specs.declared.Step.{Step}
 use Rattle.steps.specs.declared.Told.{Told}
 use Rattle.steps.specs.declared.View.{View}
-use Rattle.run.proofs.Commands.{There, booksOf, commandDecision, decided-is, left-by, reply-ledger, reply-outcome, there, viewAt, wide-outcome, wide-quiet}
+use Rattle.run.proofs.Commands.{There, booksOf, commandDecision, decided-is, left-by, reply-ledger, reply-outcome, there, viewAt}
+use Rattle.run.proofs.Commands.{wide-outcome, wide-quiet}
 use Rattle.run.proofs.Keeps.{kept-applied, kept-memo, ready}
 use Rattle.run.proofs.Pieces.{nothing-yet, piece-more}
 use Rattle.run.specs.Kept.{Kept}
@@ -162,9 +163,10 @@ module _ {input : List ℕ} {l₀ : Ledger} {pos₀ count₀ : ℕ} {journal₀ 
     to-write : Writable (told .change) (l .booked) journal (recordIn input s)
     to-write = rw (c .change-is) (writable view journal input (s .at) (s .kind) found refl)
 
-    kept-so : ((state : Vault) → told .change ≡ Hold state → s .job < l .booked) → Kept (applied l (told .change) (s .vault) (s .job)) journal′ numbers′ sets′ records′ memo
+    kept-so : ((state : Vault) → told .change ≡ Hold state → s .job < l .booked)
+        → Kept (applied l (told .change) (s .vault) (s .job)) journal′ numbers′ sets′ records′ memo
     kept-so below =
-        kept-applied l journal numbers sets records memo (t .kept) (told .change) (s .vault) (s .job) (recordIn input s) journal′ numbers′ sets′ records′
+        kept-applied l journal numbers sets records memo (t .kept) journal′ numbers′ sets′ records′ (told .change) (s .vault) (s .job) (recordIn input s)
         to-write below (c .stored)
 
     -- one that changes nothing

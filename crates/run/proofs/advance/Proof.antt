@@ -27,33 +27,51 @@ Inv-loop memo₀ journal₀ numbers₀ sets₀ records₀ input out₀ l₀ pos�
 abbrev μ-loop : tie.MeasureT-loop
 μ-loop memo₀ journal₀ numbers₀ sets₀ records₀ input out₀ l₀ pos₀ count₀ at₀ memo journal numbers sets records out l pos count at = length input - pos
 
--- In what follows s is the place after the step was read: the loop's head is three places before it.
-
+-- In what follows s is the place after the step was read, three places after the loop's head, and t the place after it was carried out.
 loop-again : tie.Need-loop-again Inv-loop μ-loop
 loop-again c =
-    let s = c .before .before .before .before .before .before .before .before .before .before .before .before .before .before .before .before in
-    (turn-wide (s .before .before .before .loop .inv .0) (s .before .before .loop-test .taken) _ (s .step-at .ensures) _ _ _ (c .before .before .before .before .before .before .before .before .before .before .before .before .before .before .before .if2 .taken) (c .before .before .before .before .survey .ensures) (s .before .if1 .left) (search needs), search needs)
+    let t = c .before .before .before .before in
+    let n = t .before .before .before .before .before .before .before .before .before .before .before in
+    let s = n .before in
+    (turn-wide (s .before .before .before .loop .inv .0) (s .before .before .loop-test .taken) _ (s .step-at .ensures) _ _ _ (n .if2 .taken) (t .survey .ensures) (s .before .if1 .left) (search needs), search needs)
 
 carry-out-requires : tie.Need-carry-out-requires Inv-loop μ-loop
-carry-out-requires c κs = let s = c .before .before .before .before .before .before .before .before .before .before .before in to-carry-out (s .before .before .before .loop .inv .0) _ (s .before .before .loop-test .taken) (s .step-at .ensures) (s .before .if1 .left)
+carry-out-requires c κs =
+    let s = c .before .before .before .before .before .before .before .before .before .before .before in
+    to-carry-out (s .before .before .before .loop .inv .0) _ (s .before .before .loop-test .taken) (s .step-at .ensures) (s .before .if1 .left)
 
 loop-again-2 : tie.Need-loop-again-2 Inv-loop μ-loop
 loop-again-2 c =
-    let s = c .before .before .before .before .before .before .before .before .before .before .before .before .before .before .before .before .before .before .before .before .before .before .before .before in
-    (turn-quiet (s .before .before .before .loop .inv .0) (s .before .before .loop-test .taken) _ (s .step-at .ensures) (c .before .before .before .before .before .before .before .before .before .before .before .before .before .before .before .before .before .before .before .before .before .before .before .if2 .left) _ _ _ _ _ _ (c .before .before .before .before .before .before .before .before .before .before .before .before .carry-out .ensures) _ (c .before .is-nothing .ensures) (c .if3 .taken) (s .before .if1 .left) (search needs), search needs)
+    let t = c .before .before .before .before .before .before .before .before .before .before .before .before in
+    let n = t .before .before .before .before .before .before .before .before .before .before .before in
+    let s = n .before in (
+      turn-quiet (s .before .before .before .loop .inv .0) (s .before .before .loop-test .taken) _ (s .step-at .ensures) (n .if2 .left) _ _ _ _ _ _ (t .carry-out .ensures) _
+          (c .before .is-nothing .ensures) (c .if3 .taken) (s .before .if1 .left) (search needs),
+      search (needs, t .carry-out .kept, s .before .before .before .loop .inv .1),
+    )
 
 apply-requires : tie.Need-apply-requires Inv-loop μ-loop
 apply-requires c κs =
-    let s = c .before .before .before .before .before .before .before .before .before .before .before .before .before .before .before .before .before .before .before .before .before .before .before .before in
-    loud-placed (s .before .before .before .loop .inv .0) (s .before .before .loop-test .taken) _ (s .step-at .ensures) (c .before .before .before .before .before .before .before .before .before .before .before .before .before .before .before .before .before .before .before .before .before .before .before .if2 .left) _ _ _ _ _ _ (c .before .before .before .before .before .before .before .before .before .before .before .before .carry-out .ensures) _ (c .before .is-nothing .ensures) (c .if3 .left)
+    let t = c .before .before .before .before .before .before .before .before .before .before .before .before in
+    let n = t .before .before .before .before .before .before .before .before .before .before .before in
+    let s = n .before in
+    loud-placed (s .before .before .before .loop .inv .0) (s .before .before .loop-test .taken) _ (s .step-at .ensures) (n .if2 .left) _ _ _ _ _ _ (t .carry-out .ensures) _
+    (c .before .is-nothing .ensures) (c .if3 .left)
 
 loop-less-3 : tie.Need-loop-less-3 Inv-loop μ-loop
-loop-less-3 c = reads-on (c .before .before .before .before .before .before .before .before .before .before .before .before .before .before .before .before .before .before .before .before .before .before .before .before .before .step-at .ensures)
+loop-less-3 c =
+    let t = c .before .before .before .before .before .before .before .before .before .before .before .before .before in
+    reads-on (t .before .before .before .before .before .before .before .before .before .before .before .before .step-at .ensures)
 
 loop-again-3 : tie.Need-loop-again-3 Inv-loop μ-loop
 loop-again-3 c =
-    let s = c .before .before .before .before .before .before .before .before .before .before .before .before .before .before .before .before .before .before .before .before .before .before .before .before .before in
-    (turn-loud (s .before .before .before .loop .inv .0) (s .before .before .loop-test .taken) _ (s .step-at .ensures) (c .before .before .before .before .before .before .before .before .before .before .before .before .before .before .before .before .before .before .before .before .before .before .before .before .if2 .left) _ _ _ _ _ _ (c .before .before .before .before .before .before .before .before .before .before .before .before .before .carry-out .ensures) _ (c .before .before .is-nothing .ensures) (c .before .if3 .left) _ (c .apply .ensures) (s .before .if1 .left) (search needs), search (needs, c .before .before .before .before .before .before .before .before .before .before .before .before .before .carry-out .kept, s .before .before .before .loop .inv .1))
+    let t = c .before .before .before .before .before .before .before .before .before .before .before .before .before in
+    let n = t .before .before .before .before .before .before .before .before .before .before .before in
+    let s = n .before in (
+      turn-loud (s .before .before .before .loop .inv .0) (s .before .before .loop-test .taken) _ (s .step-at .ensures) (n .if2 .left) _ _ _ _ _ _ (t .carry-out .ensures) _
+          (c .before .before .is-nothing .ensures) (c .before .if3 .left) _ (c .apply .ensures) (s .before .if1 .left) (search needs),
+      search (needs, t .carry-out .kept, s .before .before .before .loop .inv .1),
+    )
 
 pub advance-spec : {M : Type 1} → statement M
 advance-spec =
