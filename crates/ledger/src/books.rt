@@ -145,8 +145,9 @@ impl Ledger {
                 self
             }
             Change::See(seen) => {
+                let next = snapshot::following(self.settings.n, self.next);
                 self.seen = seen;
-                self.next = snapshot::following(self.settings.n, self.next);
+                self.next = next;
                 self
             }
         }

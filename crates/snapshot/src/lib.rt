@@ -26,7 +26,8 @@ fn visible(settings: Settings, held: JobSet, vault: u8) -> JobSet
     held
 }
 
-fn seen_before(next: u8, seen: JobSet) -> JobSet
+// The jobs seen in this round before the visit to the next vault: a round starts with none.
+pub fn seen_before(next: u8, seen: JobSet) -> JobSet
     ensures { λ r. ⌜ r ≡ seenBefore next seen ⌝ }
 {
     if next == 0 {
