@@ -54,7 +54,7 @@ apply-spec =
     (λ c. search needs)
     (λ c. search needs)
     (λ c. search needs)
-    (λ c κs. search needs)
+    (λ c κs. search (needs))
     returns
     returns-2
     returns-3
