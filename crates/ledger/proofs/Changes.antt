@@ -293,7 +293,7 @@ module _ (w : World) (sh : Shape (w .ledger) (w .booked)) (size : ℕ) (beyond :
   unfolding snapshotDecision snapshotting applied visited
   change-snapshot =
       behind snapshot (saneGate l) _ 0 0
-      (λ g. moves snapshot (carried l (snapshotting (l .settings) (l .next) (l .seen) (vaultAt l (l .next))) 0 0) refl sees)
+      (λ g. moves snapshot (carried l (snapshotting (l .settings) (l .next) (l .seen) (vaultAt l (l .next) .held)) 0 0) refl sees)
 
   -- ---- propose
   -- a record inside the journal is a booked one

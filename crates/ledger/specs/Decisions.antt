@@ -99,9 +99,9 @@ unfoldable pub ageing : Bool → ℕ → Decision
 ageing held age = cond held (answering age) (refusing NotHeld)
 
 -- ---- kind 9, a snapshot: "The value is the number of different jobs seen in this round."
-unfoldable pub snapshotting : Settings → ℕ → JobSet → Vault → Decision
-snapshotting s next seen state =
-    let all = seenAfter s next seen (state .held) in
+unfoldable pub snapshotting : Settings → ℕ → JobSet → JobSet → Decision
+snapshotting s next seen held =
+    let all = seenAfter s next seen held in
     record { outcome = Done (jobCount all); change = See all }
 
 -- ---- of a change

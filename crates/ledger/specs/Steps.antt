@@ -90,7 +90,7 @@ generationsDecision l journal job =
 
 -- kind 9: "no check but 2"; the vault that it visits is the ledger's
 unfoldable pub snapshotDecision : Ledger → Decision
-snapshotDecision l = gated (saneGate l) (snapshotting (l .settings) (l .next) (l .seen) (vaultAt l (l .next)))
+snapshotDecision l = gated (saneGate l) (snapshotting (l .settings) (l .next) (l .seen) (vaultAt l (l .next) .held))
 
 -- ---- a decision carried out
 

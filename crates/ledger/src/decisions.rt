@@ -223,11 +223,11 @@ pub fn show(gate: Verdict, settings: Settings, votes: Votes) -> Decision
     }
 }
 
-// Kind 9: the snapshot's visit to the next vault, which is in this state. The value is the number of jobs seen in this round.
-pub fn snapshot(settings: Settings, next: u8, seen: JobSet, state: Vault) -> Decision
-    ensures { λ r. ⌜ r ≡ snapshotting settings next seen state ⌝ }
+// Kind 9: the snapshot's visit to the next vault, which holds `held`. The value is the number of jobs seen in this round.
+pub fn snapshot(settings: Settings, next: u8, seen: JobSet, held: JobSet) -> Decision
+    ensures { λ r. ⌜ r ≡ snapshotting settings next seen held ⌝ }
 {
-    let all = snapshot::seen_after(settings, next, seen, state.held);
+    let all = snapshot::seen_after(settings, next, seen, held);
     Decision {
         outcome: Outcome::Done(all.count()),
         change: Change::See(all),

@@ -159,7 +159,7 @@ pub fn snapshot(ledger: Ledger) -> Reply
         let seen = ledger.seen;
         return gates::carry(
             ledger,
-            decisions::snapshot(settings, next, seen, state),
+            decisions::snapshot(settings, next, seen, state.held),
             0,
             0,
         );
