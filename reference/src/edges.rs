@@ -221,6 +221,9 @@ fn type_m() -> Vec<u8> {
         propose(record(0, 8, &[], &[l8, m8])),
         propose(record(1, 9, &[m8], &[l8])),
         propose(record(0, 9, &[], &[l8, m8])),
+    ];
+    run_file(1, 0, 0, &steps)
+}
 
 /// Empty books: a round, and the first visit of the next. Then job 0 is held at vault 0, after its visit, and at vault 2; vault 3, which is faulty,
 /// acknowledges jobs 0 and 1, which nobody sees there.
@@ -290,7 +293,6 @@ fn short_rounds() -> Vec<u8> {
     ];
     run_file(1, 0, 0, &steps)
 }
-
 
 const SHORT_ROUNDS: [Answer; 7] = [(0, 0), (0, 0), (0, 1), (0, 0), (0, 1), (0, 1), (0, 1)];
 
