@@ -30,6 +30,13 @@ pub fn all() -> Vec<Edge> {
         edge("a body cut short", cut_short(), &[(0, 0), (2, 0)]),
         edge("a chain of 128 jobs", chain(), &chain_answers()),
         edge("labels that end in M", type_m(), &TYPE_M),
+        edge("snapshots of four vaults", rounds(), &ROUNDS),
+        edge(
+            "one vault, each visit a round",
+            short_rounds(),
+            &SHORT_ROUNDS,
+        ),
+        edge("nothing but visits", visits(), &[(0, 0); 65_527]),
         one_run_whole(),
     ]
 }
@@ -216,6 +223,84 @@ fn type_m() -> Vec<u8> {
         propose(record(0, 9, &[], &[l8, m8])),
     ];
     run_file(1, 0, 0, &steps)
+}
+
+/// Empty books: a round, and the first visit of the next. Then job 0 is held at vault 0, after its visit, and at vault 2; vault 3, which is faulty,
+/// acknowledges jobs 0 and 1, which nobody sees there.
+fn rounds() -> Vec<u8> {
+    let mut steps = vec![snapshot(); 5];
+    steps.extend([
+        propose(record(0, 7, &[], &[(b"VAA001L7", 9)])),
+        propose(record(0, 7, &[], &[(b"VAB001L7", 9)])),
+        preflight(0, 0),
+        preflight(1, 0),
+        faulty_signature(3, 0),
+        commit(0, 0, 11),
+        snapshot(),
+        commit(2, 0, 11),
+        faulty_acknowledgement(3, 0),
+        faulty_acknowledgement(3, 1),
+        snapshot(),
+        show(0),
+        snapshot(),
+        snapshot(),
+        snapshot(),
+        draw(0),
+        snapshot(),
+        snapshot(),
+    ]);
+    run_file(4, 1, 8, &steps)
+}
+
+const ROUNDS: [Answer; 23] = [
+    (0, 0),
+    (0, 0),
+    (0, 0),
+    (0, 0),
+    (0, 0),
+    (0, 0),
+    (0, 1),
+    (0, 1),
+    (0, 2),
+    (0, 3),
+    (0, 1),
+    // Vault 1: job 0 came to vault 0 after its visit.
+    (0, 0),
+    (0, 2),
+    (0, 3),
+    (0, 1),
+    // Vault 2, and vault 3 after it.
+    (0, 1),
+    (0, 2),
+    (0, 1),
+    // The next round: job 0 is seen at vaults 0 and 2, and counts once.
+    (0, 1),
+    (0, 1),
+    (0, 0),
+    (0, 1),
+    (0, 1),
+];
+
+fn short_rounds() -> Vec<u8> {
+    let steps = [
+        propose(record(0, 7, &[], &[(b"VAA001L7", 9)])),
+        snapshot(),
+        preflight(0, 0),
+        snapshot(),
+        commit(0, 0, 1),
+        snapshot(),
+        snapshot(),
+    ];
+    run_file(1, 0, 0, &steps)
+}
+
+const SHORT_ROUNDS: [Answer; 7] = [(0, 0), (0, 0), (0, 1), (0, 0), (0, 1), (0, 1), (0, 1)];
+
+/// As many steps as a file can have.
+fn visits() -> Vec<u8> {
+    let file = run_file(4, 1, 8, &vec![snapshot(); 65_527]);
+    assert_eq!(file.len(), 65_536);
+    file
 }
 
 fn one_run_whole() -> Edge {

@@ -17,21 +17,22 @@ use Rattle.draw.specs.Draw.{drawOf}
 use Rattle.ledger.proofs.Gates.{booked-entered, entered, in-place, reflect-sane}
 use Rattle.ledger.proofs.Places.{proposed}
 use Rattle.ledger.proofs.Writes.{unwritten}
-use Rattle.ledger.specs.Decisions.{ageing, answering, committing, gated, isBook, isNothing, preflighting, refusing, statusOf, voting}
+use Rattle.ledger.specs.Decisions.{ageing, answering, committing, gated, isBook, isNothing, preflighting, refusing, snapshotting, statusOf, voting}
 use Rattle.ledger.specs.Given.{Placed}
 use Rattle.ledger.specs.Meaning.{Proposed, Sane, failed, full, insane, known, new}
 use Rattle.ledger.specs.State.{applied, signersOf, vaultAt, votesAt, votesIn}
 use Rattle.ledger.specs.Steps.{bookedGate, commitDecision, faultyVoteDecision, gateOf, generationsDecision, journalAfter}
-use Rattle.ledger.specs.Steps.{journalWith, preflightDecision, proposeDecision, saneGate, showDecision, vaultGate}
+use Rattle.ledger.specs.Steps.{journalWith, preflightDecision, proposeDecision, saneGate, showDecision, snapshotDecision, vaultGate}
 use Rattle.ledger.specs.Worlds.{decisionOf}
 use Rattle.ledger.specs.declared.Change.{Change}
-use Rattle.ledger.specs.declared.Change.the-variants.{Nothing, Record}
+use Rattle.ledger.specs.declared.Change.the-variants.{Book, Hold, Nothing, Record, See, Sign}
 use Rattle.ledger.specs.declared.Column.the-variants.{Acknowledgements, Signatures}
 use Rattle.ledger.specs.declared.Decision.{Decision}
 use Rattle.ledger.specs.declared.Ledger.{Ledger}
+use Rattle.ledger.specs.declared.Vault.{Vault}
 use Rattle.runfile.specs.Steps.{Command, commandIn, draw, journalBy, replyOf, request, unreadable, wordAt}
 use Rattle.runfile.specs.declared.Kind.{Kind}
-use Rattle.runfile.specs.declared.Kind.the-variants.{Commit, Draw, FaultyAcknowledge, FaultySign, Generations, Preflight, Propose, Show, Unknown}
+use Rattle.runfile.specs.declared.Kind.the-variants.{Commit, Draw, FaultyAcknowledge, FaultySign, Generations, Preflight, Propose, Show, Snapshot, Unknown}
 use Rattle.steps.proofs.Quiet.{Bookless}
 use Rattle.steps.specs.Decided.{bookedOr, decidedBy, jobOf, surveyed, vaultOf}
 use Rattle.steps.specs.Reading.{isWide}
@@ -64,6 +65,9 @@ viewAt l v job = record {
   booked = l .booked;
   state = vaultAt l (v % 16);
   votes = votesAt l (job % 128);
+  next = l .next;
+  seen = l .seen;
+  shown = vaultAt l (l .next % 16) .held;
 }
 
 abbrev pub booksOf : Ledger → Books
@@ -77,6 +81,18 @@ quiet-behind (Fail why) d e = refl
 loud-behind : (g : Verdict) (d : Decision) → isNothing (gated g d .change) ≡ false → g ≡ Pass
 loud-behind Pass d e = refl
 loud-behind (Fail why) d e = absurd (true≢false e)
+
+abbrev isHold : Change → Bool
+isHold Nothing = false
+isHold Book = false
+isHold (Sign state) = false
+isHold (Hold state) = true
+isHold (Record column) = false
+isHold (See seen) = false
+
+unheld-behind : (g : Verdict) (d : Decision) → isHold (d .change) ≡ false → isHold (gated g d .change) ≡ false
+unheld-behind Pass d e = e
+unheld-behind (Fail why) d e = refl
 
 -- what is decided behind a gate may be read elsewhere where the gate is shut
 same-behind : (g : Verdict) (d e : Decision) → (g ≡ Pass → d ≡ e) → gated g d ≡ gated g e
@@ -98,6 +114,7 @@ wide-kind FaultyAcknowledge w = cc
 wide-kind Show w = cc
 wide-kind Draw w = cc
 wide-kind Generations w = refl
+wide-kind Snapshot w = cc
 wide-kind Unknown w = cc
 
 module _ (l : Ledger) (s : Sane l) (journal : List ℕ) where
@@ -152,7 +169,7 @@ module _ (l : Ledger) (s : Sane l) (journal : List ℕ) where
     second = getD input (at + 1) 0
 
     pub decided-is : (k : Kind) → isWide k ≡ false → decidedBy (viewAt l (vaultOf (command k)) (jobOf (command k))) journal (command k) ≡ decision k
-    unfolding proposeDecision preflightDecision commitDecision faultyVoteDecision showDecision saneGate votesIn
+    unfolding proposeDecision preflightDecision commitDecision faultyVoteDecision showDecision snapshotDecision saneGate votesIn
     decided-is Propose n = simp (reflect-sane l .complete s)
     decided-is Preflight n =
         at-vault first second false (λ v job. preflighting (vaultAt l v) journal (l .booked) (signersOf l job) first second)
@@ -164,6 +181,9 @@ module _ (l : Ledger) (s : Sane l) (journal : List ℕ) where
     decided-is Show n = at-job first (λ job. answering (statusOf (l .settings) (votesAt l job)))
     decided-is Draw n = refl
     decided-is Generations n = absurd (true≢false n)
+    decided-is Snapshot n =
+        let a : l .next % 16 ≡ l .next = omega (arith, s .next, s .lawful .vaults) in
+        simp (reflect-sane l .complete s, a)
     decided-is Unknown n = refl
 
     -- ---- generations
@@ -195,40 +215,48 @@ module _ (l : Ledger) (s : Sane l) (journal : List ℕ) where
     bookless-left Show b = untouched (decision Show) b
     bookless-left Draw b = untouched (decision Draw) b
     bookless-left Generations b = untouched (decision Generations) b
+    bookless-left Snapshot b = untouched (decision Snapshot) b
     bookless-left Unknown b = untouched (decision Unknown) b
 
     pub left-by : (k : Kind) → (k ≡ Propose) ⊎ Bookless (decision k) → LeftBy k
     left-by k b = ⊎-elim (λ p. subst LeftBy (sym p) proposal-left) (bookless-left k) b
 
     -- ---- a step that changes something names a vault and a job that are there
-    -- the vault and the job are in place, and the job is booked unless it is booked now
+    -- the vault and the job are in place, and a job that is held now is booked
     pub record There (v job : ℕ) (d : Decision) : Type 0 where
       pub placed : Placed l v job
-      pub below : isBook (d .change) ≡ false → job < l .booked
+      pub below : (state : Vault) → d .change ≡ Hold state → job < l .booked
 
     gone-in : (v job : ℕ) (faulty : Bool) (d : Decision) → isNothing (gated (vaultGate l journal v job faulty) d .change) ≡ false
         → There v job (gated (vaultGate l journal v job faulty) d)
     gone-in v job faulty d e =
         let h = entered l journal v job faulty (loud-behind _ d e) in
-        record { placed = in-place l journal v job faulty h; below = λ n. h .known .below }
+        record { placed = in-place l journal v job faulty h; below = λ state n. h .known .below }
 
-    -- what changes something and is a proposal books
-    loud-book : (d : Decision) → Proposed l journal bytes d → isNothing (d .change) ≡ false → isBook (d .change) ≡ false → ⊥
-    loud-book d (insane n) a b = true≢false a
-    loud-book d (failed why s e) a b = true≢false a
-    loud-book d (known k h) a b = true≢false a
-    loud-book d (full h) a b = true≢false a
-    loud-book d (new h) a b = true≢false b
+    -- a step that names neither vault nor job, and holds nothing
+    unnamed : (d : Decision) → ((state : Vault) → d .change ≡ Hold state → ⊥) → There 0 0 d
+    unnamed d n = record {
+      placed = record { vault = omega arith; job = omega arith; booked = s .booked; arrivals = s .arrivals };
+      below = λ state e. absurd (n state e);
+    }
+
+    proposal-holds-nothing : (d : Decision) → Proposed l journal bytes d → (state : Vault) → d .change ≡ Hold state → ⊥
+    proposal-holds-nothing d (insane n) state e = true≢false (sym (ap isHold e))
+    proposal-holds-nothing d (failed why s x) state e = true≢false (sym (ap isHold e))
+    proposal-holds-nothing d (known k h) state e = true≢false (sym (ap isHold e))
+    proposal-holds-nothing d (full h) state e = true≢false (sym (ap isHold e))
+    proposal-holds-nothing d (new h) state e = true≢false (sym (ap isHold e))
+
+    visit-holds-nothing : (state : Vault) → decision Snapshot .change ≡ Hold state → ⊥
+    unfolding snapshotDecision snapshotting
+    visit-holds-nothing state e = true≢false (sym (ap isHold e) ∙ unheld-behind (saneGate l) _ refl)
 
     quiet : {A : Type 0} (c : Change) → c ≡ Nothing → isNothing c ≡ false → A
     quiet c q e = absurd (true≢false (sym (ap isNothing q) ∙ e))
 
     pub there : (k : Kind) → isNothing (decision k .change) ≡ false → There (vaultOf (command k)) (jobOf (command k)) (decision k)
     unfolding preflightDecision commitDecision faultyVoteDecision showDecision
-    there Propose e = record {
-      placed = record { vault = omega arith; job = omega arith; booked = s .booked; arrivals = s .arrivals };
-      below = λ n. absurd (loud-book _ (proposed l journal bytes) e n);
-    }
+    there Propose e = unnamed _ (proposal-holds-nothing _ (proposed l journal bytes))
     there Preflight e = gone-in first second false _ e
     there Commit e = gone-in first second false _ e
     there FaultySign e = gone-in first second true _ e
@@ -236,4 +264,5 @@ module _ (l : Ledger) (s : Sane l) (journal : List ℕ) where
     there Show e = quiet _ (quiet-behind (bookedGate l journal first) _ refl) e
     there Draw e = quiet _ refl e
     there Generations e = quiet _ (wide-quiet Generations refl) e
+    there Snapshot e = unnamed _ visit-holds-nothing
     there Unknown e = quiet _ refl e

@@ -22,12 +22,13 @@ use Rattle.index.proofs.Tables.{entries-part, indexed-entered, indexed-none}
 use Rattle.index.specs.Index.{Indexed}
 use Rattle.index.specs.Places.{numbersSize, setsSize, slotJob}
 use Rattle.index.specs.Records.{recordsSize}
+use Rattle.snapshot.proofs.Visits.{stays-below}
 use Rattle.generations.proofs.Memos.{memo-arrive, memo-book, memo-none}
 use Rattle.generations.specs.Memo.{Memo, Ready}
 use Rattle.ledger.specs.Given.{Writable}
-use Rattle.ledger.specs.State.{applied, arriving, booking, enqueued, hasArrived, newLedger, voted, withVault}
+use Rattle.ledger.specs.State.{applied, arriving, booking, enqueued, hasArrived, newLedger, visited, voted, withVault}
 use Rattle.ledger.specs.declared.Change.{Change}
-use Rattle.ledger.specs.declared.Change.the-variants.{Book, Hold, Nothing, Record, Sign}
+use Rattle.ledger.specs.declared.Change.the-variants.{Book, Hold, Nothing, Record, See, Sign}
 use Rattle.ledger.specs.declared.Ledger.{Ledger}
 use Rattle.ledger.specs.declared.Vault.{Vault}
 use Rattle.runfile.specs.Run.{journalSize}
@@ -35,12 +36,13 @@ use Rattle.run.specs.Kept.{Kept}
 use Rattle.steps.specs.Stored.{Stored}
 
 -- ---- what is kept, after a change
--- a ledger with the same settings, counts and order
+-- a ledger with the same settings, counts and order, and a vault to visit next
 record Alike (m l : Ledger) : Type 0 where
   settings : m .settings ≡ l .settings
   booked : m .booked ≡ l .booked
   arrivals : m .arrivals ≡ l .arrivals
   order : m .order ≡ l .order
+  next : m .next < l .settings .n
 
 -- a job at the end of an order, of jobs that are all booked
 module _ (order : List ℕ) (n job booked : ℕ) (below : job < booked) (arrived : (q : ℕ) → q < n → getD order q 0 < booked) (room : n < length order) where
@@ -78,7 +80,7 @@ module _ (l : Ledger) (journal numbers sets records memo : List ℕ) (k : Kept l
         let room = w .room refl in
         let size = w .size refl in
         record {
-          sane = record { lawful = k .sane .lawful; booked = omega arith; arrivals = k .sane .arrivals };
+          sane = record { lawful = k .sane .lawful; booked = omega arith; arrivals = k .sane .arrivals; next = k .sane .next };
           order-size = k .order-size;
           arrived = λ q h. omega (arith, k .arrived q h);
           journal-size = ap length (t .written) ∙ put-length (l .booked) journal bytes size room ∙ k .journal-size;
@@ -91,7 +93,12 @@ module _ (l : Ledger) (journal numbers sets records memo : List ℕ) (k : Kept l
 
     kept-same : (m : Ledger) → Alike m l → journal′ ≡ journal → Indexed journal′ (l .booked) numbers′ sets′ records′ → KeptBy m
     kept-same m a e i = record {
-      sane = record { lawful = rw (a .settings) (k .sane .lawful); booked = omega (arith, k .sane .booked); arrivals = omega (arith, k .sane .arrivals) };
+      sane = record {
+        lawful = rw (a .settings) (k .sane .lawful);
+        booked = omega (arith, k .sane .booked);
+        arrivals = omega (arith, k .sane .arrivals);
+        next = rw (a .settings) (a .next);
+      };
       order-size = ap length (a .order) ∙ k .order-size;
       arrived = λ q h. rw (a .order, a .booked) (k .arrived q (omega (arith, h)));
       journal-size = ap length e ∙ k .journal-size;
@@ -109,7 +116,7 @@ module _ (l : Ledger) (journal numbers sets records memo : List ℕ) (k : Kept l
         by-cases (λ x. KeptBy (arriving m job)) (has || full) (λ e. rw e same)
         (λ e. let room : m .arrivals < capacity = leb-false capacity (m .arrivals) (or-false has full e .1) in
         rw e (record {
-          sane = record { lawful = same .sane .lawful; booked = same .sane .booked; arrivals = omega arith };
+          sane = record { lawful = same .sane .lawful; booked = same .sane .booked; arrivals = omega arith; next = same .sane .next };
           order-size = length-set (m .order) (m .arrivals) job ∙ same .order-size;
           arrived = arrived-at (m .order) (m .arrivals) job (m .booked) b (same .arrived) (omega (arith, same .order-size));
           journal-size = same .journal-size;
@@ -121,12 +128,14 @@ module _ (l : Ledger) (journal numbers sets records memo : List ℕ) (k : Kept l
     -- whatever the change
     pub kept-applied : (change : Change) (v job : ℕ) (bytes : List ℕ) → Writable change (l .booked) journal bytes
         → ((state : Vault) → change ≡ Hold state → job < l .booked) → StoredBy change bytes → KeptBy (applied l change v job)
-    unfolding applied voted withVault
-    kept-applied Nothing v job bytes w b t = kept-same l (search) (t .written) (t .indexed)
+    unfolding applied visited voted withVault
+    kept-applied Nothing v job bytes w b t = kept-same l (search (k .sane .next)) (t .written) (t .indexed)
     kept-applied Book v job bytes w b t = kept-book bytes w t
-    kept-applied (Sign state) v job bytes w b t = kept-same _ (search) (t .written) (t .indexed)
-    kept-applied (Hold state) v job bytes w b t = kept-arrive _ job (b state refl) (kept-same _ (search) (t .written) (t .indexed))
-    kept-applied (Record column) v job bytes w b t = kept-same _ (search) (t .written) (t .indexed)
+    kept-applied (Sign state) v job bytes w b t = kept-same _ (search (k .sane .next)) (t .written) (t .indexed)
+    kept-applied (Hold state) v job bytes w b t = kept-arrive _ job (b state refl) (kept-same _ (search (k .sane .next)) (t .written) (t .indexed))
+    kept-applied (Record column) v job bytes w b t = kept-same _ (search (k .sane .next)) (t .written) (t .indexed)
+    kept-applied (See seen) v job bytes w b t =
+        kept-same _ (search (stays-below (l .settings .n) (l .next) (omega (arith, k .sane .lawful .few)))) (t .written) (t .indexed)
 
   -- ---- generations
   pub ready : Ready journal (l .booked) numbers sets (l .order) (l .arrivals) memo
@@ -157,8 +166,8 @@ module _ (l : Ledger) (journal numbers sets records memo : List ℕ) (k : Kept l
 pub kept-new : (n b faulty : ℕ) → isLawful (record { n = n; b = b; faulty = faulty }) ≡ true
     → Kept (newLedger n b faulty) (replicate journalSize 0) (replicate numbersSize 0) (replicate setsSize 0) (replicate recordsSize 0) (replicate capacity 0)
 unfolding newLedger
-kept-new n b faulty e = record {
-  sane = record { lawful = reflect-lawful (record { n = n; b = b; faulty = faulty }) .sound e; booked = omega arith; arrivals = omega arith };
+kept-new n b faulty e = let lawful = reflect-lawful (record { n = n; b = b; faulty = faulty }) .sound e in record {
+  sane = record { lawful = lawful; booked = omega arith; arrivals = omega arith; next = omega (arith, lawful .few) };
   order-size = refl;
   arrived = λ q h. absurd (not-suc-le-zero h);
   journal-size = length-replicate {A = ℕ} journalSize 0;

@@ -15,7 +15,7 @@ use Rattle.ledger.specs.Given.{Placed, Writable}
 use Rattle.ledger.specs.State.{applied}
 use Rattle.ledger.specs.Steps.{journalWith}
 use Rattle.ledger.specs.declared.Change.{Change}
-use Rattle.ledger.specs.declared.Change.the-variants.{Book, Hold, Nothing, Record, Sign}
+use Rattle.ledger.specs.declared.Change.the-variants.{Book, Hold, Nothing, Record, See, Sign}
 use Rattle.ledger.specs.declared.Decision.{Decision}
 use Rattle.ledger.specs.declared.Ledger.{Ledger}
 use Rattle.ledger.specs.declared.Vault.{Vault}
@@ -58,6 +58,7 @@ is-nothing Book e = cc
 is-nothing (Sign state) e = cc
 is-nothing (Hold state) e = cc
 is-nothing (Record column) e = cc
+is-nothing (See seen) e = cc
 
 -- nothing changed
 same-ledger : (l : Ledger) (c : Change) (v job : ℕ) → c ≡ Nothing → l ≡ applied l c v job
@@ -190,7 +191,7 @@ module _ {input : List ℕ} {l₀ : Ledger} {pos₀ count₀ : ℕ} {journal₀ 
           → Next l′ memo journal′ numbers′ sets′ records′ out′ (told .at)
       turn-loud l′ a room same =
           let held : (state : Vault) → told .change ≡ Hold state → s .job < l .booked =
-          λ state h. rw (r .asked .job-is) (named .below (ap isBook (sym change-is ∙ h))) in
+          λ state h. rw (r .asked .job-is) (named .below state (sym change-is ∙ h)) in
           follows l′ a (rw a (kept-so held)) room same
 
 -- ---- at the loop's head

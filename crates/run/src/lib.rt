@@ -102,11 +102,17 @@ pub fn advance(
             at = steps::survey(step, books, order, numbers, sets, journal, memo, out, at);
             continue;
         }
+        let turn = ledger.vaults[(ledger.next % 16) as usize];
+        let seen = ledger.seen;
+        let shown = turn.held;
         let view = View {
             settings: ledger.settings,
             booked: ledger.booked,
             state: ledger.vaults[(step.vault % 16) as usize],
             votes: ledger.votes[(step.job % 128) as usize],
+            next: ledger.next,
+            seen,
+            shown,
         };
         let told = steps::carry_out(step, view, numbers, sets, records, journal, input, out, at);
         at = told.at;

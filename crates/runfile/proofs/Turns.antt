@@ -17,7 +17,7 @@ use Rattle.runfile.specs.Run.{Run, begins, commandOf, ended, headerSize,
 use Rattle.runfile.specs.Run.{runText, textFrom, textNext, textOf}
 use Rattle.runfile.specs.Steps.{endOf, kindAt, listed, replyOf}
 use Rattle.runfile.specs.declared.Kind.{Kind}
-use Rattle.runfile.specs.declared.Kind.the-variants.{Commit, Draw, FaultyAcknowledge, FaultySign, Generations, Preflight, Propose, Show, Unknown}
+use Rattle.runfile.specs.declared.Kind.the-variants.{Commit, Draw, FaultyAcknowledge, FaultySign, Generations, Preflight, Propose, Show, Snapshot, Unknown}
 
 -- ---- the header
 pub header-long : (input : List ℕ) → isHeader input ≡ true → headerSize ≤ length input
@@ -75,6 +75,7 @@ reads-on FaultyAcknowledge pos size n h = omega arith
 reads-on Show pos size n h = omega arith
 reads-on Draw pos size n h = omega arith
 reads-on Generations pos size n h = omega arith
+reads-on Snapshot pos size n h = omega arith
 reads-on Unknown pos size n h = omega arith
 
 pub runs-out : (n : ℕ) (input : List ℕ) (r : Run) → length input ≤ r .pos + n → ended input (runNext n input r) ≡ true

@@ -26,13 +26,13 @@ use Rattle.ledger.specs.Given.{Aged, Known, Searchable}
 use Rattle.ledger.specs.Steps.{gateOf}
 use Rattle.ledger.specs.declared.Column.the-variants.{Acknowledgements, Signatures}
 use Rattle.ledger.specs.declared.Votes.{Votes}
-use Rattle.ledger.specs.Worlds.{commit, faultyVote, generations, preflight, propose, show}
+use Rattle.ledger.specs.Worlds.{commit, faultyVote, generations, preflight, propose, show, snapshot}
 use Rattle.ledger.specs.declared.Change.the-variants.{Nothing}
 use Rattle.ledger.specs.declared.Decision.{Decision}
 use Rattle.ledger.specs.declared.Vault.{Vault}
 use Rattle.runfile.specs.Steps.{Command, commandIn, draw, request, unreadable, wordAt}
 use Rattle.runfile.specs.declared.Kind.{Kind}
-use Rattle.runfile.specs.declared.Kind.the-variants.{Commit, Draw, FaultyAcknowledge, FaultySign, Generations, Preflight, Propose, Show, Unknown}
+use Rattle.runfile.specs.declared.Kind.the-variants.{Commit, Draw, FaultyAcknowledge, FaultySign, Generations, Preflight, Propose, Show, Snapshot, Unknown}
 use Rattle.steps.specs.Decided.{Answered, bookedOr, decidedBy, gateBy, jobOf, vaultOf}
 use Rattle.steps.specs.Reading.{Asked}
 use Rattle.steps.specs.declared.Books.{Books}
@@ -68,6 +68,7 @@ again FaultyAcknowledge v job input at = request (faultyVote Acknowledgements v 
 again Show v job input at = request (show job)
 again Draw v job input at = draw job
 again Generations v job input at = request (generations job)
+again Snapshot v job input at = request snapshot
 again Unknown v job input at = unreadable
 
 module _ (input : List ℕ) (at : ℕ) where
@@ -80,6 +81,7 @@ module _ (input : List ℕ) (at : ℕ) where
   same-command Show = refl
   same-command Draw = refl
   same-command Generations = refl
+  same-command Snapshot = refl
   same-command Unknown = refl
 
 module _ (w : View) (journal input : List ℕ) (s : Step) (a : Asked input s) where

@@ -12,7 +12,7 @@ use Rattle.outcome.specs.declared.Verdict.{Verdict}
 use Rattle.outcome.specs.declared.Verdict.the-variants.{Fail, Pass}
 use Rattle.sets.specs.Jobs.{jobHas}
 use Rattle.ledger.proofs.Writes.{writes}
-use Rattle.ledger.specs.Decisions.{answering, committing, consent, consenting, gated, isBook, preflighting, proposal, receiving, voting}
+use Rattle.ledger.specs.Decisions.{answering, committing, consent, consenting, gated, isBook, preflighting, proposal, receiving, snapshotting, voting}
 use Rattle.ledger.specs.Given.{Writable}
 use Rattle.ledger.specs.Vaults.{admissionAt, holding, vaultPreflight}
 use Rattle.ledger.specs.declared.Change.{Change}
@@ -23,7 +23,7 @@ use Rattle.ledger.specs.declared.Decision.{Decision}
 use Rattle.ledger.specs.declared.Vault.{Vault}
 use Rattle.runfile.specs.Steps.{commandIn}
 use Rattle.runfile.specs.declared.Kind.{Kind}
-use Rattle.runfile.specs.declared.Kind.the-variants.{Commit, Draw, FaultyAcknowledge, FaultySign, Generations, Preflight, Propose, Show, Unknown}
+use Rattle.runfile.specs.declared.Kind.the-variants.{Commit, Draw, FaultyAcknowledge, FaultySign, Generations, Preflight, Propose, Show, Snapshot, Unknown}
 use Rattle.steps.specs.Decided.{decidedBy}
 use Rattle.steps.specs.declared.View.{View}
 
@@ -61,7 +61,7 @@ module _ (w : View) (journal input : List ℕ) (at : ℕ) where
   bytes = take recordSize (drop at input)
 
   pub books : (k : Kind) → (k ≡ Propose) ⊎ Bookless (decided k)
-  unfolding committing
+  unfolding committing snapshotting
   books Propose = inl refl
   books Preflight = inr (search quiet)
   books Commit = inr (search quiet)
@@ -70,6 +70,7 @@ module _ (w : View) (journal input : List ℕ) (at : ℕ) where
   books Show = inr (search quiet)
   books Draw = inr (search quiet)
   books Generations = inr (search quiet)
+  books Snapshot = inr (search quiet)
   books Unknown = inr (search quiet)
 
   unbooked : (d : Decision) → Bookless d → Writable (d .change) (w .booked) journal bytes

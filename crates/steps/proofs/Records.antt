@@ -17,7 +17,7 @@ use Rattle.ledger.proofs.Writes.{is-book, unwritten}
 use Rattle.ledger.specs.Decisions.{isBook}
 use Rattle.ledger.specs.Given.{Writable}
 use Rattle.ledger.specs.declared.Change.{Change}
-use Rattle.ledger.specs.declared.Change.the-variants.{Book, Hold, Nothing, Record, Sign}
+use Rattle.ledger.specs.declared.Change.the-variants.{Book, Hold, Nothing, Record, See, Sign}
 use Rattle.steps.specs.Stored.{Stored, bookedAfter}
 
 module _ (change : Change) (r : Bool) (booked at : ℕ) (journal input : List ℕ) (e : r ≡ isBook change) (t : r ≡ true)
@@ -73,6 +73,7 @@ same-booked Book r n e t = cc
 same-booked (Sign state) r n e t = refl
 same-booked (Hold state) r n e t = refl
 same-booked (Record column) r n e t = refl
+same-booked (See seen) r n e t = refl
 
 pub unstored : (change : Change) (r : Bool) (booked : ℕ) (journal bytes numbers sets records : List ℕ) → r ≡ isBook change → r ≡ false
     → Indexed journal booked numbers sets records → Stored change booked journal bytes journal numbers sets records

@@ -99,6 +99,7 @@ pub(crate) fn decide(
             change: Change::Nothing,
         },
         Kind::Generations => decisions::refuse(Refusal::NotHeld),
+        Kind::Snapshot => decisions::snapshot(view.settings, view.next, view.seen, view.shown),
         Kind::Unknown => decisions::refuse(Refusal::Unreadable),
     }
 }

@@ -12,6 +12,7 @@ use ledger::Votes;
 pub use reading::step_at;
 pub use reading::word_at;
 use runfile::Kind;
+use sets::JobSet;
 pub use turning::carry_out;
 pub use turning::survey;
 
@@ -42,12 +43,16 @@ pub struct Step {
     pub end: usize,
 }
 
-// What a step looks at that looks at one vault: its state, and the votes on the job that the step names.
+// What a step looks at that looks at one vault: its state, and the votes on the job that the step names; of the snapshot the vault that is next, the jobs seen
+// in this round, and those that the next vault holds.
 pub struct View {
     pub settings: Settings,
     pub booked: usize,
     pub state: Vault,
     pub votes: Votes,
+    pub next: u8,
+    pub seen: JobSet,
+    pub shown: JobSet,
 }
 
 // What a step looks at that looks at all vaults.

@@ -60,6 +60,7 @@ fn operation_of(byte: u8) -> Operation
         6 => row(Kind::Show, 1, Form::OfJob, false),
         7 => row(Kind::Draw, 1, Form::OfJob, false),
         8 => row(Kind::Generations, 1, Form::OfJob, true),
+        9 => row(Kind::Snapshot, 0, Form::Bare, false),
         _ => row(Kind::Unknown, 0, Form::Unreadable, false),
     }
 }

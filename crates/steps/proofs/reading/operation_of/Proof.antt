@@ -20,6 +20,7 @@ operation-of-spec =
     (λ c κs. search needs)
     (λ c κs. search needs)
     (λ c κs. search needs)
+    (λ c κs. search needs)
     (λ c. simp (c .before .match .keys1, c .row .ensures))
     (λ c. simp (c .before .match .keys2, c .row2 .ensures))
     (λ c. simp (c .before .match .keys3, c .row3 .ensures))
@@ -28,4 +29,5 @@ operation-of-spec =
     (λ c. simp (c .before .match .keys6, c .row6 .ensures))
     (λ c. simp (c .before .match .keys7, c .row7 .ensures))
     (λ c. simp (c .before .match .keys8, c .row8 .ensures))
+    (λ c. simp (c .before .match .keys9, c .row9 .ensures))
     (λ c. search unknown-row))
