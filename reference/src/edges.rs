@@ -29,6 +29,9 @@ pub fn all() -> Vec<Edge> {
         edge("kind 255", unknown(255), &[(4, 0), (2, 0)]),
         edge("a body cut short", cut_short(), &[(0, 0), (2, 0)]),
         edge("a chain of 128 jobs", chain(), &chain_answers()),
+        edge("a draw of 937.5", a_half(1), &[(0, 938)]),
+        edge("a draw of 812.5", a_half(3), &[(0, 812)]),
+        edge("a draw of 687.5", a_half(5), &[(0, 688)]),
         one_run_whole(),
     ]
 }
@@ -169,6 +172,11 @@ fn chain_answers() -> Vec<Answer> {
     (0..128)
         .flat_map(|i| [(0, i), (0, 1), (0, 1), (0, i)])
         .collect()
+}
+
+/// One of 16 vaults is away: of 16 quorums 16 − b want it. No other draw is an exact half.
+fn a_half(b: u8) -> Vec<u8> {
+    run_file(16, b, 0, &[draw(1)])
 }
 
 fn one_run_whole() -> Edge {
