@@ -37,6 +37,9 @@ pub fn all() -> Vec<Edge> {
             &SHORT_ROUNDS,
         ),
         edge("nothing but visits", visits(), &[(0, 0); 65_527]),
+        edge("a draw of 937.5", a_half(1), &[(0, 938)]),
+        edge("a draw of 812.5", a_half(3), &[(0, 812)]),
+        edge("a draw of 687.5", a_half(5), &[(0, 688)]),
         one_run_whole(),
     ]
 }
@@ -301,6 +304,11 @@ fn visits() -> Vec<u8> {
     let file = run_file(4, 1, 8, &vec![snapshot(); 65_527]);
     assert_eq!(file.len(), 65_536);
     file
+}
+
+/// One of 16 vaults is away: of 16 quorums 16 − b want it. No other draw is an exact half.
+fn a_half(b: u8) -> Vec<u8> {
+    run_file(16, b, 0, &[draw(1)])
 }
 
 fn one_run_whole() -> Edge {

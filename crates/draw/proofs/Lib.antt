@@ -1,3 +1,4 @@
 pub mod Chances
+pub mod Halves
 pub mod Quotients
 pub mod Rounding

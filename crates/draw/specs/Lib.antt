@@ -1,2 +1,3 @@
 pub mod Binomials
 pub mod Draw
+pub mod Halves

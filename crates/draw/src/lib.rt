@@ -29,11 +29,21 @@ fn choose(n: u64, k: u64) -> u64
     factorial(n) / (factorial(k) * factorial(n - k))
 }
 
+// An exact half goes to the even neighbour.
 fn thousandths(part: u64, whole: u64) -> u64
     requires { ⌜ (0 < whole) × (part ≤ whole) × (whole < 20923000000000) ⌝ }
     ensures { λ r. ⌜ r ≡ thousandths part whole ⌝ }
 {
-    (2000 * part + whole) / (2 * whole)
+    let parts = 1000 * part;
+    let down = parts / whole;
+    let over = 2 * (parts % whole);
+    if over < whole {
+        return down;
+    }
+    if whole < over {
+        return down + 1;
+    }
+    down + down % 2
 }
 
 // The chance in thousandths; 17 where more vaults are away than there are, and 1 where the settings are not lawful.
