@@ -14,7 +14,8 @@ use Rattle.outcome.specs.declared.Refusal.the-variants.{Settings as BadSettings
 use Rattle.federation.proofs.Lawful.{reflect-lawful}
 use Rattle.federation.specs.Federation.{Lawful, isLawful, thresholdOf}
 use Rattle.federation.specs.declared.Settings.{Settings}
-use Rattle.draw.proofs.Quotients.{choose-bound, choose-grows, choose-positive}
+use Rattle.draw.proofs.Binomials.{choose-grows, choose-positive}
+use Rattle.draw.proofs.Rows.{choose-bound}
 use Rattle.draw.proofs.Rounding.{nearest, nearest-once, share-most}
 use Rattle.draw.specs.Binomials.{choose}
 use Rattle.draw.specs.Draw.{Drawn, absent, chance, drawOf, failing, thousandths, unlawful}
@@ -33,14 +34,14 @@ module _ (s : Settings) (u : ℕ) (e : isLawful s ≡ true) (l : u ≤ s .n) whe
   pub some-quorum : 0 < choose (s .n) (thresholdOf s)
   some-quorum = choose-positive (s .n) (thresholdOf s) within
 
-  pub quorums-fit : choose (s .n) (thresholdOf s) ≤ 20922789888000
-  quorums-fit = choose-bound (s .n) (thresholdOf s) small
+  pub quorums-fit : choose (s .n) (thresholdOf s) ≤ 12870
+  quorums-fit = choose-bound (s .n) (thresholdOf s) small within
 
   pub fewer-quorums : choose (s .n - u) (thresholdOf s) ≤ choose (s .n) (thresholdOf s)
   fewer-quorums =
       let back : u + (s .n - u) ≡ s .n = omega (arith, l) in
       subst (λ (n : ℕ). choose (s .n - u) (thresholdOf s) ≤ choose n (thresholdOf s)) back
-      (choose-grows u (s .n - u) (thresholdOf s) (omega (arith, l, small)) (omega (arith, within, small)))
+      (choose-grows u (s .n - u) (thresholdOf s))
 
 -- so a draw's value, refused or not, has at most four digits
 pub draw-small : (s : Settings) (u : ℕ) → valueOf (drawOf s u) ≤ 1000

@@ -1,4 +1,6 @@
+pub mod Binomials
 pub mod Chances
 pub mod Halves
-pub mod Quotients
+pub mod Pages
 pub mod Rounding
+pub mod Rows
