@@ -24,7 +24,7 @@ use Rattle.estimates.proofs.Exact.{one-tightest, reflect-balance, tight
 use Rattle.estimates.specs.Form.{formOf, isBounded, isTrimmed, lowestJob, withoutBalance}
 use Rattle.estimates.specs.Meaning.{Balancing, Fit, Formed, ReversedAt, Told, malformed, none-balances, repeated, reversed, tightened, unsupported}
 use Rattle.estimates.specs.Ranges.{high, low}
-use Rattle.estimates.specs.Tighten.{canBalance, checksOf, isReversed, rangesOf, settle, then, tightenOf, tightestOf}
+use Rattle.estimates.specs.Tighten.{balanceOf, canBalance, checksOf, firstFailing, isReversed, orderOf, settle, tightenOf, tightestOf}
 use Rattle.estimates.specs.declared.Estimate.{Estimate}
 use Rattle.estimates.specs.declared.Tightened.{Tightened}
 
@@ -53,11 +53,10 @@ module _ (e : Estimate) where
   ordered none i q = omega (arith, none i q)
 
   -- ---- the answer where 6 to 8 pass
-  ranged : length (e .ranges) ≡ 8 → Fit e → Told e (settle (rangesOf e) e)
-  unfolding rangesOf
+  ranged : length (e .ranges) ≡ 8 → Fit e → Told e (settle (firstFailing (orderOf e) (balanceOf e)) e)
+  unfolding orderOf balanceOf
   ranged n fit =
-      by-cases
-      (λ b. Told e (settle (cond b (Fail (Reversed (firstBelow 8 (isReversed e)))) (cond (canBalance e) Pass (Fail NoneBalances))) e))
+      by-cases (λ b. Told e (settle (firstFailing (cond b (Fail (Reversed (firstBelow 8 (isReversed e)))) Pass) (balanceOf e)) e))
       (ltb (firstBelow 8 (isReversed e)) 8)
       (λ d. reversed _ fit (first-sound 8 reverses _ (ltb-true _ _ d) refl))
       (λ d.
@@ -67,7 +66,7 @@ module _ (e : Estimate) where
       (λ t. none-balances fit none (λ x c. refuted (reflect-balance e (ordered none)) t (x, c))))
 
   -- ---- the whole answer
-  answered : length (e .ranges) ≡ 8 → Bounds → (v : Verdict) → checks.Answer Lowest v → Told e (settle (then (withoutBalance v) (rangesOf e)) e)
+  answered : length (e .ranges) ≡ 8 → Bounds → (v : Verdict) → checks.Answer Lowest v → Told e (settle (firstFailing (withoutBalance v) (firstFailing (orderOf e) (balanceOf e))) e)
   answered n b v (checks.passes w r u level) =
       ranged n (record { formed = record { job = w; unused = b .0; accession = b .1 }; apart = r; supported = u })
   answered n b v (checks.unbalanced w r u level) =
@@ -80,7 +79,7 @@ module _ (e : Estimate) where
   unfolding tightenOf checksOf formOf
   tighten-told n =
       by-cases
-      (λ b. Told e (settle (then (cond b (withoutBalance (checkOf Lowest)) (Fail Malformed)) (rangesOf e)) e))
+      (λ b. Told e (settle (firstFailing (cond b (withoutBalance (checkOf Lowest)) (Fail Malformed)) (firstFailing (orderOf e) (balanceOf e))) e))
       (allBelow 8 (isBounded e Lowest) && isTrimmed e)
       (λ d. answered n (reflect-bounds .sound d) (checkOf Lowest) (check-answers Lowest))
       (λ d. malformed (λ f. refuted reflect-bounds d (f .unused, f .accession)))
@@ -114,7 +113,7 @@ module _ (e : Estimate) where
   orderly none = found-none (isReversed e) 8 (first-end-complete 8 reverses none)
 
   pub told-tighten : (r : Tightened) → length (e .ranges) ≡ 8 → Told e r → tightenOf e ≡ r
-  unfolding tightenOf checksOf rangesOf
+  unfolding tightenOf checksOf orderOf balanceOf
   told-tighten r n (reversed i fit s) =
       let at : firstBelow 8 (isReversed e) ≡ i = first-complete 8 reverses i s in
       simp (fit-form fit, at, lt-ltb i 8 (s .below))

@@ -3,20 +3,19 @@ use mathlib.Core.Bool.{Bool, cond, false, true, true≢false}
 use mathlib.Core.List.{List}
 use mathlib.Core.Path.{_∙_, _≡_, ap₂, refl, sym}
 use Prim.Native.Nat.{_-_, _≤_, ℕ}
-use lib.Dec.{leb, ltb}
 use lib.ListN.{length}
 use lib.Seq.{sets}
 use borrow.Author.Tests.{eq-eqb}
 use Rattle.base.proofs.Reflect.{reflect-and, reflect-as, reflect-le}
 use Rattle.base.specs.Reflect.{Reflects}
-use Rattle.base.specs.Search.{firstBelow}
 use Rattle.outcome.specs.declared.Refusal.{Refusal}
+use Rattle.outcome.specs.declared.Refusal.the-variants.{NoneBalances}
 use Rattle.outcome.specs.declared.Verdict.{Verdict}
 use Rattle.outcome.specs.declared.Verdict.the-variants.{Fail, Pass}
 use Rattle.estimates.specs.Ranges.{listFrom}
 use Rattle.estimates.specs.Spans.{Meeting}
 use Rattle.estimates.specs.Form.{formOf}
-use Rattle.estimates.specs.Tighten.{canBalance, checksOf, inflow, isReversed, meets, outflow, rangesOf, then, tightestAt}
+use Rattle.estimates.specs.Tighten.{balanceOf, canBalance, checksOf, firstFailing, inflow, meets, orderOf, outflow, tightestAt}
 use Rattle.estimates.specs.declared.Estimate.{Estimate}
 use Rattle.estimates.specs.declared.Range.{Range}
 use Rattle.estimates.specs.declared.spans.Span.{Span}
@@ -44,23 +43,19 @@ migration-meets e k = simp (eq-eqb (e .kind) 1 k)
 fail-pass : (r : Refusal) → Fail r ≡ Pass → ⊥
 fail-pass r e = let z : true ≡ false = cc in true≢false z
 
-both-pass : (v w : Verdict) → then v w ≡ Pass → (v ≡ Pass) × (w ≡ Pass)
+both-pass : (v w : Verdict) → firstFailing v w ≡ Pass → (v ≡ Pass) × (w ≡ Pass)
 both-pass Pass w e = (refl, e)
 both-pass (Fail r) w e = absurd (fail-pass r e)
 
-tests-pass : (a b : Bool) (r s : Refusal) → cond a (Fail r) (cond b Pass (Fail s)) ≡ Pass → (a ≡ false) × (b ≡ true)
-tests-pass true b r s e = absurd (fail-pass r e)
-tests-pass false true r s e = (refl, refl)
-tests-pass false false r s e = absurd (fail-pass s e)
-
-pub ranges-pass : (e : Estimate) → rangesOf e ≡ Pass → (ltb (firstBelow 8 (isReversed e)) 8 ≡ false) × (canBalance e ≡ true)
-unfolding rangesOf
-ranges-pass e h = tests-pass (ltb (firstBelow 8 (isReversed e)) 8) (canBalance e) _ _ h
+balance-pass : (b : Bool) (r : Refusal) → cond b Pass (Fail r) ≡ Pass → b ≡ true
+balance-pass true r e = refl
+balance-pass false r e = absurd (fail-pass r e)
 
 -- 25 has passed where all have
 pub checks-balance : (e : Estimate) (v : Verdict) → v ≡ checksOf e → v ≡ Pass → canBalance e ≡ true
-unfolding checksOf
-checks-balance e v p q = ranges-pass e (both-pass (formOf e) (rangesOf e) (sym p ∙ q) .1) .1
+unfolding checksOf balanceOf
+checks-balance e v p q =
+    balance-pass (canBalance e) NoneBalances (both-pass (orderOf e) (balanceOf e) (both-pass (formOf e) _ (sym p ∙ q) .1) .1)
 
 -- ---- the spans that the code found
 abbrev Small : Span → Type 0

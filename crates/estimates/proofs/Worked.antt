@@ -13,7 +13,7 @@ use Rattle.checks.specs.Checks.{balanced, checkOf, countsFormed, entryFormed, h
 use Rattle.checks.specs.Checks.{isFilled, isWritten, repeatedAt, unsupportedAt, wellFormed}
 use Rattle.estimates.specs.Form.{formOf, isBounded, isTrimmed, lowestEntry, lowestJob}
 use Rattle.estimates.specs.Ranges.{listFrom, noRange}
-use Rattle.estimates.specs.Tighten.{canBalance, checksOf, inflow, isReversed, lowerEnd, meets, outflow, rangesOf, spanOf, tightenOf}
+use Rattle.estimates.specs.Tighten.{balanceOf, canBalance, checksOf, inflow, isReversed, lowerEnd, meets, orderOf, outflow, spanOf, tightenOf}
 use Rattle.estimates.specs.Tighten.{tightestAt, tightestBy, tightestIn, tightestOf, upperEnd}
 use Rattle.estimates.specs.declared.Estimate.{Estimate}
 use Rattle.estimates.specs.declared.Range.{Range}
@@ -77,6 +77,6 @@ given (r ∷ rs) = record { outcome = r .outcome; ranges = r .ranges } ∷ given
 pub worked : answered rows ≡ given rows
 unfolding anyBelow allBelow firstBelow sumFrom inputsFormed countsFormed isFilled isBlank entryFormed wellFormed hasLabelOf repeatedAt isWritten
     unsupportedAt balanced checkOf isDrive supports labelOf framesOf isUsed usedFrames isBetween charAt isAlphanumeric mediumOf isLabel lowestEntry
-    lowestJob isBounded isTrimmed formOf listFrom isReversed spanOf inflow outflow meets canBalance rangesOf checksOf lowerEnd upperEnd tightestIn
+    lowestJob isBounded isTrimmed formOf listFrom isReversed spanOf inflow outflow meets canBalance orderOf balanceOf checksOf lowerEnd upperEnd tightestIn
     tightestBy tightestAt tightestOf tightenOf
 worked = refl

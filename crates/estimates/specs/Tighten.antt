@@ -20,6 +20,9 @@ use Rattle.estimates.specs.Ranges.{low, high, listFrom, rangeAt}
 unfoldable pub isReversed : Estimate → ℕ → Bool
 isReversed e i = ltb (high e i) (low e i)
 
+unfoldable pub orderOf : Estimate → Verdict
+orderOf e = let reversed = firstBelow 8 (isReversed e) in cond (ltb reversed 8) (Fail (Reversed reversed)) Pass
+
 -- ---- 25: "if no choice balances"
 
 -- the least and the most of four entries from half on, with extra, where l and h are the entries' ends
@@ -40,18 +43,16 @@ meets a b = leb (a .least) (b .most) && leb (b .least) (a .most)
 unfoldable pub canBalance : Estimate → Bool
 canBalance e = cond (eqb (e .kind) 1) (meets (inflow e) (outflow e)) true
 
-unfoldable pub rangesOf : Estimate → Verdict
-rangesOf e =
-    let reversed = firstBelow 8 (isReversed e) in
-    cond (ltb reversed 8) (Fail (Reversed reversed)) (cond (canBalance e) Pass (Fail NoneBalances))
+unfoldable pub balanceOf : Estimate → Verdict
+balanceOf e = cond (canBalance e) Pass (Fail NoneBalances)
 
--- "Checks, after 6 to 8, ..: 24 ..; then 25"
-abbrev pub then : Verdict → Verdict → Verdict
-then (Fail r) v = Fail r
-then Pass v = v
+-- ---- "Checks, after 6 to 8, ..: 24 ..; then 25"
+abbrev pub firstFailing : Verdict → Verdict → Verdict
+firstFailing (Fail r) later = Fail r
+firstFailing Pass later = later
 
 unfoldable pub checksOf : Estimate → Verdict
-checksOf e = then (formOf e) (rangesOf e)
+checksOf e = firstFailing (formOf e) (firstFailing (orderOf e) (balanceOf e))
 
 -- ---- the tightest ranges
 

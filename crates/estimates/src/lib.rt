@@ -1,6 +1,6 @@
 // Frame counts that are known only within ranges (document 02, M-110): whether some choice of counts balances, and each entry's tightest range.
 ghost use mathlib.Core.Path.{_≡_};
-ghost use Rattle.estimates.specs.Tighten.{checksOf, tightenOf};
+ghost use Rattle.estimates.specs.Tighten.{firstFailing, checksOf, tightenOf};
 
 mod ends;
 mod form;
@@ -33,14 +33,23 @@ pub struct Tightened {
     pub ranges: [Range; 8],
 }
 
+fn first_failing(earlier: Verdict, later: Verdict) -> Verdict
+    ensures { λ r. ⌜ r ≡ firstFailing earlier later ⌝ }
+{
+    match earlier {
+        Verdict::Fail(why) => Verdict::Fail(why),
+        Verdict::Pass => later,
+    }
+}
+
 // The first of checks 6 to 8, 24 and 25 that the estimate fails.
 fn check(e: Estimate) -> Verdict
     ensures { λ r. ⌜ r ≡ checksOf e ⌝ }
 {
-    match form::check(e) {
-        Verdict::Fail(why) => Verdict::Fail(why),
-        Verdict::Pass => spans::check(e),
-    }
+    let form = form::check(e);
+    let order = spans::check_order(e);
+    let balance = spans::check_balance(e);
+    first_failing(form, first_failing(order, balance))
 }
 
 pub fn tighten(e: Estimate) -> Tightened

@@ -3,7 +3,7 @@ ghost use mathlib.Core.Path.{_≡_};
 ghost use Prim.Native.Nat.{_+_, _*_, _≤_, _<_};
 ghost use Rattle.base.specs.Search.{firstBelow};
 ghost use Rattle.estimates.specs.Ranges.{low, high};
-ghost use Rattle.estimates.specs.Tighten.{spanOf, inflow, outflow, meets, canBalance, isReversed, rangesOf};
+ghost use Rattle.estimates.specs.Tighten.{spanOf, inflow, outflow, meets, canBalance, isReversed, orderOf, balanceOf};
 use crate::Estimate;
 use outcome::Refusal;
 use outcome::Verdict;
@@ -86,14 +86,21 @@ fn first_reversed(e: Estimate) -> u8
     8
 }
 
-// Checks 24 and 25.
-pub(crate) fn check(e: Estimate) -> Verdict
-    ensures { λ r. ⌜ r ≡ rangesOf e ⌝ }
+// Check 24.
+pub(crate) fn check_order(e: Estimate) -> Verdict
+    ensures { λ r. ⌜ r ≡ orderOf e ⌝ }
 {
     let reversed = first_reversed(e);
     if reversed < 8 {
         return Verdict::Fail(Refusal::Reversed(reversed));
     }
+    Verdict::Pass
+}
+
+// Check 25.
+pub(crate) fn check_balance(e: Estimate) -> Verdict
+    ensures { λ r. ⌜ r ≡ balanceOf e ⌝ }
+{
     if can_balance(e) {
         return Verdict::Pass;
     }

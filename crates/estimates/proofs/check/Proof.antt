@@ -1,4 +1,4 @@
--- Each arm is one case of `then`, and the match tells which.
+-- The three verdicts are put together as `checksOf` does.
 use borrow.Author.Needs.{needs}
 use Rattle.estimates.proofs.check.Statement.{statement}
 use Rattle.estimates.specs.Tighten.{checksOf}
@@ -8,6 +8,13 @@ pub check-spec : {M : Type 1} → statement M
 unfolding checksOf
 check-spec =
     tie.close
-    (tie.spec (λ c κs. search needs) (λ c. search needs) (λ c. search needs) (λ c κs. search needs)
-    (λ c. simp (← c .before .before .before .check .ensures, c .before .why .given .1))
-    (λ c. simp (← c .before .before .before .check .ensures, c .before .enum-told .given .1, c .check2 .ensures)))
+    (tie.spec (λ c κs. search needs) (λ c κs. search needs) (λ c κs. search needs) (λ c κs. search needs) (λ c κs. search needs)
+    (λ c.
+    let found = c .before .before in
+    simp (
+      ← found .before .before .check .ensures,
+      ← found .before .check-order .ensures,
+      ← found .check-balance .ensures,
+      ← c .before .first-failing .ensures,
+      c .first-failing2 .ensures,
+    )))
