@@ -1,16 +1,16 @@
 -- Of an estimate whose ranges are ordered: the test of 25 decides whether some choice balances, and the ranges that are answered then
 -- are the tightest. No other ranges are.
-use mathlib.Core.Bool.{cond, false, true}
+use mathlib.Core.Bool.{cond, true}
 use mathlib.Core.List.{List}
 use mathlib.Core.Logic.{_↔_, inl, inr}
-use mathlib.Core.Path.{_∙_, _≡_, ap, refl, sym}
-use Prim.Native.Nat.{_+_, _<_, _≤_, ℕ}
+use mathlib.Core.Path.{_∙_, _≡_, refl, sym}
+use Prim.Native.Nat.{_<_, _≤_, ℕ}
 use native.Mathlib.Nat.{zero-add}
 use native.Mathlib.Omega.{arith}
 use lib.Dec.{eqb, ltb}
 use lib.ListN.{length}
 use lib.Seq.{ext-getD}
-use borrow.Author.Tests.{eq-eqb, eqb-false, eqb-true, ltb-false, ltb-true, ne-eqb}
+use borrow.Author.Tests.{eqb-false, eqb-true, ltb-false, ltb-true}
 use Rattle.base.proofs.Reflect.{by-cases, by-test}
 use Rattle.base.specs.Reflect.{Reflects}
 use Rattle.base.specs.Search.{Every}

@@ -1,6 +1,6 @@
 -- A list made of a function's values, and the loop that makes one: `for i in 0..k { out[i] = f(i); }`, whose invariant is
 -- `sets out i (listFrom f i (k - i)) ≡ r`.
-use mathlib.Core.List.{List, [], _∷_, append-nil}
+use mathlib.Core.List.{List, [], append-nil}
 use mathlib.Core.Path.{_∙_, _≡_, ap, refl}
 use Prim.Native.Nat.{_+_, _-_, _<_, _≤_, suc, zero, ℕ}
 use native.Mathlib.Nat.{le-of-suc-le-suc, not-suc-le-zero}

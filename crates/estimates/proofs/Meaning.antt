@@ -1,17 +1,17 @@
--- The call's answer is right about choices of counts, and no other answer is. An array of a struct has eight elements; where a proof
--- is not told so by a struct, it asks it.
+-- The call's answer is right about choices of counts, and no other answer is. That there are eight ranges is what the struct says of every estimate
+-- that a program can hand in.
 use mathlib.Core.Bool.{_&&_, cond, false, true}
-use mathlib.Core.Path.{_∙_, _≡_, ap, refl, sym}
+use mathlib.Core.Path.{_≡_, refl}
 use Prim.Native.Nat.{_<_, _≤_, ℕ}
 use native.Mathlib.Omega.{arith}
-use lib.Dec.{eqb, ltb}
+use lib.Dec.{ltb}
 use lib.ListN.{length}
-use borrow.Author.Tests.{lt-ltb, ltb-false, ltb-true, ne-eqb}
+use borrow.Author.Tests.{lt-ltb, ltb-true, ne-eqb}
 use Rattle.base.proofs.Reflect.{by-cases, by-test, reflect-and, reflect-as, reflect-eq, reflect-if, reflect-lt, reflect-true, refuted, refutes}
 use Rattle.base.proofs.Search.{first-complete, first-end-complete, first-end-sound, first-sound, found-none, reflect-all, unfound}
 use Rattle.base.specs.Reflect.{Reflects}
 use Rattle.base.specs.Search.{Every, allBelow, firstBelow}
-use Rattle.outcome.specs.declared.Refusal.the-variants.{Malformed, NoneBalances, Repeated, Reversed, Unbalanced, Unsupported}
+use Rattle.outcome.specs.declared.Refusal.the-variants.{Malformed, NoneBalances, Reversed}
 use Rattle.outcome.specs.declared.Verdict.{Verdict}
 use Rattle.outcome.specs.declared.Verdict.the-variants.{Fail, Pass}
 use Rattle.record.proofs.Meaning.{reflect-used}
@@ -21,7 +21,7 @@ use Rattle.checks.proofs.Meaning.{answers-check, check-answers, reflect-balance
 use Rattle.checks.specs.Checks.{balanced, checkOf}
 use Rattle.checks.specs.Meaning as checks
 use Rattle.estimates.proofs.Exact.{one-tightest, reflect-balance, tightest}
-use Rattle.estimates.specs.Form.{formOf, isBounded, isTrimmed, lowestJob, withoutBalance}
+use Rattle.estimates.specs.Form.{formOf, isBounded, trimmedFormed, lowestJob, withoutBalance}
 use Rattle.estimates.specs.Meaning.{Balancing, Fit, Formed, ReversedAt, Told, malformed, none-balances, repeated, reversed, tightened, unsupported}
 use Rattle.estimates.specs.Ranges.{high, low}
 use Rattle.estimates.specs.Tighten.{balanceOf, canBalance, checksOf, firstFailing, isReversed, orderOf, settle, tightenOf, tightestOf}
@@ -36,13 +36,16 @@ module _ (e : Estimate) where
   abbrev Bounds : Type 0
   Bounds = Every 8 (λ i. (Used Lowest i → ⊥) → high e i ≡ 0) × (e .kind ≡ 0 → e .trimmed ≡ 0)
 
-  reflect-bounds : Reflects (allBelow 8 (isBounded e Lowest) && isTrimmed e) Bounds
-  unfolding isBounded isTrimmed
+  reflect-bounds : Reflects (allBelow 8 (isBounded e Lowest) && trimmedFormed e) Bounds
+  unfolding isBounded trimmedFormed
   reflect-bounds =
       reflect-and
       (reflect-all 8 (λ i q.
       reflect-as (reflect-if (reflect-used Lowest i) (reflect-true true) (reflect-eq (high e i) 0)) (λ h. h .1) (λ h. ((λ _. refl), h))))
       (reflect-as (reflect-if (reflect-eq (e .kind) 0) (reflect-eq (e .trimmed) 0) (reflect-true true)) (λ h. h .0) (λ h. (h, λ _. refl)))
+
+  formed : Bounds → checks.WellFormed Lowest → Formed e
+  formed b w = record { job = w; unused = b .0; accession = b .1 }
 
   -- ---- 24
   reverses : (i : ℕ) → i < 8 → Reflects (isReversed e i) (ReversedAt e i)
@@ -53,7 +56,10 @@ module _ (e : Estimate) where
   ordered none i q = omega (arith, none i q)
 
   -- ---- the answer where 6 to 8 pass
-  ranged : length (e .ranges) ≡ 8 → Fit e → Told e (settle (firstFailing (orderOf e) (balanceOf e)) e)
+  abbrev Later : Verdict
+  Later = firstFailing (orderOf e) (balanceOf e)
+
+  ranged : length (e .ranges) ≡ 8 → Fit e → Told e (settle Later e)
   unfolding orderOf balanceOf
   ranged n fit =
       by-cases (λ b. Told e (settle (firstFailing (cond b (Fail (Reversed (firstBelow 8 (isReversed e)))) Pass) (balanceOf e)) e))
@@ -66,26 +72,24 @@ module _ (e : Estimate) where
       (λ t. none-balances fit none (λ x c. refuted (reflect-balance e (ordered none)) t (x, c))))
 
   -- ---- the whole answer
-  answered : length (e .ranges) ≡ 8 → Bounds → (v : Verdict) → checks.Answer Lowest v → Told e (settle (firstFailing (withoutBalance v) (firstFailing (orderOf e) (balanceOf e))) e)
-  answered n b v (checks.passes w r u level) =
-      ranged n (record { formed = record { job = w; unused = b .0; accession = b .1 }; apart = r; supported = u })
-  answered n b v (checks.unbalanced w r u level) =
-      ranged n (record { formed = record { job = w; unused = b .0; accession = b .1 }; apart = r; supported = u })
+  answered : length (e .ranges) ≡ 8 → Bounds → (v : Verdict) → checks.Answer Lowest v → Told e (settle (firstFailing (withoutBalance v) Later) e)
+  answered n b v (checks.passes w r u level) = ranged n (record { formed = formed b w; apart = r; supported = u })
+  answered n b v (checks.unbalanced w r u level) = ranged n (record { formed = formed b w; apart = r; supported = u })
   answered n b v (checks.malformed w) = malformed (λ f. w (f .job))
-  answered n b v (checks.repeated i w r) = repeated i (record { job = w; unused = b .0; accession = b .1 }) r
-  answered n b v (checks.unsupported i w r u) = unsupported i (record { job = w; unused = b .0; accession = b .1 }) r u
+  answered n b v (checks.repeated i w r) = repeated i (formed b w) r
+  answered n b v (checks.unsupported i w r u) = unsupported i (formed b w) r u
 
   pub tighten-told : length (e .ranges) ≡ 8 → Told e (tightenOf e)
   unfolding tightenOf checksOf formOf
   tighten-told n =
       by-cases
-      (λ b. Told e (settle (firstFailing (cond b (withoutBalance (checkOf Lowest)) (Fail Malformed)) (firstFailing (orderOf e) (balanceOf e))) e))
-      (allBelow 8 (isBounded e Lowest) && isTrimmed e)
+      (λ b. Told e (settle (firstFailing (cond b (withoutBalance (checkOf Lowest)) (Fail Malformed)) Later) e))
+      (allBelow 8 (isBounded e Lowest) && trimmedFormed e)
       (λ d. answered n (reflect-bounds .sound d) (checkOf Lowest) (check-answers Lowest))
       (λ d. malformed (λ f. refuted reflect-bounds d (f .unused, f .accession)))
 
   -- ---- no other answer is right
-  bounded : Formed e → (allBelow 8 (isBounded e Lowest) && isTrimmed e) ≡ true
+  bounded : Formed e → (allBelow 8 (isBounded e Lowest) && trimmedFormed e) ≡ true
   bounded f = reflect-bounds .complete (f .unused, f .accession)
 
   formed-form : Formed e → (v : Verdict) → checks.Answer Lowest v → formOf e ≡ withoutBalance v
@@ -95,10 +99,8 @@ module _ (e : Estimate) where
   malformed-form : (Formed e → ⊥) → formOf e ≡ Fail Malformed
   unfolding formOf
   malformed-form f =
-      by-test (allBelow 8 (isBounded e Lowest) && isTrimmed e)
-      (λ t.
-      let b = reflect-bounds .sound t in
-      simp (t, answers-check Lowest _ (checks.malformed (λ w. f (record { job = w; unused = b .0; accession = b .1 })))))
+      by-test (allBelow 8 (isBounded e Lowest) && trimmedFormed e)
+      (λ t. simp (t, answers-check Lowest _ (checks.malformed (λ w. f (formed (reflect-bounds .sound t) w)))))
       (λ t. simp t)
 
   -- what check 9 says of the lowest counts makes no difference

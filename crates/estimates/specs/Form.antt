@@ -33,8 +33,8 @@ unfoldable pub isBounded : Estimate → Job → ℕ → Bool
 isBounded e j i = cond (isUsed j i) true (eqb (high e i) 0)
 
 -- "an accession has 0 trimmed, else 6" (M-102)
-unfoldable pub isTrimmed : Estimate → Bool
-isTrimmed e = cond (eqb (e .kind) 0) (eqb (e .trimmed) 0) true
+unfoldable pub trimmedFormed : Estimate → Bool
+trimmedFormed e = cond (eqb (e .kind) 0) (eqb (e .trimmed) 0) true
 
 -- whether the lowest counts balance is not asked
 abbrev pub withoutBalance : Verdict → Verdict
@@ -43,4 +43,4 @@ withoutBalance (Fail r) = cond (eqb (refusalNumber r) 9) Pass (Fail r)
 
 unfoldable pub formOf : Estimate → Verdict
 formOf e =
-    cond (allBelow 8 (isBounded e (lowestJob e)) && isTrimmed e) (withoutBalance (checkOf (lowestJob e))) (Fail Malformed)
+    cond (allBelow 8 (isBounded e (lowestJob e)) && trimmedFormed e) (withoutBalance (checkOf (lowestJob e))) (Fail Malformed)

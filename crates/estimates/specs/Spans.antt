@@ -1,5 +1,5 @@
 -- When two spans meet, as the functions that tighten ask it: their sums fit 64 bits. Nothing rests on this but those functions.
-use Prim.Native.Nat.{ℕ, _≤_}
+use Prim.Native.Nat.{_≤_}
 use Rattle.estimates.specs.declared.spans.Span.{Span}
 
 pub record Meeting (own other : Span) : Type 0 where

@@ -1,7 +1,7 @@
 // Each entry's tightest range, by one formula for inputs and outputs: what its own side and the other leave of it.
 ghost use mathlib.Core.Bool.{true};
 ghost use mathlib.Core.Path.{_≡_};
-ghost use Prim.Native.Nat.{_≤_, _<_};
+ghost use Prim.Native.Nat.{_<_};
 ghost use Rattle.estimates.specs.Tighten.{lowerEnd, upperEnd, tightestIn, tightestBy, canBalance, tightestOf};
 ghost use Rattle.estimates.specs.Spans.{Meeting};
 use crate::Estimate;

@@ -2,7 +2,7 @@
 ghost use mathlib.Core.Path.{_≡_};
 ghost use Prim.Native.Nat.{_<_};
 ghost use Rattle.base.specs.Search.{allBelow};
-ghost use Rattle.estimates.specs.Form.{lowestJob, isBounded, isTrimmed, withoutBalance, formOf};
+ghost use Rattle.estimates.specs.Form.{lowestJob, isBounded, trimmedFormed, withoutBalance, formOf};
 use crate::Estimate;
 use outcome::Refusal;
 use outcome::Verdict;
@@ -54,8 +54,8 @@ fn all_bounded(e: Estimate, job: Job) -> bool
 }
 
 // An accession's trimmed is 0.
-fn is_trimmed(e: Estimate) -> bool
-    ensures { λ r. ⌜ r ≡ isTrimmed e ⌝ }
+fn trimmed_formed(e: Estimate) -> bool
+    ensures { λ r. ⌜ r ≡ trimmedFormed e ⌝ }
 {
     if e.kind == 0 {
         return e.trimmed == 0;
@@ -84,7 +84,7 @@ pub(crate) fn check(e: Estimate) -> Verdict
     if !all_bounded(e, job) {
         return Verdict::Fail(Refusal::Malformed);
     }
-    if is_trimmed(e) {
+    if trimmed_formed(e) {
         return without_balance(checks::check(job));
     }
     Verdict::Fail(Refusal::Malformed)

@@ -7,7 +7,6 @@ mod form;
 mod spans;
 
 use outcome::Outcome;
-use outcome::Refusal;
 use outcome::Verdict;
 
 // At least `lowest` frames, and at most `highest`.

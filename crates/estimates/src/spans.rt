@@ -1,6 +1,6 @@
 // What can go into a migration and what can come out of it, and checks 24 and 25.
 ghost use mathlib.Core.Path.{_≡_};
-ghost use Prim.Native.Nat.{_+_, _*_, _≤_, _<_};
+ghost use Prim.Native.Nat.{_+_, _≤_, _<_};
 ghost use Rattle.base.specs.Search.{firstBelow};
 ghost use Rattle.estimates.specs.Ranges.{low, high};
 ghost use Rattle.estimates.specs.Tighten.{spanOf, inflow, outflow, meets, canBalance, isReversed, orderOf, balanceOf};

@@ -1,6 +1,6 @@
 -- Each turn stores one range, and what is stored with what remains is the whole list; an accession's list is returned as it was.
-use mathlib.Core.Path.{_≡_, refl}
-use Prim.Native.Nat.{_-_, _≤_}
+use mathlib.Core.Path.{_≡_}
+use Prim.Native.Nat.{_-_}
 use native.Mathlib.Omega.{arith}
 use lib.ListN.{length, length-set}
 use borrow.Author.Needs.{needs}
@@ -9,7 +9,6 @@ use Rattle.record.proofs.Eight.{length-mapped}
 use Rattle.estimates.proofs.Lists.{list-end, list-next, list-start}
 use Rattle.estimates.proofs.Meets.{Narrowing, meeting}
 use Rattle.estimates.proofs.ends.tightest.Statement.{statement}
-use Rattle.estimates.specs.Ranges.{listFrom}
 use Rattle.estimates.specs.Tighten.{tightestAt, tightestOf}
 use Rattle.estimates.proofs.ends.tightest.Tie as tie
 

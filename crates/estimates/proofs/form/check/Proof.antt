@@ -2,7 +2,6 @@
 use mathlib.Core.Path.{_∙_, sym}
 use borrow.Author.Needs.{needs}
 use borrow.Author.Tests.{not-false, not-true}
-use Rattle.base.proofs.Reflect.{and-false}
 use Rattle.estimates.proofs.form.check.Statement.{statement}
 use Rattle.estimates.specs.Form.{formOf}
 use Rattle.estimates.proofs.form.check.Tie as tie
@@ -24,7 +23,7 @@ check-spec =
     simp (
       ← b .before .before .lowest-job .ensures,
       sym (b .before .all-bounded .ensures) ∙ not-false _ (b .if1 .left),
-      sym (t .before .is-trimmed .ensures) ∙ t .if2 .taken,
+      sym (t .before .trimmed-formed .ensures) ∙ t .if2 .taken,
       c .without-balance .ensures,
       c .before .check .ensures,
     ))
@@ -33,5 +32,5 @@ check-spec =
     simp (
       ← b .before .before .lowest-job .ensures,
       sym (b .before .all-bounded .ensures) ∙ not-false _ (b .if1 .left),
-      sym (c .before .is-trimmed .ensures) ∙ c .if2 .left,
+      sym (c .before .trimmed-formed .ensures) ∙ c .if2 .left,
     )))

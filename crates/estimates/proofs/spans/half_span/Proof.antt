@@ -1,5 +1,5 @@
 -- Each sum so far with that of the entries that remain is the sum of all; five numbers of 32 bits fit 64.
-use mathlib.Core.Path.{_≡_, refl}
+use mathlib.Core.Path.{_≡_}
 use Prim.Native.Nat.{_*_, _+_, _-_, _≤_}
 use native.Mathlib.Nat.{add-zero}
 use native.Mathlib.Omega.{arith}
