@@ -41,13 +41,16 @@ module _ (e : Estimate) where
 
   -- ---- an entry's range
   module _ (ordered : Every 8 (λ i. low e i ≤ high e i)) (i v : ℕ) (entry : i < 8) where
-    -- of a migration
-    possible : e .kind ≡ 1 → ((low e i ≤ v) × (v ≤ high e i)) × Feasible (put i v (low e)) (put i v (high e)) (e .trimmed) → Possible e i v
-    possible k w =
+    -- of a migration: v is in the old range, and with v alone there some choice balances
+    abbrev Fixed : Type 0
+    Fixed = ((low e i ≤ v) × (v ≤ high e i)) × Feasible (put i v (low e)) (put i v (high e)) (e .trimmed)
+
+    possible : Fixed → Possible e i v
+    possible w =
         let c = fixed-some (low e) (high e) (e .trimmed) i v entry ordered (w .0 .0) (w .0 .1) (w .1) in
         (c .0, balancing (c .0) (c .1), c .2)
 
-    feasible : e .kind ≡ 1 → Possible e i v → ((low e i ≤ v) × (v ≤ high e i)) × Feasible (put i v (low e)) (put i v (high e)) (e .trimmed)
+    feasible : e .kind ≡ 1 → Possible e i v → Fixed
     feasible k c =
         let w = c .1 .within i entry in
         let at = c .2 in
@@ -66,11 +69,11 @@ module _ (e : Estimate) where
         (λ d.
         let k4 = ltb-true i 4 d in
         let f = fixed-within l h 0 0 4 t i v (omega arith) k4 (inl k4) m in
-        ((λ w. possible k (f .0 w)), (λ c. f .1 (feasible k c))))
+        ((λ w. possible (f .0 w)), (λ c. f .1 (feasible k c))))
         (λ d.
         let k4 = ltb-false i 4 d in
         let f = fixed-within l h 4 t 0 0 i v k4 entry (inr k4) (turned m) in
-        ((λ w. let g = f .0 w in possible k (g .0, turned (g .1))), (λ c. let g = feasible k c in f .1 (g .0, turned (g .1)))))
+        ((λ w. let g = f .0 w in possible (g .0, turned (g .1))), (λ c. let g = feasible k c in f .1 (g .0, turned (g .1)))))
 
     -- of an accession: the others have their lowest counts
     kept : (e .kind ≡ 1 → ⊥) → Holds (rangeAt (e .ranges) i) v ↔ Possible e i v
