@@ -5,6 +5,7 @@
 pub mod draw;
 pub mod edges;
 pub mod engine;
+pub mod estimates;
 #[cfg(feature = "generator")]
 pub mod generate;
 pub mod random;

@@ -1,25 +1,32 @@
 -- No two cases have one number: the outcome is found again from its number and its value. So what is printed of a
 -- step, the two figures, tells its outcome, and a definition that speaks of a number speaks of one case.
-use mathlib.Core.List.{List, [], _∷_, map}
+use mathlib.Core.Bool.{cond}
+use mathlib.Core.List.{List, [], _∷_}
 use mathlib.Core.Path.{_≡_, refl, sym, ap, ap₂, _∙_}
 use Prim.Native.Nat.{ℕ}
-use lib.ListN.{getD}
+use lib.Dec.{eqb}
 use Rattle.outcome.specs.declared.Outcome.{Outcome}
 use Rattle.outcome.specs.declared.Outcome.the-variants.{Done, Refused}
 use Rattle.outcome.specs.declared.Refusal.{Refusal}
 use Rattle.outcome.specs.Figures.{refusalNumber, refusalValue, numberOf, valueOf}
 
--- document 01's table, with this value where one is carried
+-- all refusals, with this value where one is carried
 abbrev table : ℕ → List Refusal
 table value =
     Refusal.Settings ∷ Refusal.Unreadable ∷ Refusal.NoVault ∷ Refusal.NotBooked ∷ Refusal.WrongVault ∷ Refusal.Malformed
     ∷ Refusal.Repeated value ∷ Refusal.Unsupported value ∷ Refusal.Unbalanced ∷ Refusal.Full
     ∷ Refusal.NotCreated value ∷ Refusal.Retired value ∷ Refusal.InputReserved value ∷ Refusal.OutputReserved value
-    ∷ Refusal.NotSigned ∷ Refusal.TooFewSigners ∷ Refusal.TooManyAbsent ∷ Refusal.NotHeld ∷ []
+    ∷ Refusal.NotSigned ∷ Refusal.TooFewSigners ∷ Refusal.TooManyAbsent ∷ Refusal.NotHeld
+    ∷ Refusal.Reversed value ∷ Refusal.NoneBalances ∷ []
+
+-- the refusal among these that has this number; where none has, a step carried out
+abbrev numbered : ℕ → ℕ → List Refusal → Outcome
+numbered number value [] = Done value
+numbered number value (r ∷ l) = cond (eqb (refusalNumber r) number) (Refused r) (numbered number value l)
 
 -- the outcome with these figures
 abbrev pub outcomeAt : ℕ → ℕ → Outcome
-outcomeAt number value = getD (Done value ∷ map Refused (table value)) number (Done value)
+outcomeAt number value = numbered number value (table value)
 
 refusal-back : (r : Refusal) → outcomeAt (refusalNumber r) (refusalValue r) ≡ Refused r
 refusal-back Refusal.Settings = refl
@@ -40,6 +47,8 @@ refusal-back Refusal.NotSigned = refl
 refusal-back Refusal.TooFewSigners = refl
 refusal-back Refusal.TooManyAbsent = refl
 refusal-back Refusal.NotHeld = refl
+refusal-back (Refusal.Reversed e) = refl
+refusal-back Refusal.NoneBalances = refl
 
 pub outcome-back : (o : Outcome) → outcomeAt (numberOf o) (valueOf o) ≡ o
 outcome-back (Done v) = refl

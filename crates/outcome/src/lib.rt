@@ -2,7 +2,7 @@
 ghost use mathlib.Core.Path.{_≡_};
 ghost use Rattle.outcome.specs.Figures.{numberOf, valueOf, refusalNumber, refusalValue};
 
-// The refusals, in the order of document 01's table. Where the table says so, a case carries the first offending entry.
+// The refusals, in the order of document 01's table, then of document 02. Where they say so, a case carries the first offending entry.
 pub enum Refusal {
     // 1: header or settings wrong, or file too long
     Settings,
@@ -40,6 +40,10 @@ pub enum Refusal {
     TooManyAbsent,
     // 18: no correct vault holds the job
     NotHeld,
+    // 24: an entry's lowest count exceeds its highest
+    Reversed(u8),
+    // 25: no choice of counts within their ranges balances
+    NoneBalances,
 }
 
 // Done carries the step's value.
@@ -54,7 +58,7 @@ pub enum Verdict {
     Fail(Refusal),
 }
 
-// A refusal's number in document 01's table, and the entry that it carries, else 0.
+// A refusal's number in document 01's table or in document 02, and the entry that it carries, else 0.
 struct Figures(u8, u8);
 
 impl Refusal {
@@ -80,6 +84,8 @@ impl Refusal {
             Refusal::TooFewSigners => Figures(16, 0),
             Refusal::TooManyAbsent => Figures(17, 0),
             Refusal::NotHeld => Figures(18, 0),
+            Refusal::Reversed(entry) => Figures(24, entry),
+            Refusal::NoneBalances => Figures(25, 0),
         }
     }
 
