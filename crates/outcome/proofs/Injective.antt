@@ -26,6 +26,7 @@ use Rattle.outcome.specs.declared.Refusal.the-variants.{
   TooFewSigners,
   TooManyAbsent,
   NotHeld,
+  NoContest,
 }
 use Rattle.outcome.specs.Figures.{refusalNumber, refusalValue, numberOf, valueOf}
 
@@ -48,7 +49,8 @@ refusalAt number value =
     (cond (eqb number 14) (OutputReserved value)
     (cond (eqb number 15) NotSigned
     (cond (eqb number 16) TooFewSigners
-    (cond (eqb number 17) TooManyAbsent NotHeld))))))))))))))))
+    (cond (eqb number 17) TooManyAbsent
+    (cond (eqb number 18) NotHeld NoContest)))))))))))))))))
 
 -- the outcome with these figures
 abbrev pub outcomeAt : ℕ → ℕ → Outcome
@@ -73,6 +75,7 @@ refusal-back NotSigned = refl
 refusal-back TooFewSigners = refl
 refusal-back TooManyAbsent = refl
 refusal-back NotHeld = refl
+refusal-back NoContest = refl
 
 pub outcome-back : (o : Outcome) → outcomeAt (numberOf o) (valueOf o) ≡ o
 outcome-back (Done v) = refl

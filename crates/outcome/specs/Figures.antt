@@ -22,9 +22,10 @@ use Rattle.outcome.specs.declared.Refusal.the-variants.{
   TooFewSigners,
   TooManyAbsent,
   NotHeld,
+  NoContest,
 }
 
--- a refusal's place in the table
+-- a refusal's place in the table; 26 is document 02's (M-111)
 abbrev pub refusalNumber : Refusal → ℕ
 refusalNumber Settings = 1
 refusalNumber Unreadable = 2
@@ -44,6 +45,7 @@ refusalNumber NotSigned = 15
 refusalNumber TooFewSigners = 16
 refusalNumber TooManyAbsent = 17
 refusalNumber NotHeld = 18
+refusalNumber NoContest = 26
 
 -- the entry of refusals 7, 8 and 11 to 14, else 0
 abbrev pub refusalValue : Refusal → ℕ
@@ -65,6 +67,7 @@ refusalValue NotSigned = 0
 refusalValue TooFewSigners = 0
 refusalValue TooManyAbsent = 0
 refusalValue NotHeld = 0
+refusalValue NoContest = 0
 
 -- a step carried out is 0 with its value
 abbrev pub numberOf : Outcome → ℕ

@@ -2,7 +2,7 @@
 ghost use mathlib.Core.Path.{_≡_};
 ghost use Rattle.outcome.specs.Figures.{numberOf, valueOf, refusalNumber, refusalValue};
 
-// The refusals, in the order of document 01's table. Where the table says so, a case carries the first offending entry.
+// The refusals, in the order of document 01's table, then of document 02. Where the table says so, a case carries the first offending entry.
 pub enum Refusal {
     // 1: header or settings wrong, or file too long
     Settings,
@@ -40,6 +40,8 @@ pub enum Refusal {
     TooManyAbsent,
     // 18: no correct vault holds the job
     NotHeld,
+    // 26: no contest has these numbers of vaults, equivocating vaults and signatures
+    NoContest,
 }
 
 // Done carries the step's value.
@@ -55,7 +57,7 @@ pub enum Verdict {
 }
 
 impl Refusal {
-    // Its number in document 01's table.
+    // Its number in document 01's table, or in document 02.
     pub fn number(self) -> u8
         ensures { λ r. ⌜ r ≡ refusalNumber self ⌝ }
     {
@@ -78,6 +80,7 @@ impl Refusal {
             Refusal::TooFewSigners => 16,
             Refusal::TooManyAbsent => 17,
             Refusal::NotHeld => 18,
+            Refusal::NoContest => 26,
         }
     }
 
@@ -104,6 +107,7 @@ impl Refusal {
             Refusal::TooFewSigners => 0,
             Refusal::TooManyAbsent => 0,
             Refusal::NotHeld => 0,
+            Refusal::NoContest => 0,
         }
     }
 }
