@@ -1,6 +1,6 @@
 -- The call's answer is right about the game, whichever vaults are equivocating, and no other answer is.
-use mathlib.Core.Bool.{Bool, true, false, cond}
-use mathlib.Core.Path.{_≡_, refl}
+use mathlib.Core.Bool.{Bool, cond}
+use mathlib.Core.Path.{_≡_}
 use Prim.Native.Nat.{ℕ, zero, suc, _+_, _-_, _≤_, _<_, min}
 use native.Mathlib.Omega.{arith}
 use lib.Dec.{leb, ltb}
@@ -60,11 +60,11 @@ module _ (n : ℕ) (equivocates : ℕ → Bool) (f t : ℕ) (chosen : count n eq
 below-count : (f k : ℕ) → count k (λ v. ltb v f) ≡ min k f
 unfolding count
 below-count f zero = omega arith
-below-count f (suc k) = by (ltb k f) refl (below-count f k)
-  where
-    by : (b : Bool) → ltb k f ≡ b → count k (λ v. ltb v f) ≡ min k f → cond b 1 0 + count k (λ v. ltb v f) ≡ min (suc k) f
-    by true e h = let l = ltb-true k f e in omega arith
-    by false e h = let l = ltb-false k f e in omega arith
+below-count f (suc k) =
+    let h = below-count f k in
+    by-cases (λ b. cond b 1 0 + count k (λ v. ltb v f) ≡ min (suc k) f) (ltb k f)
+    (λ e. omega (arith, ltb-true k f e))
+    (λ e. omega (arith, ltb-false k f e))
 
 -- ---- the whole answer
 pub forecast-means : (n f t : ℕ) → Told n f t (forecastOf n f t)

@@ -194,12 +194,11 @@ module _ (n : ℕ) (equivocates : ℕ → Bool) where
     where
       all : (k : ℕ) → count k (isFree equivocates first start) + count k equivocates ≡ k
       all zero = omega arith
-      all (suc k) = by (equivocates k) (all k)
-        where
-          by : (b : Bool) → count k (isFree equivocates first start) + count k equivocates ≡ k
-              → cond (not b && cond b true true) 1 0 + count k (isFree equivocates first start) + (cond b 1 0 + count k equivocates) ≡ suc k
-          by true h = omega arith
-          by false h = omega arith
+      all (suc k) =
+          let h = all k in
+          by-cases
+          (λ b. cond (not b && cond b true true) 1 0 + count k (isFree equivocates first start) + (cond b 1 0 + count k equivocates) ≡ suc k)
+          (equivocates k) (λ _. omega arith) (λ _. omega arith)
 
   same : (b : Bool) → b && cond b true true ≡ b
   same true = refl

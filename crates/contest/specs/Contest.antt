@@ -1,4 +1,4 @@
--- What the call answers (document 02, M-111), by numbers alone; what the answers mean along lines of play is in Plans.antt.
+-- What the call answers (document 02, M-111), by numbers alone; what the answers mean along lines of play is in Meaning.antt.
 use mathlib.Core.Bool.{Bool, cond, _&&_}
 use Prim.Native.Nat.{ℕ, _+_, _-_, _*_, _/_, _≤_, max}
 use lib.Dec.{leb}

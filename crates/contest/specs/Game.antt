@@ -68,7 +68,7 @@ module _ (n : ℕ) (equivocates : ℕ → Bool) where
   abbrev pub Ended : Position → Type 0
   Ended p = Stuck first p × Stuck second p
 
--- how many of the vaults below n are equivocating
+-- how many of the numbers below n pass: f of the n vaults are equivocating if `count n equivocates` is f
 unfoldable pub count : ℕ → (ℕ → Bool) → ℕ
 count zero p = 0
 count (suc n) p = cond (p n) 1 0 + count n p
