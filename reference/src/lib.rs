@@ -2,6 +2,7 @@
 //! It is slow where slow is simpler, and it is proved by nothing: it exists
 //! to be compared with the proved program.
 
+pub mod contest;
 pub mod draw;
 pub mod edges;
 pub mod engine;

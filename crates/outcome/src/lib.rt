@@ -44,6 +44,8 @@ pub enum Refusal {
     Reversed(u8),
     // 25: no choice of counts within their ranges balances
     NoneBalances,
+    // 26: no contest has these numbers
+    NoContest,
 }
 
 // Done carries the step's value.
@@ -86,6 +88,7 @@ impl Refusal {
             Refusal::NotHeld => Figures(18, 0),
             Refusal::Reversed(entry) => Figures(24, entry),
             Refusal::NoneBalances => Figures(25, 0),
+            Refusal::NoContest => Figures(26, 0),
         }
     }
 
