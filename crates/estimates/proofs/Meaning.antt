@@ -15,7 +15,7 @@ use Rattle.outcome.specs.declared.Refusal.the-variants.{Malformed, NoneBalances
 use Rattle.outcome.specs.declared.Verdict.{Verdict}
 use Rattle.outcome.specs.declared.Verdict.the-variants.{Fail, Pass}
 use Rattle.record.proofs.Meaning.{reflect-used}
-use Rattle.record.specs.Meaning.{Used}
+use Rattle.record.specs.Meaning.{Label, Used}
 use Rattle.record.specs.declared.Job.{Job}
 use Rattle.checks.proofs.Meaning.{answers-check, check-answers, reflect-balanced}
 use Rattle.checks.specs.Checks.{balanced, checkOf}
@@ -44,7 +44,7 @@ module _ (e : Estimate) where
       reflect-as (reflect-if (reflect-used Lowest i) (reflect-true true) (reflect-eq (high e i) 0)) (λ h. h .1) (λ h. ((λ _. refl), h))))
       (reflect-as (reflect-if (reflect-eq (e .kind) 0) (reflect-eq (e .trimmed) 0) (reflect-true true)) (λ h. h .0) (λ h. (h, λ _. refl)))
 
-  formed : Bounds → checks.WellFormed Lowest → Formed e
+  formed : Bounds → checks.WellFormed Label Lowest → Formed e
   formed b w = record { job = w; unused = b .0; accession = b .1 }
 
   -- ---- 24

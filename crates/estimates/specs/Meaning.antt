@@ -6,8 +6,8 @@ use lib.ListN.{length}
 use Rattle.base.specs.Search.{Every, Least, sumFrom}
 use Rattle.outcome.specs.declared.Outcome.the-variants.{Done}
 use Rattle.outcome.specs.declared.Refusal.the-variants.{Malformed, Repeated, Unsupported, Reversed, NoneBalances}
-use Rattle.record.specs.Meaning.{Used}
-use Rattle.checks.specs.Meaning.{Nowhere, RepeatedAt, UnsupportedAt, WellFormed}
+use Rattle.record.specs.Meaning.{Label, Used}
+use Rattle.checks.specs.Meaning.{Nowhere, RepeatedAt, UnsupportedAt, WellFormed, takes}
 use Rattle.estimates.specs.declared.Estimate.{Estimate}
 use Rattle.estimates.specs.declared.Range.{Range}
 use Rattle.estimates.specs.declared.Tightened.{Tightened}
@@ -17,7 +17,7 @@ use Rattle.estimates.specs.Tighten.{refuse}
 
 -- 6
 pub record Formed (e : Estimate) : Type 0 where
-  pub job : WellFormed (lowestJob e)
+  pub job : WellFormed Label (lowestJob e)
   pub unused : Every 8 (λ i. (Used (lowestJob e) i → ⊥) → high e i ≡ 0)
   pub accession : e .kind ≡ 0 → e .trimmed ≡ 0
 
@@ -25,7 +25,7 @@ pub record Formed (e : Estimate) : Type 0 where
 pub record Fit (e : Estimate) : Type 0 where
   pub formed : Formed e
   pub apart : Nowhere (RepeatedAt (lowestJob e))
-  pub supported : Nowhere (UnsupportedAt (lowestJob e))
+  pub supported : Nowhere (UnsupportedAt takes (lowestJob e))
 
 -- 24, at entry i
 abbrev pub ReversedAt : Estimate → ℕ → Type 0
@@ -52,7 +52,7 @@ pub record Tightest (e : Estimate) (ranges : List Range) : Type 0 where
 pub data Told (e : Estimate) : Tightened → Type 0 where
   malformed : (Formed e → ⊥) → Told e (refuse Malformed e)
   repeated : (i : ℕ) → Formed e → Least 8 (RepeatedAt (lowestJob e)) i → Told e (refuse (Repeated i) e)
-  unsupported : (i : ℕ) → Formed e → Nowhere (RepeatedAt (lowestJob e)) → Least 8 (UnsupportedAt (lowestJob e)) i → Told e (refuse (Unsupported i) e)
+  unsupported : (i : ℕ) → Formed e → Nowhere (RepeatedAt (lowestJob e)) → Least 8 (UnsupportedAt takes (lowestJob e)) i → Told e (refuse (Unsupported i) e)
   reversed : (i : ℕ) → Fit e → Least 8 (ReversedAt e) i → Told e (refuse (Reversed i) e)
   none-balances : Fit e → Nowhere (ReversedAt e) → ((x : ℕ → ℕ) → Balancing e x → ⊥) → Told e (refuse NoneBalances e)
   tightened : Fit e → Nowhere (ReversedAt e) → (ranges : List Range) → Tightest e ranges → Told e (record { outcome = Done 0; ranges = ranges })

@@ -137,8 +137,21 @@ module _ (l : Ledger) where
   pub sane-next : (r : Bool) → r ≡ isSane l → r ≡ true → l .next < 16
   sane-next r p q = let h = reflect-sane l .sound (sym p ∙ q) in omega (arith, h .next, h .lawful .vaults)
 
-pub ruleset entering =
-    (placed, placed-vault, placed-job, placed-few, placed-known, known-job, known-booked, known-few, known-arrivals, known-vaults, sane-placed, sane-booked, sane-next)
+pub ruleset entering = (
+  placed,
+  placed-vault,
+  placed-job,
+  placed-few,
+  placed-known,
+  known-job,
+  known-booked,
+  known-few,
+  known-arrivals,
+  known-vaults,
+  sane-placed,
+  sane-booked,
+  sane-next,
+)
 
 -- ---- the two ways of a step: its gate passes and what was decided is carried, or its gate fails
 module _ (l : Ledger) (v job : ℕ) where

@@ -32,7 +32,22 @@ use Rattle.ledger.specs.Register.{Register, feed, feedAll, isDone, log, 
 use Rattle.ledger.specs.Rounds.{Counted, Round, Rounds, isSnapshot, visits}
 use Rattle.ledger.specs.State.{applied, booking, vaultAt, visited, voted, withVault}
 use Rattle.ledger.specs.Steps.{saneGate, snapshotDecision}
-use Rattle.ledger.specs.Worlds.{Event, Request, World, after, afterAll, commit, faultyVote, generations, preflight, propose, replyTo, show, snapshot, start}
+use Rattle.ledger.specs.Worlds.{
+  Event,
+  Request,
+  World,
+  after,
+  afterAll,
+  commit,
+  faultyVote,
+  generations,
+  preflight,
+  propose,
+  replyTo,
+  show,
+  snapshot,
+  start,
+}
 use Rattle.ledger.specs.declared.Ledger.{Ledger}
 
 -- ---- what a step does to the snapshot

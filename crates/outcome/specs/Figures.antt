@@ -4,7 +4,7 @@ use Rattle.outcome.specs.declared.Outcome.{Outcome}
 use Rattle.outcome.specs.declared.Outcome.the-variants.{Done, Refused}
 use Rattle.outcome.specs.declared.Refusal.{Refusal}
 
--- a refusal's place in the table, and the entry of refusals 7, 8 and 11 to 14, else 0; 24, with an entry, and 25 are document 02's (M-110), and so is 26 (M-111)
+-- a refusal's place in the table, and the entry of refusals 7, 8 and 11 to 14, else 0; 24, with an entry, and 25 (M-110) and 26 (M-111) are document 02's
 abbrev figuresOf : Refusal → ℕ × ℕ
 figuresOf Refusal.Settings = (1, 0)
 figuresOf Refusal.Unreadable = (2, 0)

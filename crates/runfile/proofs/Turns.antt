@@ -17,7 +17,18 @@ use Rattle.runfile.specs.Run.{Run, begins, commandOf, ended, headerSize,
 use Rattle.runfile.specs.Run.{runText, textFrom, textNext, textOf}
 use Rattle.runfile.specs.Steps.{endOf, kindAt, listed, replyOf}
 use Rattle.runfile.specs.declared.Kind.{Kind}
-use Rattle.runfile.specs.declared.Kind.the-variants.{Commit, Draw, FaultyAcknowledge, FaultySign, Generations, Preflight, Propose, Show, Snapshot, Unknown}
+use Rattle.runfile.specs.declared.Kind.the-variants.{
+  Commit,
+  Draw,
+  FaultyAcknowledge,
+  FaultySign,
+  Generations,
+  Preflight,
+  Propose,
+  Show,
+  Snapshot,
+  Unknown,
+}
 
 -- ---- the header
 pub header-long : (input : List ℕ) → isHeader input ≡ true → headerSize ≤ length input

@@ -14,7 +14,18 @@ use Rattle.ledger.specs.Worlds.{Request, commit, faultyVote, generations, leftB
 use Rattle.ledger.specs.declared.Ledger.{Ledger}
 use Rattle.ledger.specs.declared.Reply.{Reply}
 use Rattle.runfile.specs.declared.Kind.{Kind}
-use Rattle.runfile.specs.declared.Kind.the-variants.{Commit, Draw, FaultyAcknowledge, FaultySign, Generations, Preflight, Propose, Show, Snapshot, Unknown}
+use Rattle.runfile.specs.declared.Kind.the-variants.{
+  Commit,
+  Draw,
+  FaultyAcknowledge,
+  FaultySign,
+  Generations,
+  Preflight,
+  Propose,
+  Show,
+  Snapshot,
+  Unknown,
+}
 
 -- "1 propose (record); 2 preflight (vault, job); 3 commit (vault, job, signers); 4 faulty signature (vault, job); 5 faulty acknowledgement
 -- (vault, job); 6 show (job); 7 draw (u); 8 generations (job)"; and document 02's 9, a snapshot, "without a body"

@@ -70,7 +70,8 @@ module _ {o p : List ℕ} {i r n : ℕ} where
   two-digits h g w = rw (decimal-two n h g) w
 
   -- the hundreds, and two digits more
-  pub hundreds : (m : ℕ) → m ≤ n → 100 ≤ m → {q : List ℕ} {j : ℕ} → Put o i (decimal (n / 100)) q j → Put q j (twoDigits (n % 100)) p r → Put o i (decimal n) p r
+  pub hundreds : (m : ℕ) → m ≤ n → 100 ≤ m → {q : List ℕ} {j : ℕ} → Put o i (decimal (n / 100)) q j → Put q j (twoDigits (n % 100)) p r
+      → Put o i (decimal n) p r
   hundreds m g h v w = rw (decimal-hundreds n (omega arith)) (then v w)
 
 -- three numbers, with what stands between them

@@ -16,11 +16,16 @@ carry-requires c κs = search by
 
 returns : tie.Need-returns
 unfolding snapshotOf snapshotDecision saneGate
-returns c = simp (sym (c .before .before .before .before .before .before .is-sane .ensures) ∙ c .before .before .before .before .before .if1 .taken, ← c .before .snapshot .ensures) (c .carry .ensures)
+returns c = simp (
+  sym (c .before .before .before .before .before .before .is-sane .ensures)
+      ∙ c .before .before .before .before .before .if1 .taken,
+  ← c .before .snapshot .ensures,
+) (c .carry .ensures)
 
 returns-2 : tie.Need-returns-2
 unfolding snapshotOf snapshotDecision saneGate applied
 returns-2 c = simp (sym (c .before .before .is-sane .ensures) ∙ c .before .if1 .left) (c .turn-back .ensures)
 
 pub snapshot-spec : {M : Type 1} → statement M
-snapshot-spec = tie.close (tie.spec (λ c κs. search needs) (λ c. search needs) (λ c. search needs) element-copy-out-state (λ c κs. search needs) carry-requires returns (λ c κs. search needs) returns-2)
+snapshot-spec = tie.close (tie.spec (λ c κs. search needs) (λ c. search needs) (λ c. search needs) element-copy-out-state
+    (λ c κs. search needs) carry-requires returns (λ c κs. search needs) returns-2)

@@ -32,8 +32,11 @@ loop-again : tie.Need-loop-again Inv-loop μ-loop
 loop-again c =
     let t = c .before .before .before .before in
     let n = t .before .before .before .before .before .before .before .before .before .before .before in
-    let s = n .before in
-    (turn-wide (s .before .before .before .loop .inv .0) (s .before .before .loop-test .taken) _ (s .step-at .ensures) _ _ _ (n .if2 .taken) (t .survey .ensures) (s .before .if1 .left) (search needs), search needs)
+    let s = n .before in (
+      turn-wide (s .before .before .before .loop .inv .0) (s .before .before .loop-test .taken) _ (s .step-at .ensures) _ _ _ (n .if2 .taken)
+          (t .survey .ensures) (s .before .if1 .left) (search needs),
+      search needs,
+    )
 
 carry-out-requires : tie.Need-carry-out-requires Inv-loop μ-loop
 carry-out-requires c κs =
@@ -45,7 +48,8 @@ loop-again-2 c =
     let t = c .before .before .before .before .before .before .before .before .before .before .before .before in
     let n = t .before .before .before .before .before .before .before .before .before .before .before .before .before .before in
     let s = n .before in (
-      turn-quiet (s .before .before .before .loop .inv .0) (s .before .before .loop-test .taken) _ (s .step-at .ensures) (n .if2 .left) _ _ _ _ _ _ (t .carry-out .ensures) _
+      turn-quiet (s .before .before .before .loop .inv .0) (s .before .before .loop-test .taken) _ (s .step-at .ensures) (n .if2 .left) _ _ _ _ _ _
+          (t .carry-out .ensures) _
           (c .before .is-nothing .ensures) (c .if3 .taken) (s .before .if1 .left) (search needs),
       search (needs, t .carry-out .kept, s .before .before .before .loop .inv .1),
     )
@@ -55,7 +59,8 @@ apply-requires c κs =
     let t = c .before .before .before .before .before .before .before .before .before .before .before .before in
     let n = t .before .before .before .before .before .before .before .before .before .before .before .before .before .before in
     let s = n .before in
-    loud-placed (s .before .before .before .loop .inv .0) (s .before .before .loop-test .taken) _ (s .step-at .ensures) (n .if2 .left) _ _ _ _ _ _ (t .carry-out .ensures) _
+    loud-placed (s .before .before .before .loop .inv .0) (s .before .before .loop-test .taken) _ (s .step-at .ensures) (n .if2 .left) _ _ _ _ _ _
+    (t .carry-out .ensures) _
     (c .before .is-nothing .ensures) (c .if3 .left)
 
 loop-less-3 : tie.Need-loop-less-3 Inv-loop μ-loop
@@ -68,7 +73,8 @@ loop-again-3 c =
     let t = c .before .before .before .before .before .before .before .before .before .before .before .before .before in
     let n = t .before .before .before .before .before .before .before .before .before .before .before .before .before .before in
     let s = n .before in (
-      turn-loud (s .before .before .before .loop .inv .0) (s .before .before .loop-test .taken) _ (s .step-at .ensures) (n .if2 .left) _ _ _ _ _ _ (t .carry-out .ensures) _
+      turn-loud (s .before .before .before .loop .inv .0) (s .before .before .loop-test .taken) _ (s .step-at .ensures) (n .if2 .left) _ _ _ _ _ _
+          (t .carry-out .ensures) _
           (c .before .before .is-nothing .ensures) (c .before .if3 .left) _ (c .apply .ensures) (s .before .if1 .left) (search needs),
       search (needs, t .carry-out .kept, s .before .before .before .loop .inv .1),
     )

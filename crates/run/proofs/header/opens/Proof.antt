@@ -22,7 +22,13 @@ returns-3 : tie.Need-returns-3
 unfolding opens
 returns-3 c =
     let h = c .before .before in
-    simp (le-leb _ _ (h .before .before .if1 .left), sym (h .before .is-header .ensures) ∙ not-false _ (h .if2 .left), ← c .before .settings-in .ensures, c .is-lawful .ensures)
+    simp (
+      le-leb _ _ (h .before .before .if1 .left),
+      sym (h .before .is-header .ensures)
+          ∙ not-false _ (h .if2 .left),
+      ← c .before .settings-in .ensures,
+      c .is-lawful .ensures,
+    )
 
 pub opens-spec : {M : Type 1} → statement M
 opens-spec =
