@@ -1,18 +1,20 @@
 // Document 01's run: the lines are the document's.
 use ledger::Column;
 use ledger::Ledger;
+use record::Job;
 use scenario::jobs;
 use scenario::steps;
 
-fn booked(journal: &mut [u8]) -> Ledger {
+fn proposed(name: &[u8], l: Ledger, journal: &mut [u8], job: Job) -> Ledger {
     let mut bytes = [0u8; 100];
-    codec::write(jobs::master(), &mut bytes);
-    let l = steps::report(
-        b"1",
-        operations::propose(Ledger::new(4, 1, 8).ledger, journal, &bytes),
-    );
-    codec::write(jobs::copy(), &mut bytes);
-    steps::report(b"2", operations::propose(l, journal, &bytes))
+    codec::write(job, &mut bytes);
+    steps::report(name, operations::propose(l, journal, &bytes))
+}
+
+fn booked(journal: &mut [u8]) -> Ledger {
+    let new = Ledger::new(4, 1, 8).ledger;
+    let l = proposed(b"1", new, journal, jobs::master());
+    proposed(b"2", l, journal, jobs::copy())
 }
 
 fn after(l: Ledger, journal: &[u8]) {
