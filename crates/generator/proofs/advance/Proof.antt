@@ -1,6 +1,6 @@
 use borrow.Author.Needs.{needs}
-use Rattle.generator.specs.Generator.{next}
 use Rattle.generator.proofs.advance.Statement.{statement}
+use Rattle.generator.specs.Generator.{next}
 use Rattle.generator.proofs.advance.Tie as tie
 
 returns : tie.Need-returns

@@ -1,6 +1,6 @@
 use borrow.Author.Needs.{needs}
-use Rattle.generator.specs.Generator.{drawn}
 use Rattle.generator.proofs.draw.Statement.{statement}
+use Rattle.generator.specs.Generator.{drawn}
 use Rattle.generator.proofs.draw.Tie as tie
 
 returns : tie.Need-returns
