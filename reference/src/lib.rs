@@ -7,6 +7,7 @@ pub mod edges;
 pub mod engine;
 #[cfg(feature = "generator")]
 pub mod generate;
+pub mod loads;
 pub mod random;
 pub mod record;
 pub mod refusal;
