@@ -1,7 +1,7 @@
 // The generator of test loads (docs/LOADS.md): the state advances by a multiplication and an addition modulo 2 to the 64th, and the upper 32
 // bits of the new state are drawn.
 ghost use mathlib.Core.Path.{_≡_};
-ghost use Prim.Native.Nat.{_*_, _%_, _<_, _^_};
+ghost use Prim.Native.Nat.{_*_, _%_, _^_};
 ghost use Rattle.generator.specs.Generator.{drawn, next};
 
 const HALF: u64 = 4294967296;

@@ -4,17 +4,17 @@ mod records;
 mod steps;
 
 ghost use mathlib.Core.Path.{_≡_};
-ghost use Prim.Native.Nat.{_*_, _+_, _<_, _≤_};
+ghost use Prim.Native.Nat.{_*_, _<_, _≤_};
 ghost use lib.ListN.{length};
 ghost use Rattle.codec.specs.Codec.{leAt};
 ghost use Rattle.load.specs.Loads.{answerOf, isRequest, loadBytes, stepsBytes};
 ghost use Rattle.load.specs.Plans.{Fair};
-ghost use Rattle.load.specs.Steps.{headerBytes};
 ghost use Rattle.text.specs.Text.{Put};
 use federation::Settings;
 use outcome::Outcome;
 use outcome::Refusal;
 use plans::Plan;
+use records::wide;
 
 // How many bytes are read: a seed of eight, n and b.
 pub const REQUEST: usize = 10;
@@ -23,12 +23,6 @@ const STEPS: usize = 200;
 
 // The header has nine bytes, and no step has more than 101.
 pub const ROOM: usize = 20209;
-
-fn wide(x: u8) -> u64
-    ensures { λ r. ⌜ (r ≡ x) × (r < 256) ⌝ }
-{
-    x as u64
-}
 
 // The first eight bytes as a number, the low byte first.
 fn seed_of(input: &[u8]) -> u64

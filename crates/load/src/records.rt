@@ -1,6 +1,6 @@
 // The forty records of a load.
 ghost use mathlib.Core.Path.{_≡_};
-ghost use Prim.Native.Nat.{_*_, _<_, _≤_};
+ghost use Prim.Native.Nat.{_<_};
 ghost use Rattle.load.specs.Records.{accession, jobFor, labelFor, mainJob, migration, rivalJob, sideJob, tape};
 use record::Entry;
 use record::Job;
@@ -10,7 +10,7 @@ const NONE: Entry = Entry {
     frames: 0,
 };
 
-fn wide(x: u8) -> u64
+pub(crate) fn wide(x: u8) -> u64
     ensures { λ r. ⌜ (r ≡ x) × (r < 256) ⌝ }
 {
     x as u64

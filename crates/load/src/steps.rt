@@ -1,9 +1,8 @@
 // The steps of a load, and how they stand in a run file.
 ghost use mathlib.Core.List.{_∷_, []};
 ghost use mathlib.Core.Path.{_≡_};
-ghost use Prim.Native.Nat.{_+_, _*_, _<_, _≤_};
+ghost use Prim.Native.Nat.{_+_, _<_, _≤_};
 ghost use lib.ListN.{length};
-ghost use lib.Seq.{sets};
 ghost use Rattle.codec.specs.Codec.{bytesOf, leBytes};
 ghost use Rattle.load.specs.Plans.{Fair};
 ghost use Rattle.load.specs.Records.{jobFor};
