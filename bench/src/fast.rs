@@ -60,6 +60,7 @@ fn step<'a>(ledger: &mut Ledger<'a>, rest: &'a [u8]) -> Option<(Answer, &'a [u8]
         [kind::SHOW, job, ref rest @ ..] => (ledger.show(job), rest),
         [kind::DRAW, absent, ref rest @ ..] => (ledger.draw(absent), rest),
         [kind::GENERATIONS, job, ref rest @ ..] => (ledger.generations(job), rest),
+        [kind::SNAPSHOT, ref rest @ ..] => (ledger.snapshot(), rest),
         _ => return None,
     })
 }

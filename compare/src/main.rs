@@ -81,7 +81,7 @@ fn near_each_edge(executable: &str) -> Result<(), String> {
         }
     }
     println!(
-        "near the edges: {} files are answered as document 01 says",
+        "near the edges: {} files are answered as the documents say",
         edges.len()
     );
     Ok(())

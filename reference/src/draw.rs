@@ -13,11 +13,16 @@ pub fn choose(upper: u64, lower: u64) -> u64 {
     product
 }
 
-/// 1 − C(n−u, n−b) / C(n, n−b) in thousandths, halves rounded up; u ≤ n.
+/// 1 − C(n−u, n−b) / C(n, n−b) in thousandths, "an exact half to the even neighbour"; u ≤ n.
 pub fn thousandths(n: u64, b: u64, u: u64) -> u64 {
     let quorum = n - b;
     let all = choose(n, quorum);
     let failing = all - choose(n - u, quorum);
-    // Half of the divisor is added before dividing: a half rounds up.
-    (2 * 1000 * failing + all) / (2 * all)
+    // The nearer neighbour, and of two equally near ones the even one.
+    let down = 1000 * failing / all;
+    let distance = |thousandths: u64| (1000 * failing).abs_diff(thousandths * all);
+    [down, down + 1]
+        .into_iter()
+        .min_by_key(|near| (distance(*near), near % 2))
+        .expect("two neighbours")
 }

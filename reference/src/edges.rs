@@ -1,5 +1,5 @@
-//! Run files near each edge of document 01, with the text that it asks for, worked out here and not by any of the programs.
-//! Its figures are written out, so that no constant of this crate vouches for itself.
+//! Run files near each edge of document 01 and of the change requests, with the text that they ask for, worked out here and not by any of the
+//! programs. The documents' figures are written out, so that no constant of this crate vouches for itself.
 
 use crate::record::Bytes;
 use crate::step::Step;
@@ -29,6 +29,17 @@ pub fn all() -> Vec<Edge> {
         edge("kind 255", unknown(255), &[(4, 0), (2, 0)]),
         edge("a body cut short", cut_short(), &[(0, 0), (2, 0)]),
         edge("a chain of 128 jobs", chain(), &chain_answers()),
+        edge("labels that end in M", type_m(), &TYPE_M),
+        edge("snapshots of four vaults", rounds(), &ROUNDS),
+        edge(
+            "one vault, each visit a round",
+            short_rounds(),
+            &SHORT_ROUNDS,
+        ),
+        edge("nothing but visits", visits(), &[(0, 0); 65_527]),
+        edge("a draw of 937.5", a_half(1), &[(0, 938)]),
+        edge("a draw of 812.5", a_half(3), &[(0, 812)]),
+        edge("a draw of 687.5", a_half(5), &[(0, 688)]),
         one_run_whole(),
     ]
 }
@@ -169,6 +180,135 @@ fn chain_answers() -> Vec<Answer> {
     (0..128)
         .flat_map(|i| [(0, i), (0, 1), (0, 1), (0, i)])
         .collect()
+}
+
+/// Document 02, M-100. "Drive 8, and no other, reads and writes them."
+const TYPE_M: [Answer; 15] = [
+    (0, 0),
+    (8, 4),
+    (8, 4),
+    (8, 4),
+    (8, 4),
+    (6, 0),
+    (6, 0),
+    (6, 0),
+    (6, 0),
+    (0, 1),
+    (0, 2),
+    (0, 3),
+    (0, 4),
+    (8, 0),
+    (8, 5),
+];
+
+/// M8 taken in by each drive; M5, M6, M7 and M9; migrations from M8 and to it, and an accession of labels that differ in the medium; drive 9
+/// again.
+fn type_m() -> Vec<u8> {
+    let m8 = (b"VAA001M8", 9);
+    let l8 = (b"VAA001L8", 9);
+    let l7 = (b"VAA001L7", 9);
+    let taken_in = |drive: u8, label: &[u8; 8]| propose(record(0, drive, &[], &[(label, 9)]));
+    let steps = [
+        taken_in(8, b"VAA001M8"),
+        taken_in(5, b"VAA001M8"),
+        taken_in(6, b"VAA001M8"),
+        taken_in(7, b"VAA001M8"),
+        taken_in(9, b"VAA001M8"),
+        taken_in(8, b"VAA001M5"),
+        taken_in(8, b"VAA001M6"),
+        taken_in(8, b"VAA001M7"),
+        taken_in(8, b"VAA001M9"),
+        propose(record(1, 8, &[m8], &[l8])),
+        propose(record(1, 8, &[l7], &[m8])),
+        propose(record(1, 8, &[l8], &[m8])),
+        propose(record(0, 8, &[], &[l8, m8])),
+        propose(record(1, 9, &[m8], &[l8])),
+        propose(record(0, 9, &[], &[l8, m8])),
+    ];
+    run_file(1, 0, 0, &steps)
+}
+
+/// Empty books: a round, and the first visit of the next. Then job 0 is held at vault 0, after its visit, and at vault 2; vault 3, which is faulty,
+/// acknowledges jobs 0 and 1, which nobody sees there.
+fn rounds() -> Vec<u8> {
+    let mut steps = vec![snapshot(); 5];
+    steps.extend([
+        propose(record(0, 7, &[], &[(b"VAA001L7", 9)])),
+        propose(record(0, 7, &[], &[(b"VAB001L7", 9)])),
+        preflight(0, 0),
+        preflight(1, 0),
+        faulty_signature(3, 0),
+        commit(0, 0, 11),
+        snapshot(),
+        commit(2, 0, 11),
+        faulty_acknowledgement(3, 0),
+        faulty_acknowledgement(3, 1),
+        snapshot(),
+        show(0),
+        snapshot(),
+        snapshot(),
+        snapshot(),
+        draw(0),
+        snapshot(),
+        snapshot(),
+    ]);
+    run_file(4, 1, 8, &steps)
+}
+
+const ROUNDS: [Answer; 23] = [
+    (0, 0),
+    (0, 0),
+    (0, 0),
+    (0, 0),
+    (0, 0),
+    (0, 0),
+    (0, 1),
+    (0, 1),
+    (0, 2),
+    (0, 3),
+    (0, 1),
+    // Vault 1: job 0 came to vault 0 after its visit.
+    (0, 0),
+    (0, 2),
+    (0, 3),
+    (0, 1),
+    // Vault 2, and vault 3 after it.
+    (0, 1),
+    (0, 2),
+    (0, 1),
+    // The next round: job 0 is seen at vaults 0 and 2, and counts once.
+    (0, 1),
+    (0, 1),
+    (0, 0),
+    (0, 1),
+    (0, 1),
+];
+
+fn short_rounds() -> Vec<u8> {
+    let steps = [
+        propose(record(0, 7, &[], &[(b"VAA001L7", 9)])),
+        snapshot(),
+        preflight(0, 0),
+        snapshot(),
+        commit(0, 0, 1),
+        snapshot(),
+        snapshot(),
+    ];
+    run_file(1, 0, 0, &steps)
+}
+
+const SHORT_ROUNDS: [Answer; 7] = [(0, 0), (0, 0), (0, 1), (0, 0), (0, 1), (0, 1), (0, 1)];
+
+/// As many steps as a file can have.
+fn visits() -> Vec<u8> {
+    let file = run_file(4, 1, 8, &vec![snapshot(); 65_527]);
+    assert_eq!(file.len(), 65_536);
+    file
+}
+
+/// One of 16 vaults is away: of 16 quorums 16 − b want it. No other draw is an exact half.
+fn a_half(b: u8) -> Vec<u8> {
+    run_file(16, b, 0, &[draw(1)])
 }
 
 fn one_run_whole() -> Edge {

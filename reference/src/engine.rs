@@ -25,6 +25,10 @@ pub struct Engine {
     pub arrival: Vec<usize>,
     /// The generation of each job of `arrival`.
     generations: Vec<u64>,
+    /// The vault that a snapshot visits next.
+    next: usize,
+    /// The jobs that this round of the snapshot has seen.
+    seen: BTreeSet<usize>,
 }
 
 impl Engine {
@@ -37,6 +41,8 @@ impl Engine {
             acknowledgements: Vec::new(),
             arrival: Vec::new(),
             generations: Vec::new(),
+            next: 0,
+            seen: BTreeSet::new(),
         }
     }
 
@@ -54,6 +60,7 @@ impl Engine {
             Step::Show { job } => self.show(*job),
             Step::Draw { u } => self.draw(*u),
             Step::Generations { job } => self.generations(*job),
+            Step::Snapshot => self.snapshot(),
         }
     }
 
@@ -186,6 +193,20 @@ impl Engine {
             Some(position) => Ok(self.generations[position]),
             None => Err(plain(18)),
         }
+    }
+
+    /// "visits the next vault, beginning at 0, and sees the jobs held there;
+    /// a step that comes to a faulty vault adds no job, and that vault counts
+    /// as visited. After the last vault the following such step begins anew."
+    fn snapshot(&mut self) -> Answer {
+        if self.next == 0 {
+            self.seen.clear();
+        }
+        if !self.settings.is_faulty(self.next as u64) {
+            self.seen.extend(&self.vaults[self.next].held);
+        }
+        self.next = (self.next + 1) % self.vaults.len();
+        Ok(self.seen.len() as u64)
     }
 
     /// Check 3.

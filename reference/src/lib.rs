@@ -2,9 +2,11 @@
 //! It is slow where slow is simpler, and it is proved by nothing: it exists
 //! to be compared with the proved program.
 
+pub mod contest;
 pub mod draw;
 pub mod edges;
 pub mod engine;
+pub mod estimates;
 #[cfg(feature = "generator")]
 pub mod generate;
 pub mod loads;

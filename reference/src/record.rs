@@ -14,6 +14,12 @@ pub const FIRST_OUTPUT: usize = 4;
 pub type Bytes = [u8; RECORD_BYTES];
 pub type Label = [u8; LABEL_BYTES];
 
+/// The last two characters of a label.
+pub type Medium = [u8; 2];
+
+/// "The label's last two characters are `L5` to `L9` or `M8`, so a medium is one of six".
+pub const MEDIA: [Medium; 6] = [*b"L5", *b"L6", *b"L7", *b"L8", *b"L9", *b"M8"];
+
 /// A tape is a label and its frames.
 #[derive(Clone, Copy, PartialEq, Eq, PartialOrd, Ord, Debug)]
 pub struct Tape {
@@ -135,16 +141,16 @@ fn parse_tape(entry: &[u8]) -> Option<Tape> {
     })
 }
 
-/// "six of A–Z or 0–9, then `L` and a digit 5 to 9".
+/// "six of A–Z or 0–9", then the medium.
 fn label_well_formed(label: &Label) -> bool {
     let six = label[..6]
         .iter()
         .all(|c| c.is_ascii_uppercase() || c.is_ascii_digit());
-    six && label[6] == b'L' && (b'5'..=b'9').contains(&label[7])
+    six && MEDIA.contains(&medium(label))
 }
 
-pub fn medium(label: &Label) -> u8 {
-    label[7] - b'0'
+pub fn medium(label: &Label) -> Medium {
+    [label[6], label[7]]
 }
 
 /// Check 7: the first entry whose label an earlier used entry has.
@@ -159,25 +165,25 @@ fn label_again(record: &Record) -> Option<u64> {
     None
 }
 
-/// The house table: drive, media it reads, media it writes.
-const HOUSE_TABLE: [(u8, &[u8], &[u8]); 5] = [
-    (5, &[5], &[5]),
-    (6, &[5, 6], &[5, 6]),
-    (7, &[5, 6, 7], &[6, 7]),
-    (8, &[7, 8], &[7, 8]),
-    (9, &[8, 9], &[8, 9]),
+/// The house table: drive, media it reads, media it writes. Of M8 "Drive 8, and no other, reads and writes them."
+const HOUSE_TABLE: [(u8, &[&Medium], &[&Medium]); 5] = [
+    (5, &[b"L5"], &[b"L5"]),
+    (6, &[b"L5", b"L6"], &[b"L5", b"L6"]),
+    (7, &[b"L5", b"L6", b"L7"], &[b"L6", b"L7"]),
+    (8, &[b"L7", b"L8", b"M8"], &[b"L7", b"L8", b"M8"]),
+    (9, &[b"L8", b"L9"], &[b"L8", b"L9"]),
 ];
 
-pub fn reads(drive: u8, medium: u8) -> bool {
+pub fn reads(drive: u8, medium: Medium) -> bool {
     HOUSE_TABLE
         .iter()
-        .any(|(d, reads, _)| *d == drive && reads.contains(&medium))
+        .any(|(d, reads, _)| *d == drive && reads.contains(&&medium))
 }
 
-pub fn writes(drive: u8, medium: u8) -> bool {
+pub fn writes(drive: u8, medium: Medium) -> bool {
     HOUSE_TABLE
         .iter()
-        .any(|(d, _, writes)| *d == drive && writes.contains(&medium))
+        .any(|(d, _, writes)| *d == drive && writes.contains(&&medium))
 }
 
 /// Check 8: the first entry that the drive can't read or write.

@@ -11,10 +11,11 @@ pub mod kind {
     pub const SHOW: u8 = 6;
     pub const DRAW: u8 = 7;
     pub const GENERATIONS: u8 = 8;
+    pub const SNAPSHOT: u8 = 9;
 }
 
 /// Every kind and the length of its body.
-pub const KINDS: [(u8, usize); 8] = [
+pub const KINDS: [(u8, usize); 9] = [
     (kind::PROPOSE, RECORD_BYTES),
     (kind::PREFLIGHT, 2),
     (kind::COMMIT, 4),
@@ -23,18 +24,42 @@ pub const KINDS: [(u8, usize); 8] = [
     (kind::SHOW, 1),
     (kind::DRAW, 1),
     (kind::GENERATIONS, 1),
+    (kind::SNAPSHOT, 0),
 ];
 
 #[derive(Clone, PartialEq, Eq, Debug)]
 pub enum Step {
-    Propose { record: Box<Bytes> },
-    Preflight { vault: u8, job: u8 },
-    Commit { vault: u8, job: u8, signers: u16 },
-    FaultySignature { vault: u8, job: u8 },
-    FaultyAcknowledgement { vault: u8, job: u8 },
-    Show { job: u8 },
-    Draw { u: u8 },
-    Generations { job: u8 },
+    Propose {
+        record: Box<Bytes>,
+    },
+    Preflight {
+        vault: u8,
+        job: u8,
+    },
+    Commit {
+        vault: u8,
+        job: u8,
+        signers: u16,
+    },
+    FaultySignature {
+        vault: u8,
+        job: u8,
+    },
+    FaultyAcknowledgement {
+        vault: u8,
+        job: u8,
+    },
+    Show {
+        job: u8,
+    },
+    Draw {
+        u: u8,
+    },
+    Generations {
+        job: u8,
+    },
+    /// "Stock-take while jobs go on".
+    Snapshot,
 }
 
 /// The length of a step, kind and body, or nothing if the kind is unknown.
@@ -67,6 +92,7 @@ fn read_body(kind: u8, body: &[u8]) -> Step {
         (kind::SHOW, &[job]) => Step::Show { job },
         (kind::DRAW, &[u]) => Step::Draw { u },
         (kind::GENERATIONS, &[job]) => Step::Generations { job },
+        (kind::SNAPSHOT, &[]) => Step::Snapshot,
         _ => unreachable!("kind {kind} has another length in the table"),
     }
 }
@@ -82,6 +108,7 @@ impl Step {
             Step::Show { .. } => kind::SHOW,
             Step::Draw { .. } => kind::DRAW,
             Step::Generations { .. } => kind::GENERATIONS,
+            Step::Snapshot => kind::SNAPSHOT,
         }
     }
 
@@ -103,6 +130,7 @@ impl Step {
             }
             Step::Show { job } | Step::Generations { job } => bytes.push(*job),
             Step::Draw { u } => bytes.push(*u),
+            Step::Snapshot => {}
         }
         bytes
     }

@@ -95,6 +95,10 @@ pub fn draw(u: u8) -> Step {
     Step::Draw { u }
 }
 
+pub fn snapshot() -> Step {
+    Step::Snapshot
+}
+
 pub fn generations(job: u8) -> Step {
     Step::Generations { job }
 }

@@ -67,8 +67,8 @@ fn c8_draws_of_n_4_b_1() {
 }
 
 #[test]
-fn c9_a_half_is_rounded_up() {
-    assert_eq!(last(16, 3, 0, &[draw(1)]), (0, 813));
+fn c9_a_half_goes_to_the_even_thousandth() {
+    assert_eq!(last(16, 3, 0, &[draw(1)]), (0, 812));
 }
 
 #[test]

@@ -61,7 +61,7 @@ fn refusal_2_ends_the_run() {
         assert_eq!(text(&file), "1 0 0\n2 2 0\n");
     }
     // The bodies cut short, each by one byte.
-    for (kind, body) in KINDS {
+    for (kind, body) in KINDS.into_iter().filter(|(_, body)| *body > 0) {
         let file = [&before[..], &[kind], &vec![99; body - 1]].concat();
         assert_eq!(text(&file), "1 0 0\n2 2 0\n");
     }

@@ -8,7 +8,7 @@ const BOUNDS: usize = (MOST_VAULTS as usize).div_ceil(3);
 const SETTINGS: usize = VAULTS * BOUNDS * VAULTS;
 static CHANCES: [u16; SETTINGS] = chances();
 
-/// In thousandths, halves rounded up. `absent` is at most n.
+/// In thousandths, an exact half to the even one. `absent` is at most n.
 #[inline]
 pub fn chance(n: u8, b: u8, absent: u8) -> u16 {
     CHANCES[place(n as usize, b as usize, absent as usize)]
@@ -34,7 +34,10 @@ const fn choose(upper: usize, lower: usize) -> usize {
 const fn thousandths(n: usize, b: usize, absent: usize) -> u16 {
     let all = choose(n, n - b);
     let failing = all - choose(n - absent, n - b);
-    ((2000 * failing + all) / (2 * all)) as u16
+    let down = 1000 * failing / all;
+    let over = 2 * (1000 * failing % all);
+    let up = over > all || (over == all && down % 2 == 1);
+    (down + up as usize) as u16
 }
 
 const fn chances() -> [u16; SETTINGS] {
@@ -62,7 +65,9 @@ mod tests {
     fn worked_cases() {
         assert_eq!(chance(4, 1, 0), 0);
         assert_eq!(chance(4, 1, 1), 750);
-        assert_eq!(chance(16, 3, 1), 813);
+        assert_eq!(chance(16, 1, 1), 938);
+        assert_eq!(chance(16, 3, 1), 812);
+        assert_eq!(chance(16, 5, 1), 688);
         assert_eq!(chance(16, 5, 16), 1000);
     }
 }

@@ -51,6 +51,9 @@ pub struct Ledger<'a> {
     arrived: Jobs,
     index: Index,
     repeats: Repeats<'a>,
+    /// The vault that a snapshot visits next, and the jobs that its round has seen.
+    next: u8,
+    seen: Jobs,
 }
 
 impl<'a> Ledger<'a> {
@@ -62,6 +65,8 @@ impl<'a> Ledger<'a> {
             arrived: 0,
             index: Index::new(),
             repeats: Repeats::new(),
+            next: 0,
+            seen: 0,
         }
     }
 
@@ -188,6 +193,21 @@ impl<'a> Ledger<'a> {
             Some(_) if self.arrived >> job & 1 == 0 => Answer::refused(18, 0),
             Some(booked) => Answer::done(booked.generation.into()),
         }
+    }
+
+    /// A faulty vault holds nothing.
+    #[inline]
+    pub fn snapshot(&mut self) -> Answer {
+        if self.next == 0 {
+            self.seen = 0;
+        }
+        self.seen |= self.vaults[usize::from(self.next)].held;
+        self.next = if self.next + 1 == self.federation.n {
+            0
+        } else {
+            self.next + 1
+        };
+        Answer::done(self.seen.count_ones() as u16)
     }
 
     /// Checks 3, 5 and 4, of a step that is for faulty vaults or for correct ones.

@@ -18,9 +18,9 @@ pub struct Job {
     outputs: usize,
 }
 
-/// The media that each drive reads and writes, bit 0 for L5; drives from 5.
-const READS: [u8; 5] = [0b00001, 0b00011, 0b00111, 0b01100, 0b11000];
-const WRITES: [u8; 5] = [0b00001, 0b00011, 0b00110, 0b01100, 0b11000];
+/// The media that each drive reads and writes, bits 0 to 4 for L5 to L9, bit 5 for M8; drives from 5.
+const READS: [u8; 5] = [0b000001, 0b000011, 0b000111, 0b101100, 0b011000];
+const WRITES: [u8; 5] = [0b000001, 0b000011, 0b000110, 0b101100, 0b011000];
 
 impl Job {
     /// The job in a record that passes checks 6 to 9.
@@ -94,7 +94,7 @@ impl Job {
         self.used().find(|&i| {
             let written = FIRST_OUTPUT <= i && self.inputs > 0;
             let media = if written { WRITES[drive] } else { READS[drive] };
-            media >> (medium(self.entries[i].label) - b'5') & 1 == 0
+            medium(self.entries[i].label).is_none_or(|bit| media >> bit & 1 == 0)
         })
     }
 
@@ -116,8 +116,13 @@ fn frames(entries: &[Entry]) -> u64 {
     entries.iter().map(|entry| u64::from(entry.frames)).sum()
 }
 
-fn medium(label: u64) -> u8 {
-    (label >> 56) as u8
+/// The bit of the medium that the label's last two characters name.
+fn medium(label: u64) -> Option<u8> {
+    match [(label >> 48) as u8, (label >> 56) as u8] {
+        [b'L', digit @ b'5'..=b'9'] => Some(digit - b'5'),
+        [b'M', b'8'] => Some(5),
+        _ => None,
+    }
 }
 
 fn is_proper(entry: Entry) -> bool {
@@ -137,8 +142,7 @@ fn is_label(label: u64) -> bool {
     let name = HIGH_BITS >> 16;
     label & HIGH_BITS == 0
         && (between(label, b'A', b'Z') | between(label, b'0', b'9')) & name == name
-        && (label >> 48) as u8 == b'L'
-        && matches!(medium(label), b'5'..=b'9')
+        && medium(label).is_some()
 }
 
 #[cfg(test)]
@@ -146,16 +150,23 @@ mod tests {
     use super::*;
 
     #[test]
-    fn every_byte_of_a_label() {
-        for place in 0..8 {
+    fn every_ending_of_a_label() {
+        for ending in 0..=u16::MAX {
+            let mut label = *b"VAA009..";
+            label[6..].copy_from_slice(&ending.to_be_bytes());
+            let allowed =
+                [b"L5", b"L6", b"L7", b"L8", b"L9", b"M8"].contains(&&ending.to_be_bytes());
+            assert_eq!(is_label(u64::from_le_bytes(label)), allowed);
+        }
+    }
+
+    #[test]
+    fn every_byte_of_a_name() {
+        for place in 0..6 {
             for byte in 0..=255u8 {
                 let mut label = *b"VAA009L5";
                 label[place] = byte;
-                let allowed = match place {
-                    6 => byte == b'L',
-                    7 => matches!(byte, b'5'..=b'9'),
-                    _ => byte.is_ascii_uppercase() || byte.is_ascii_digit(),
-                };
+                let allowed = byte.is_ascii_uppercase() || byte.is_ascii_digit();
                 assert_eq!(is_label(u64::from_le_bytes(label)), allowed);
             }
         }

@@ -75,9 +75,9 @@ pub struct Lines<'a> {
 }
 
 impl<'a> Lines<'a> {
-    /// Makes room for the lines of this many bytes of steps: a step has two bytes or more.
+    /// Makes room for the lines of this many bytes of steps: a step has one byte or more.
     pub fn new(out: &'a mut Vec<u8>, steps: usize) -> Lines<'a> {
-        out.reserve((steps / 2 + 1) * LONGEST_LINE + 16);
+        out.reserve((steps + 1) * LONGEST_LINE + 16);
         Lines {
             out,
             digits: u64::from(b'0'),

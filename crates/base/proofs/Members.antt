@@ -11,7 +11,7 @@ use native.Mathlib.Omega.{arith}
 use lib.Dec.{eqb}
 use lib.ListN.{getD, length}
 use borrow.Author.Tests.{eq-eqb}
-use Rattle.base.proofs.Reflect.{and-true, not-true-false, or-intro, or-true, reflect-eq, reflect-false, refuted, refutes}
+use Rattle.base.proofs.Reflect.{and-true, by-cases, by-test, not-true-false, or-intro, or-true, reflect-eq, reflect-false, refuted, refutes}
 use Rattle.base.specs.Lists.{Distinct, In, allIn, anyIn, keepIf, total}
 use Rattle.base.specs.Reflect.{Reflects}
 
@@ -111,21 +111,16 @@ module _ {A : Type 0} where
 
   -- ---- the elements that pass
   pub keep-in : (p : A → Bool) (l : List A) (x : A) → In x (keepIf p l) → In x l × (p x ≡ true)
-  keep-in p (y ∷ l) x m = by (p y) refl m (keep-in p l x)
-    where
-      by : (b : Bool) → p y ≡ b → In x (cond b (y ∷ keepIf p l) (keepIf p l)) → (In x (keepIf p l) → In x l × (p x ≡ true)) → In x (y ∷ l) × (p x ≡ true)
-      by true e (inl q) rest = (inl q, ap p q ∙ e)
-      by true e (inr i) rest = (inr (rest i .0), rest i .1)
-      by false e i rest = (inr (rest i .0), rest i .1)
+  keep-in p (y ∷ l) x m =
+      let rest : In x (keepIf p l) → In x (y ∷ l) × (p x ≡ true) = λ i. let r = keep-in p l x i in (inr (r .0), r .1) in
+      by-cases (λ b. In x (cond b (y ∷ keepIf p l) (keepIf p l)) → In x (y ∷ l) × (p x ≡ true)) (p y)
+      (λ e. ⊎-elim (λ q. (inl q, ap p q ∙ e)) rest) (λ e. rest) m
 
   pub in-keep : (p : A → Bool) (l : List A) (x : A) → In x l → p x ≡ true → In x (keepIf p l)
-  in-keep p (y ∷ l) x m t = by (p y) refl m (λ (i : In x l). in-keep p l x i t)
-    where
-      by : (b : Bool) → p y ≡ b → In x (y ∷ l) → (In x l → In x (keepIf p l)) → In x (cond b (y ∷ keepIf p l) (keepIf p l))
-      by true e (inl q) rest = inl q
-      by true e (inr i) rest = inr (rest i)
-      by false e (inl q) rest = absurd (true≢false (sym t ∙ ap p q ∙ e))
-      by false e (inr i) rest = rest i
+  in-keep p (y ∷ l) x m t =
+      by-cases (λ b. In x (cond b (y ∷ keepIf p l) (keepIf p l))) (p y)
+      (λ e. ⊎-elim (λ q. inl q) (λ i. inr (in-keep p l x i t)) m)
+      (λ e. ⊎-elim (λ q. absurd (true≢false (sym t ∙ ap p q ∙ e))) (λ i. in-keep p l x i t) m)
 
   pub keep-same : (p q : A → Bool) (l : List A) → ((x : A) → In x l → p x ≡ q x) → keepIf p l ≡ keepIf q l
   keep-same p q [] h = refl
@@ -133,12 +128,10 @@ module _ {A : Type 0} where
 
   pub keep-keep : (p q : A → Bool) (l : List A) → keepIf p (keepIf q l) ≡ keepIf (λ x. q x && p x) l
   keep-keep p q [] = refl
-  keep-keep p q (x ∷ l) = by (q x) (keep-keep p q l)
-    where
-      by : (b : Bool) → keepIf p (keepIf q l) ≡ keepIf (λ x. q x && p x) l
-          → keepIf p (cond b (x ∷ keepIf q l) (keepIf q l)) ≡ cond (b && p x) (x ∷ keepIf (λ x. q x && p x) l) (keepIf (λ x. q x && p x) l)
-      by true e = ap (λ (t : List A). cond (p x) (x ∷ t) t) e
-      by false e = e
+  keep-keep p q (x ∷ l) =
+      let both : List A = keepIf (λ x. q x && p x) l in
+      by-cases (λ b. keepIf p (cond b (x ∷ keepIf q l) (keepIf q l)) ≡ cond (b && p x) (x ∷ both) both) (q x)
+      (λ e. ap (λ (t : List A). cond (p x) (x ∷ t) t) (keep-keep p q l)) (λ e. keep-keep p q l)
 
   pub keep-all : (p : A → Bool) (l : List A) → ((x : A) → In x l → p x ≡ true) → keepIf p l ≡ l
   keep-all p [] h = refl
@@ -146,11 +139,9 @@ module _ {A : Type 0} where
 
   pub distinct-keep : (p : A → Bool) (l : List A) → Distinct l → Distinct (keepIf p l)
   distinct-keep p [] d = tt
-  distinct-keep p (x ∷ l) (nx, d) = by (p x) (distinct-keep p l d)
-    where
-      by : (b : Bool) → Distinct (keepIf p l) → Distinct (cond b (x ∷ keepIf p l) (keepIf p l))
-      by true r = ((λ (i : In x (keepIf p l)). nx (keep-in p l x i .0)), r)
-      by false r = r
+  distinct-keep p (x ∷ l) (nx, d) =
+      by-cases (λ b. Distinct (cond b (x ∷ keepIf p l) (keepIf p l))) (p x)
+      (λ e. ((λ (i : In x (keepIf p l)). nx (keep-in p l x i .0)), distinct-keep p l d)) (λ e. distinct-keep p l d)
 
 module _ {A B : Type 0} (f : A → B) where
   pub in-map : (l : List A) (x : A) → In x l → In (f x) (map f l)
@@ -178,16 +169,15 @@ module _ {A B : Type 0} (f : A → B) where
 
   pub distinct-map-keep : (p : A → Bool) (l : List A) → Distinct (map f l) → Distinct (map f (keepIf p l))
   distinct-map-keep p [] d = tt
-  distinct-map-keep p (x ∷ l) (nx, d) = by (p x) (distinct-map-keep p l d)
-    where
-      by : (b : Bool) → Distinct (map f (keepIf p l)) → Distinct (map f (cond b (x ∷ keepIf p l) (keepIf p l)))
-      by true r = (
+  distinct-map-keep p (x ∷ l) (nx, d) =
+      by-cases (λ b. Distinct (map f (cond b (x ∷ keepIf p l) (keepIf p l)))) (p x)
+      (λ e. (
         (λ (i : In (f x) (map f (keepIf p l))).
             let q = map-in (keepIf p l) (f x) i in
             nx (subst (λ (b : B). In b (map f l)) (sym (q .2)) (in-map l (q .0) (keep-in p l (q .0) (q .1) .0)))),
-        r,
-      )
-      by false r = r
+        distinct-map-keep p l d,
+      ))
+      (λ e. distinct-map-keep p l d)
 
 -- ---- taking distinct elements away
 module _ {A : Type 0} (same : A → A → Bool) (r : (x y : A) → Reflects (same x y) (x ≡ y)) where
@@ -196,17 +186,15 @@ module _ {A : Type 0} (same : A → A → Bool) (r : (x y : A) → Reflects (sam
 
   without-one : (w : A → ℕ) (x : A) (l : List A) → Distinct l → In x l → total w (others x l) + w x ≡ total w l
   unfolding others
-  without-one w x (z ∷ l) (nz, d) m = by (same x z) refl m (λ (i : In x l). without-one w x l d i)
+  without-one w x (z ∷ l) (nz, d) m =
+      let rest = keepIf (λ y. not (same x y)) l in
+      by-cases (λ b. total w (cond (not b) (z ∷ rest) rest) + w x ≡ w z + total w l) (same x z)
+      (λ e. let q = r x z .sound e in omega (arith, ap (total w) (absent q), ap w q))
+      (λ e. ⊎-elim (λ q. absurd (refuted (r x z) e q)) (λ i. omega (arith, without-one w x l d i)) m)
     where
       absent : x ≡ z → keepIf (λ y. not (same x y)) l ≡ l
       absent e = keep-all (λ y. not (same x y)) l
           (λ y i. simp (refutes (r x y) (λ (q : x ≡ y). nz (subst (λ (a : A). In a l) (sym q ∙ e) i))))
-
-      by : (b : Bool) → same x z ≡ b → In x (z ∷ l) → (In x l → total w (keepIf (λ y. not (same x y)) l) + w x ≡ total w l)
-          → total w (cond (not b) (z ∷ keepIf (λ y. not (same x y)) l) (keepIf (λ y. not (same x y)) l)) + w x ≡ w z + total w l
-      by true e i rest = let q = r x z .sound e in omega (arith, ap (total w) (absent q), ap w q)
-      by false e (inl q) rest = absurd (true≢false (sym (r x z .complete q) ∙ e))
-      by false e (inr i) rest = omega (arith, rest i)
 
   -- the list without distinct elements of it weighs so much less
   pub without-total : (w : A → ℕ) (xs l : List A) → Distinct l → Distinct xs → ((x : A) → In x xs → In x l)
@@ -231,21 +219,20 @@ pub pigeons : (n : ℕ) (l : List ℕ) → Distinct l → ((k : ℕ) → In k l 
 unfolding others
 pigeons zero [] d h = le-refl 0
 pigeons zero (x ∷ l) d h = absurd (not-suc-le-zero (h x (inl refl)))
-pigeons (suc n) l d h = by (anyIn (eqb n) l) refl (pigeons n)
+pigeons (suc n) l d h =
+    by-test (anyIn (eqb n) l)
+    (λ e.
+    let m : List ℕ = keepIf (λ y. not (eqb n y)) l in
+    let less : length m ≤ n =
+    pigeons n m (distinct-keep (λ y. not (eqb n y)) l d)
+    (smaller m (λ k i. keep-in (λ y. not (eqb n y)) l k i .0)
+    (λ i. true≢false (sym (eq-eqb n n refl) ∙ reflect-false (eqb n n) .sound (keep-in (λ y. not (eqb n y)) l n i .1)))) in
+    omega (arith, less, length-total l, length-total m, without-one eqb reflect-eq (λ (x : ℕ). 1) n l d (reflect-member n l (reflect-eq n) .sound e)))
+    (λ e.
+    let less : length l ≤ n = pigeons n l d (smaller l (λ k i. i) (refuted (reflect-member n l (reflect-eq n)) e)) in
+    omega (arith, less))
   where
     smaller : (m : List ℕ) → ((k : ℕ) → In k m → In k l) → (In n m → ⊥) → (k : ℕ) → In k m → k < n
     smaller m sub none k i =
         let ne : k ≡ n → ⊥ = λ (e : k ≡ n). none (subst (λ (z : ℕ). In z m) e i) in
         omega (arith, h k (sub k i))
-
-    by : (b : Bool) → anyIn (eqb n) l ≡ b → ((m : List ℕ) → Distinct m → ((k : ℕ) → In k m → k < n) → length m ≤ n) → length l ≤ suc n
-    by true e rec =
-        let m : List ℕ = keepIf (λ y. not (eqb n y)) l in
-        let less : length m ≤ n =
-        rec m (distinct-keep (λ y. not (eqb n y)) l d)
-        (smaller m (λ k i. keep-in (λ y. not (eqb n y)) l k i .0)
-        (λ i. true≢false (sym (eq-eqb n n refl) ∙ reflect-false (eqb n n) .sound (keep-in (λ y. not (eqb n y)) l n i .1)))) in
-        omega (arith, less, length-total l, length-total m, without-one eqb reflect-eq (λ (x : ℕ). 1) n l d (reflect-member n l (reflect-eq n) .sound e))
-    by false e rec =
-        let less : length l ≤ n = rec l d (smaller l (λ k i. i) (refuted (reflect-member n l (reflect-eq n)) e)) in
-        omega (arith, less)

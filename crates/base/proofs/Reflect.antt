@@ -47,6 +47,10 @@ pub by-cases : (P : Bool → Type 0) (b : Bool) → (b ≡ true → P true) → 
 by-cases P true t f = t refl
 by-cases P false t f = f refl
 
+-- the same, of a claim that does not name the answer
+pub by-test : {P : Type 0} (b : Bool) → (b ≡ true → P) → (b ≡ false → P) → P
+by-test {P} b = by-cases (λ _. P) b
+
 -- what is not false is true
 pub not-false-true : (b : Bool) → (b ≡ false → ⊥) → b ≡ true
 not-false-true true h = refl
@@ -55,6 +59,10 @@ not-false-true false h = absurd (h refl)
 pub not-true-false : (b : Bool) → (b ≡ true → ⊥) → b ≡ false
 not-true-false true h = absurd (h refl)
 not-true-false false h = refl
+
+-- two tests that hold in the same cases
+pub same-truth : (a b : Bool) → (a ≡ true → b ≡ true) → (b ≡ true → a ≡ true) → a ≡ b
+same-truth a b f g = by-cases (λ t. t ≡ b) a (λ e. sym (f e)) (λ e. sym (not-true-false b (λ h. true≢false (sym (g h) ∙ e))))
 
 -- a test that decides a claim is false exactly where the claim fails
 pub refuted : {b : Bool} {P : Type 0} → Reflects b P → b ≡ false → P → ⊥
@@ -75,53 +83,33 @@ reflect-or {a} {b} p q = record {
   complete = λ h. or-intro a b (⊎-elim (λ x. inl (p .complete x)) (λ x. inr (q .complete x)) h);
 }
 
+-- a negated test decides that the test is false
+pub reflect-false : (b : Bool) → Reflects (not b) (b ≡ false)
+reflect-false true = record { sound = λ e. sym e; complete = λ e. sym e }
+reflect-false false = record { sound = λ e. refl; complete = λ e. refl }
+
 pub reflect-not : {b : Bool} {P : Type 0} → Reflects b P → Reflects (not b) (P → ⊥)
-reflect-not {b} r = record { sound = λ e. refuted r (flip b e); complete = λ h. simp (refutes r h) }
-  where
-    flip : (b : Bool) → not b ≡ true → b ≡ false
-    flip true e = sym e
-    flip false e = refl
+reflect-not {b} r = record { sound = λ e. refuted r (reflect-false b .sound e); complete = λ h. simp (refutes r h) }
 
 -- the same test, of a claim that says the same
 pub reflect-as : {b : Bool} {P Q : Type 0} → Reflects b P → (P → Q) → (Q → P) → Reflects b Q
 reflect-as r f g = record { sound = λ e. f (r .sound e); complete = λ q. r .complete (g q) }
 
 -- a choice by a test
-cond-by : {P Q R : Type 0} (a b c : Bool) → Reflects a P → Reflects b Q → Reflects c R
-    → Reflects (cond a b c) ((P × Q) ⊎ ((P → ⊥) × R))
-cond-by true b c p q r = record {
-  sound = λ e. inl (p .sound refl, q .sound e);
-  complete = λ h. ⊎-elim (λ x. q .complete (x .1)) (λ x. absurd (x .0 (p .sound refl))) h;
-}
-cond-by false b c p q r = record {
-  sound = λ e. inr (refuted p refl, r .sound e);
-  complete = λ h. ⊎-elim (λ x. absurd (refuted p refl (x .0))) (λ x. r .complete (x .1)) h;
-}
-
 pub reflect-cond : {a b c : Bool} {P Q R : Type 0} → Reflects a P → Reflects b Q → Reflects c R
     → Reflects (cond a b c) ((P × Q) ⊎ ((P → ⊥) × R))
-reflect-cond {a} {b} {c} p q r = cond-by a b c p q r
+reflect-cond {a} {b} {c} {P} {Q} {R} p q r =
+    by-cases (λ t. Reflects (cond t b c) ((P × Q) ⊎ ((P → ⊥) × R))) a
+    (λ e. record { sound = λ h. inl (p .sound e, q .sound h); complete = ⊎-elim (λ x. q .complete (x .1)) (λ x. absurd (x .0 (p .sound e))) })
+    (λ e. record { sound = λ h. inr (refuted p e, r .sound h); complete = ⊎-elim (λ x. absurd (refuted p e (x .0))) (λ x. r .complete (x .1)) })
 
 -- the same, said by what each side of the test asks
-if-by : {P Q R : Type 0} (a b c : Bool) → Reflects a P → Reflects b Q → Reflects c R
-    → Reflects (cond a b c) ((P → Q) × ((P → ⊥) → R))
-if-by true b c p q r = record {
-  sound = λ e. ((λ _. q .sound e), (λ n. absurd (n (p .sound refl))));
-  complete = λ h. q .complete (h .0 (p .sound refl));
-}
-if-by false b c p q r = record {
-  sound = λ e. ((λ x. absurd (refuted p refl x)), (λ _. r .sound e));
-  complete = λ h. r .complete (h .1 (refuted p refl));
-}
-
 pub reflect-if : {a b c : Bool} {P Q R : Type 0} → Reflects a P → Reflects b Q → Reflects c R
     → Reflects (cond a b c) ((P → Q) × ((P → ⊥) → R))
-reflect-if {a} {b} {c} p q r = if-by a b c p q r
-
--- a negated test decides that the test is false
-pub reflect-false : (b : Bool) → Reflects (not b) (b ≡ false)
-reflect-false true = record { sound = λ e. sym e; complete = λ e. sym e }
-reflect-false false = record { sound = λ e. refl; complete = λ e. refl }
+reflect-if {a} {b} {c} {P} {Q} {R} p q r =
+    by-cases (λ t. Reflects (cond t b c) ((P → Q) × ((P → ⊥) → R))) a
+    (λ e. record { sound = λ h. ((λ x. q .sound h), (λ n. absurd (n (p .sound e)))); complete = λ h. q .complete (h .0 (p .sound e)) })
+    (λ e. record { sound = λ h. ((λ x. absurd (refuted p e x)), (λ n. r .sound h)); complete = λ h. r .complete (h .1 (refuted p e)) })
 
 -- a decided claim that can't fail holds
 pub decided : {b : Bool} {P : Type 0} → Reflects b P → ((P → ⊥) → ⊥) → P
@@ -129,9 +117,4 @@ decided {b} r h = r .sound (not-false-true b (λ e. h (refuted r e)))
 
 -- tests of one claim are equal
 pub reflects-same : {a b : Bool} {P : Type 0} → Reflects a P → Reflects b P → a ≡ b
-reflects-same {a} {b} p q = by a b (λ e. q .complete (p .sound e)) (λ e. p .complete (q .sound e))
-  where
-    by : (a b : Bool) → (a ≡ true → b ≡ true) → (b ≡ true → a ≡ true) → a ≡ b
-    by true b f g = sym (f refl)
-    by false true f g = g refl
-    by false false f g = refl
+reflects-same {a} {b} p q = same-truth a b (λ e. q .complete (p .sound e)) (λ e. p .complete (q .sound e))

@@ -9,13 +9,14 @@ use native.Mathlib.Nat.{eq-or-lt-of-le, le-antisymm, le-of-suc-le-suc, le-refl, 
 use native.Mathlib.Numerals.{add-one}
 use native.Mathlib.Omega.{arith}
 use lib.Dec.{ltb}
+use borrow.Author.Needs.{needs}
 use borrow.Author.Tests.{le-ltb, ltb-false, not-false, not-true}
-use Rattle.base.proofs.Reflect.{and-true, not-true-false, or-intro, or-true}
+use Rattle.base.proofs.Reflect.{and-true, by-cases, not-true-false, or-intro, or-true}
 use Rattle.base.specs.Reflect.{Reflects}
 use Rattle.base.specs.Search.{Every, Least, Some, allBelow, anyBelow, firstBelow, sumFrom}
 
 -- a number below suc n is n or below n
-last-or-below : {n i : ℕ} → i < suc n → (i ≡ n) ⊎ (i < n)
+pub last-or-below : {n i : ℕ} → i < suc n → (i ≡ n) ⊎ (i < n)
 last-or-below l = eq-or-lt-of-le (le-of-suc-le-suc l)
 
 module _ (p : ℕ → Bool) where
@@ -80,15 +81,17 @@ module _ (p : ℕ → Bool) where
   search-view : (n : ℕ) → ((i : ℕ) × Least n Passes i) ⊎ (anyBelow n p ≡ false)
   unfolding anyBelow
   search-view zero = inr refl
-  search-view (suc n) = ⊎-elim (λ s. inl (wider s)) (λ none. here (p n) refl none) (search-view n)
+  search-view (suc n) =
+      ⊎-elim
+      (λ s. inl (wider s))
+      (λ none.
+      by-cases (λ b. ((i : ℕ) × Least (suc n) Passes i) ⊎ ((b || anyBelow n p) ≡ false)) (p n)
+      (λ e. inl (n, record { below = le-refl (suc n); has = e; none-before = λ k l t. true≢false (sym t ∙ any-none n none k l) }))
+      (λ e. inr none))
+      (search-view n)
     where
       wider : (i : ℕ) × Least n Passes i → (i : ℕ) × Least (suc n) Passes i
       wider s = (s .0, record { below = omega (arith, s .1 .below); has = s .1 .has; none-before = s .1 .none-before })
-
-      here : (b : Bool) → p n ≡ b → anyBelow n p ≡ false → ((i : ℕ) × Least (suc n) Passes i) ⊎ ((p n || anyBelow n p) ≡ false)
-      here true e none =
-          inl (n, record { below = le-refl (suc n); has = e; none-before = λ k l t. true≢false (sym t ∙ any-none n none k l) })
-      here false e none = inr (simp (e, none))
 
   pub first-least : (n : ℕ) → firstBelow n p < n → Least n Passes (firstBelow n p)
   first-least n l =
@@ -209,6 +212,12 @@ pub ruleset searches = (
   not-true,
   not-false,
 )
+
+pub ruleset loops = (searches, needs)
+
+-- the invariant of a loop that returns at the first of n numbers that passes
+abbrev pub NoneBefore : ℕ → (ℕ → Bool) → ℕ → Type 0
+NoneBefore n p i = (i ≤ n) × (anyBelow i p ≡ false)
 
 -- ---- the loop `for i in 0..k { sum += f(n + i); }`, whose invariant is `sum + sumFrom f (n + i) (k - i) ≡ r`
 module _ (f : ℕ → ℕ) (n k r : ℕ) where

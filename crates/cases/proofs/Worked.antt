@@ -1,4 +1,4 @@
--- Each row of the table of C1 to C10 is answered as document 01 says: by computation.
+-- Each row of the table of C1 to C10 is answered as the documents say: by computation.
 use mathlib.Core.Path.{_≡_, refl}
 use lib.Count.{ones}
 use Rattle.base.specs.Lists.{sameList}
@@ -15,12 +15,12 @@ use Rattle.ledger.specs.State.{applied, booking, isSane, newLedger}
 use Rattle.ledger.specs.Decisions.{placing, proposal, settling}
 use Rattle.ledger.specs.Steps.{newOf, proposeDecision, proposeOf, saneGate}
 use Rattle.draw.specs.Binomials.{choose, factorial}
-use Rattle.draw.specs.Draw.{drawOf, failing, thousandths}
+use Rattle.draw.specs.Draw.{drawOf, failing, thousandths, toEven}
 use Rattle.cases.specs.Table.{answered, given, table}
 
 pub cases : answered table ≡ given table
 unfolding sameList anyBelow allBelow firstBelow sumFrom inputsFormed countsFormed isFilled isBlank entryFormed wellFormed hasLabelOf repeatedAt
     isWritten unsupportedAt balanced checkOf examined leAt entryAt entriesAt jobOf isDrive supports labelOf framesOf isUsed usedFrames isBetween
     charAt isAlphanumeric mediumOf isLabel isLawful thresholdOf equalAt equalIn hasRoom insideOf slotAt booking isSane newLedger applied placing
-    settling proposal newOf proposeDecision proposeOf saneGate choose factorial drawOf failing thousandths ones
+    settling proposal newOf proposeDecision proposeOf saneGate choose factorial drawOf failing thousandths toEven ones
 cases = refl

@@ -1,5 +1,5 @@
 -- "Near each edge": C1 to C10, C7 and C8 in their two halves. A row has what is answered, by a definition that a contract cites, and the two
--- figures that document 01 gives for it.
+-- figures that document 01 gives for it; C9's value is that of M-103 of document 02, "Case C9 changes with it".
 use mathlib.Core.List.{List, [], _++_, _∷_}
 use Prim.Native.Nat.{_+_, ℕ}
 use lib.Count.{ones}
@@ -66,15 +66,15 @@ table =
     -- drive 7 with an L5 output of a migration refused, of an accession accepted
     ∷ row 7 (proposal (migration 7 5 5)) 8 4
     ∷ row 7 (proposal (accession 7 (tape 86 5 thousand))) 0 0
-    -- draw n 4, b 1: u 0 gives 0, u 1 gives 750; n 16, b 3: u 1 gives 813
+    -- draw n 4, b 1: u 0 gives 0, u 1 gives 750; n 16, b 3: u 1 gives 812
     ∷ row 8 (drawAt 4 1 0) 0 0
     ∷ row 8 (drawAt 4 1 1) 0 750
-    ∷ row 9 (drawAt 16 3 1) 0 813
+    ∷ row 9 (drawAt 16 3 1) 0 812
     -- signers 11 name three vaults
     ∷ row 10 (Done (ones 11)) 0 3
     ∷ []
 
--- the figures of each answer, and those that document 01 gives
+-- the figures of each answer, and those that the documents give
 abbrev pub answered : List Row → List (List ℕ)
 answered [] = []
 answered (r ∷ rows) = (numberOf (r .answer) ∷ valueOf (r .answer) ∷ []) ∷ answered rows

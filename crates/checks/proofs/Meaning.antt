@@ -18,12 +18,11 @@ use Rattle.outcome.specs.declared.Verdict.the-variants.{Fail, Pass}
 use Rattle.record.proofs.Ranges.{reflect-between}
 use Rattle.checks.specs.Checks.{balanced, checkOf, countsFormed, entryFormed, hasLabelOf, inputsFormed, isBlank, isFilled, isWritten, repeatedAt}
 use Rattle.checks.specs.Checks.{unsupportedAt, wellFormed}
-use Rattle.record.specs.Drives.{isDrive, supports}
+use Rattle.record.specs.Drives.{isDrive}
 use Rattle.record.specs.Entries.{framesOf, labelOf, usedFrames}
-use Rattle.record.specs.Labels.{mediumOf}
 use Rattle.record.specs.Meaning.{Label, Used}
 use Rattle.checks.specs.Meaning.{Answer, Balanced, RepeatedAt, UnsupportedAt}
-use Rattle.checks.specs.Meaning.{WellFormed, malformed, passes, repeated, unbalanced, unsupported}
+use Rattle.checks.specs.Meaning.{WellFormed, malformed, passes, repeated, takes, unbalanced, unsupported}
 use Rattle.record.specs.declared.Job.{Job}
 use Rattle.record.proofs.Meaning.{reflect-used, reflect-label}
 
@@ -44,7 +43,7 @@ reflect-entry j i =
     (reflect-and (reflect-label (labelOf j i)) (reflect-le 1 (framesOf j i)))
     (reflect-and (reflect-eq (labelOf j i) 0) (reflect-eq (framesOf j i) 0))
 
-pub reflect-formed : (j : Job) → Reflects (wellFormed j) (WellFormed j)
+pub reflect-formed : (j : Job) → Reflects (wellFormed j) (WellFormed Label j)
 unfolding wellFormed isDrive countsFormed
 reflect-formed j =
     reflect-as
@@ -60,16 +59,16 @@ reflect-repeated j i =
     reflect-and (reflect-used j i) (reflect-any i (λ k h. reflect-and (reflect-used j k) (reflect-eq (labelOf j k) (labelOf j i))))
 
 -- ---- 8
-unsupported-by : {W : Type 0} (d m : ℕ) (w : Bool) → Reflects w W
-    → Reflects (not (supports w d m)) ((W × (supports true d m ≡ false)) ⊎ ((W → ⊥) × (supports false d m ≡ false)))
-unsupported-by d m true r = reflect-cond r (reflect-false (supports true d m)) (reflect-false (supports false d m))
-unsupported-by d m false r = reflect-cond r (reflect-false (supports true d m)) (reflect-false (supports false d m))
+unsupported-by : {W : Type 0} (d l : ℕ) (w : Bool) → Reflects w W
+    → Reflects (not (takes w d l)) ((W × (takes true d l ≡ false)) ⊎ ((W → ⊥) × (takes false d l ≡ false)))
+unsupported-by d l true r = reflect-cond r (reflect-false (takes true d l)) (reflect-false (takes false d l))
+unsupported-by d l false r = reflect-cond r (reflect-false (takes true d l)) (reflect-false (takes false d l))
 
-pub reflect-unsupported : (j : Job) (i : ℕ) → Reflects (unsupportedAt j i) (UnsupportedAt j i)
+pub reflect-unsupported : (j : Job) (i : ℕ) → Reflects (unsupportedAt j i) (UnsupportedAt takes j i)
 unfolding unsupportedAt isWritten
 reflect-unsupported j i =
     reflect-and (reflect-used j i)
-    (unsupported-by (j .drive) (mediumOf (labelOf j i)) _ (reflect-and (reflect-le 4 i) (reflect-eq (j .kind) 1)))
+    (unsupported-by (j .drive) (labelOf j i) _ (reflect-and (reflect-le 4 i) (reflect-eq (j .kind) 1)))
 
 -- ---- 9
 pub reflect-balanced : (j : Job) → Reflects (balanced j) (Balanced j)
@@ -84,7 +83,7 @@ module _ (j : Job) where
   repeats : (i : ℕ) → i < 8 → Reflects (repeatedAt j i) (RepeatedAt j i)
   repeats i h = reflect-repeated j i
 
-  fails : (i : ℕ) → i < 8 → Reflects (unsupportedAt j i) (UnsupportedAt j i)
+  fails : (i : ℕ) → i < 8 → Reflects (unsupportedAt j i) (UnsupportedAt takes j i)
   fails i h = reflect-unsupported j i
 
   -- `checkOf` with its tests apart, so that each can be decided

@@ -1,8 +1,8 @@
 -- A job's tapes as lists say what the searches over its entries say: a label or a tape is found exactly where it is in the
 -- list. A job that passes checks 6 to 9 has distinct labels, and its frames balance.
-use mathlib.Core.Bool.{Bool, cond, false, true, true≢false}
+use mathlib.Core.Bool.{cond, true}
 use mathlib.Core.List.{List, [], _++_, _∷_}
-use mathlib.Core.Logic.{_⊎_, inl, inr}
+use mathlib.Core.Logic.{_⊎_, inl, inr, ⊎-elim}
 use mathlib.Core.Path.{_∙_, _≡_, ap, ap₂, refl, subst, sym}
 use Prim.Native.Nat.{_+_, _-_, _<_, _≤_, suc, zero, ℕ}
 use native.Mathlib.Nat.{add-zero, le-refl, zero-add}
@@ -11,7 +11,7 @@ use lib.Dec.{eqb}
 use lib.ListN.{getD}
 use borrow.Author.Tests.{eq-eqb, eqb-false, eqb-true, ne-eqb}
 use Rattle.base.proofs.Members.{in-map, map-in}
-use Rattle.base.proofs.Reflect.{reflect-and, reflect-as, reflect-eq}
+use Rattle.base.proofs.Reflect.{by-cases, by-test, reflect-and, reflect-as, reflect-eq}
 use Rattle.base.specs.Lists.{Distinct, In}
 use Rattle.base.specs.Reflect.{Reflects}
 use Rattle.base.specs.Search.{sumFrom}
@@ -50,28 +50,24 @@ module _ (j : Job) where
 
   pub used-at : (i n : ℕ) (t : Entry) → In t (usedFrom j i n) → At i n t
   unfolding usedFrom
-  used-at i (suc n) t m = by (isUsed j i) refl m (used-at (suc i) n t)
-    where
-      later : At (suc i) n t → At i (suc n) t
-      later a = record { place = a .place; from = omega (arith, a .from); until = omega (arith, a .until); used = a .used; is = a .is }
-
-      by : (b : Bool) → isUsed j i ≡ b → In t (cond b (entry i ∷ usedFrom j (suc i) n) (usedFrom j (suc i) n))
-          → (In t (usedFrom j (suc i) n) → At (suc i) n t) → At i (suc n) t
-      by true e (inl q) rest = record { place = i; from = le-refl i; until = omega arith; used = e; is = sym q }
-      by true e (inr h) rest = later (rest h)
-      by false e h rest = later (rest h)
+  used-at i (suc n) t m =
+      let rest = usedFrom j (suc i) n in
+      let later : In t rest → At i (suc n) t = λ h.
+      let a = used-at (suc i) n t h in
+      record { place = a .place; from = omega (arith, a .from); until = omega (arith, a .until); used = a .used; is = a .is } in
+      by-cases (λ b. In t (cond b (entry i ∷ rest) rest) → At i (suc n) t) (isUsed j i)
+      (λ e. ⊎-elim (λ q. record { place = i; from = le-refl i; until = omega arith; used = e; is = sym q }) later) (λ e. later) m
 
   pub at-used : (i n k : ℕ) → i ≤ k → k < i + n → isUsed j k ≡ true → In (entry k) (usedFrom j i n)
   unfolding usedFrom
   at-used i zero k a b u = absurd (omega arith)
-  at-used i (suc n) k a b u = by (isUsed j i) refl (eqb i k) refl (λ h. at-used (suc i) n k h (omega arith) u)
-    where
-      by : (b : Bool) → isUsed j i ≡ b → (s : Bool) → eqb i k ≡ s → (suc i ≤ k → In (entry k) (usedFrom j (suc i) n))
-          → In (entry k) (cond b (entry i ∷ usedFrom j (suc i) n) (usedFrom j (suc i) n))
-      by true e true q rest = inl (ap entry (sym (eqb-true i k q)))
-      by true e false q rest = inr (rest (omega (arith, eqb-false i k q)))
-      by false e true q rest = absurd (true≢false (sym u ∙ ap (isUsed j) (sym (eqb-true i k q)) ∙ e))
-      by false e false q rest = rest (omega (arith, eqb-false i k q))
+  at-used i (suc n) k a b u =
+      let rest = usedFrom j (suc i) n in
+      by-test (eqb i k)
+      (λ q. rw (ap (isUsed j) (eqb-true i k q) ∙ u) (inl (ap entry (sym (eqb-true i k q)))))
+      (λ q.
+      let later = at-used (suc i) n k (omega (arith, eqb-false i k q)) (omega arith) u in
+      by-cases (λ b. In (entry k) (cond b (entry i ∷ rest) rest)) (isUsed j i) (λ e. inr later) (λ e. later))
 
   pub used-append : (i n m : ℕ) → usedFrom j i (n + m) ≡ usedFrom j i n ++ usedFrom j (i + n) m
   unfolding usedFrom
@@ -79,23 +75,21 @@ module _ (j : Job) where
   used-append i (suc n) m =
       let a : suc n + m ≡ suc (n + m) = omega arith in
       let b : suc i + n ≡ i + suc n = omega arith in
-      rw a (by (isUsed j i) (used-append (suc i) n m ∙ rw b))
-    where
-      by : (b : Bool) → usedFrom j (suc i) (n + m) ≡ usedFrom j (suc i) n ++ usedFrom j (i + suc n) m
-          → cond b (entry i ∷ usedFrom j (suc i) (n + m)) (usedFrom j (suc i) (n + m))
-          ≡ cond b (entry i ∷ usedFrom j (suc i) n) (usedFrom j (suc i) n) ++ usedFrom j (i + suc n) m
-      by true e = ap (λ (l : List Entry). entry i ∷ l) e
-      by false e = e
+      let all = usedFrom j (suc i) (n + m) in
+      let rest = usedFrom j (suc i) n in
+      let last = usedFrom j (i + suc n) m in
+      let e : all ≡ rest ++ last = used-append (suc i) n m ∙ rw b in
+      rw a
+      (by-cases (λ b. cond b (entry i ∷ all) all ≡ cond b (entry i ∷ rest) rest ++ last) (isUsed j i)
+      (λ _. ap (λ (l : List Entry). entry i ∷ l) e) (λ _. e))
 
   pub used-frames : (i n : ℕ) → framesIn (usedFrom j i n) ≡ sumFrom (usedFrames j) i n
   unfolding usedFrom sumFrom usedFrames framesOf
   used-frames i zero = refl
-  used-frames i (suc n) = by (isUsed j i) (used-frames (suc i) n)
-    where
-      by : (b : Bool) → framesIn (usedFrom j (suc i) n) ≡ sumFrom (usedFrames j) (suc i) n
-          → framesIn (cond b (entry i ∷ usedFrom j (suc i) n) (usedFrom j (suc i) n)) ≡ cond b (entry i .frames) 0 + sumFrom (usedFrames j) (suc i) n
-      by true e = omega (arith, e)
-      by false e = omega (arith, e)
+  used-frames i (suc n) =
+      let rest = usedFrom j (suc i) n in
+      by-cases (λ b. framesIn (cond b (entry i ∷ rest) rest) ≡ cond b (entry i .frames) 0 + sumFrom (usedFrames j) (suc i) n) (isUsed j i)
+      (λ _. omega (arith, used-frames (suc i) n)) (λ _. omega (arith, used-frames (suc i) n))
 
   -- ---- labels and tapes of a half
   pub label-listed : (half label : ℕ) → labelIn half j label ≡ true → In label (labels (usedFrom j half 4))
@@ -145,14 +139,13 @@ module _ (j : Job) where
   distinct-from : Nowhere (RepeatedAt j) → (i n : ℕ) → i + n ≤ 8 → Distinct (labels (usedFrom j i n))
   unfolding usedFrom labelOf
   distinct-from none i zero h = tt
-  distinct-from none i (suc n) h = by (isUsed j i) refl (distinct-from none (suc i) n (omega arith))
-    where
-      by : (b : Bool) → isUsed j i ≡ b → Distinct (labels (usedFrom j (suc i) n))
-          → Distinct (labels (cond b (entry i ∷ usedFrom j (suc i) n) (usedFrom j (suc i) n)))
-      by false e d = d
-      by true e d = (
-        (λ (m : In (entry i .label) (labels (usedFrom j (suc i) n))).
-            let q = map-in (λ (t : Entry). t .label) (usedFrom j (suc i) n) (entry i .label) m in
+  distinct-from none i (suc n) h =
+      let rest = usedFrom j (suc i) n in
+      let d = distinct-from none (suc i) n (omega arith) in
+      by-cases (λ b. Distinct (labels (cond b (entry i ∷ rest) rest))) (isUsed j i)
+      (λ e. (
+        (λ (m : In (entry i .label) (labels rest)).
+            let q = map-in (λ (t : Entry). t .label) rest (entry i .label) m in
             let a = used-at (suc i) n (q .0) (q .1) in
             none (a .place) (omega (arith, a .until)) (
               reflect-used j (a .place) .sound (a .used),
@@ -163,7 +156,8 @@ module _ (j : Job) where
               },
             )),
         d,
-      )
+      ))
+      (λ e. d)
 
 -- ---- what checks 6 to 9 say of the tapes
 abbrev pub accessionFrames : Job → ℕ

@@ -2,8 +2,7 @@
 -- absent vaults than there are, and a share is at most a thousand thousandths.
 use mathlib.Core.Bool.{Bool, cond, false, true}
 use mathlib.Core.Path.{_≡_, ap, refl, subst}
-use Prim.Native.Nat.{_*_, _+_, _-_, _<_, _≤_, ℕ}
-use native.Mathlib.Nat.{mul-le-mul-right}
+use Prim.Native.Nat.{_+_, _-_, _<_, _≤_, ℕ}
 use native.Mathlib.Omega.{arith}
 use lib.Dec.{leb}
 use borrow.Author.Tests.{le-leb, leb-false, leb-true, lt-leb}
@@ -15,17 +14,11 @@ use Rattle.outcome.specs.declared.Refusal.the-variants.{Settings as BadSettings
 use Rattle.federation.proofs.Lawful.{reflect-lawful}
 use Rattle.federation.specs.Federation.{Lawful, isLawful, thresholdOf}
 use Rattle.federation.specs.declared.Settings.{Settings}
-use Rattle.draw.proofs.Quotients.{choose-bound, choose-grows, choose-positive}
-use Rattle.draw.proofs.Rounding.{nearest, nearest-once}
+use Rattle.draw.proofs.Binomials.{choose-grows, choose-positive}
+use Rattle.draw.proofs.Rows.{choose-bound}
+use Rattle.draw.proofs.Rounding.{nearest, nearest-once, share-most}
 use Rattle.draw.specs.Binomials.{choose}
 use Rattle.draw.specs.Draw.{Drawn, absent, chance, drawOf, failing, thousandths, unlawful}
-
-pub share-most : (part whole : ℕ) → 0 < whole → part ≤ whole → thousandths part whole ≤ 1000
-share-most part whole h l = by (leb 1001 (thousandths part whole)) refl
-  where
-    by : (b : Bool) → leb 1001 (thousandths part whole) ≡ b → thousandths part whole ≤ 1000
-    by true e = absurd (omega (arith, h, l, nearest part whole h .not-above, mul-le-mul-right (2 * whole) (leb-true 1001 (thousandths part whole) e)))
-    by false e = omega (arith, leb-false 1001 (thousandths part whole) e)
 
 module _ (s : Settings) (u : ℕ) (e : isLawful s ≡ true) (l : u ≤ s .n) where
   lawful : Lawful s
@@ -41,14 +34,14 @@ module _ (s : Settings) (u : ℕ) (e : isLawful s ≡ true) (l : u ≤ s .n) whe
   pub some-quorum : 0 < choose (s .n) (thresholdOf s)
   some-quorum = choose-positive (s .n) (thresholdOf s) within
 
-  pub quorums-fit : choose (s .n) (thresholdOf s) ≤ 20922789888000
-  quorums-fit = choose-bound (s .n) (thresholdOf s) small
+  pub quorums-fit : choose (s .n) (thresholdOf s) ≤ 12870
+  quorums-fit = choose-bound (s .n) (thresholdOf s) small within
 
   pub fewer-quorums : choose (s .n - u) (thresholdOf s) ≤ choose (s .n) (thresholdOf s)
   fewer-quorums =
       let back : u + (s .n - u) ≡ s .n = omega (arith, l) in
       subst (λ (n : ℕ). choose (s .n - u) (thresholdOf s) ≤ choose n (thresholdOf s)) back
-      (choose-grows u (s .n - u) (thresholdOf s) (omega (arith, l, small)) (omega (arith, within, small)))
+      (choose-grows u (s .n - u) (thresholdOf s))
 
 -- so a draw's value, refused or not, has at most four digits
 pub draw-small : (s : Settings) (u : ℕ) → valueOf (drawOf s u) ≤ 1000
@@ -83,4 +76,5 @@ module _ (s : Settings) (u : ℕ) where
   means-draw o (absent h l) = simp (reflect-lawful s .complete h, lt-leb u (s .n) l)
   means-draw o (chance r h l x) =
       let e = reflect-lawful s .complete h in
-      simp (e, le-leb u (s .n) l) (ap Done (nearest-once (failing s u) quorums r _ x (nearest (failing s u) quorums (some-quorum s u e l))))
+      let some = some-quorum s u e l in
+      simp (e, le-leb u (s .n) l) (ap Done (nearest-once (failing s u) quorums some r _ x (nearest (failing s u) quorums some)))

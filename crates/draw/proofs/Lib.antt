@@ -1,3 +1,6 @@
+pub mod Binomials
 pub mod Chances
-pub mod Quotients
+pub mod Halves
+pub mod Pages
 pub mod Rounding
+pub mod Rows

@@ -1,2 +1,4 @@
 pub mod Binomials
 pub mod Draw
+pub mod Halves
+pub mod Triangle

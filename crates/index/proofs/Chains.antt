@@ -1,9 +1,9 @@
 -- A chain of places, each linked to the last before it, leads to the last that matches.
-use mathlib.Core.Bool.{Bool, cond, false, true, true≢false}
+use mathlib.Core.Bool.{Bool, _||_, cond, false, true, true≢false}
 use mathlib.Core.Path.{_∙_, _≡_, refl, sym}
 use Prim.Native.Nat.{_-_, _<_, _≤_, suc, zero, ℕ}
 use native.Mathlib.Omega.{arith}
-use Rattle.base.proofs.Reflect.{not-true-false}
+use Rattle.base.proofs.Reflect.{by-cases, by-test, not-true-false}
 use Rattle.base.proofs.Search.{first-any, first-is, first-least, first-none, least-first}
 use Rattle.base.specs.Search.{anyBelow, firstBelow}
 use Rattle.index.specs.Chains.{lastBelow}
@@ -12,11 +12,8 @@ module _ (p : ℕ → Bool) where
   pub last-le : (n : ℕ) → lastBelow n p ≤ n
   unfolding lastBelow
   last-le zero = omega arith
-  last-le (suc n) = by (p n) (last-le n)
-    where
-      by : (t : Bool) → lastBelow n p ≤ n → cond t (suc n) (lastBelow n p) ≤ suc n
-      by true h = omega arith
-      by false h = omega arith
+  last-le (suc n) =
+      by-cases (λ t. cond t (suc n) (lastBelow n p) ≤ suc n) (p n) (λ _. omega arith) (λ _. omega (arith, last-le n))
 
   pub last-zero : lastBelow 0 p ≡ 0
   unfolding lastBelow
@@ -34,43 +31,33 @@ module _ (p : ℕ → Bool) where
   pub last-has : (n x : ℕ) → lastBelow n p ≡ suc x → p x ≡ true
   unfolding lastBelow
   last-has zero x e = absurd (omega (arith, e))
-  last-has (suc n) x e = by (p n) refl (last-has n x) e
-    where
-      by : (t : Bool) → p n ≡ t → (lastBelow n p ≡ suc x → p x ≡ true) → cond t (suc n) (lastBelow n p) ≡ suc x → p x ≡ true
-      by true h f q = let r : x ≡ n = omega arith in rw r h
-      by false h f q = f q
+  last-has (suc n) x e =
+      by-cases (λ t. cond t (suc n) (lastBelow n p) ≡ suc x → p x ≡ true) (p n)
+      (λ h q. let r : x ≡ n = omega arith in rw r h) (λ _. last-has n x) e
 
   -- none does where there is no last
   pub last-none : (n : ℕ) → lastBelow n p ≡ 0 → anyBelow n p ≡ false
   unfolding lastBelow anyBelow
   last-none zero e = refl
-  last-none (suc n) e = by (p n) refl (last-none n) e
-    where
-      by : (t : Bool) → p n ≡ t → (lastBelow n p ≡ 0 → anyBelow n p ≡ false) → cond t (suc n) (lastBelow n p) ≡ 0 → anyBelow (suc n) p ≡ false
-      by true h f q = absurd (omega arith)
-      by false h f q = simp (h, f q)
+  last-none (suc n) e =
+      by-cases (λ t. cond t (suc n) (lastBelow n p) ≡ 0 → (t || anyBelow n p) ≡ false) (p n) (λ _ q. absurd (omega arith)) (λ _. last-none n) e
 
   -- the first is the same below any bound past one that passes
   pub first-short : (n x : ℕ) → x < n → p x ≡ true → firstBelow n p ≡ firstBelow x p
-  first-short n x l h = by (anyBelow x p) refl
-    where
-      by : (t : Bool) → anyBelow x p ≡ t → firstBelow n p ≡ firstBelow x p
-      by true e =
-          let s = first-least p x (first-any p x e) in
-          least-first p n (firstBelow x p) (record { below = omega (arith, s .below, l); has = s .has; none-before = s .none-before })
-      by false e = first-is p n x l e h ∙ sym (first-none p x e)
+  first-short n x l h =
+      by-test (anyBelow x p)
+      (λ e.
+      let s = first-least p x (first-any p x e) in
+      least-first p n (firstBelow x p) (record { below = omega (arith, s .below, l); has = s .has; none-before = s .none-before }))
+      (λ e. first-is p n x l e h ∙ sym (first-none p x e))
 
 -- what passes q passes p: the last of p is far enough to look for the last of q
 pub last-skip : (p q : ℕ → Bool) → ((i : ℕ) → q i ≡ true → p i ≡ true) → (n : ℕ) → lastBelow (lastBelow n p) q ≡ lastBelow n q
 unfolding lastBelow
 last-skip p q h zero = refl
-last-skip p q h (suc n) = by (p n) refl (last-skip p q h n)
-  where
-    by : (t : Bool) → p n ≡ t → lastBelow (lastBelow n p) q ≡ lastBelow n q → lastBelow (cond t (suc n) (lastBelow n p)) q ≡ cond (q n) (suc n) (lastBelow n q)
-    by true e f = refl
-    by false e f =
-        let none : q n ≡ false = not-true-false (q n) (λ t. true≢false (sym (h n t) ∙ e)) in
-        simp none f
+last-skip p q h (suc n) =
+    by-cases (λ t. lastBelow (cond t (suc n) (lastBelow n p)) q ≡ cond (q n) (suc n) (lastBelow n q)) (p n)
+    (λ _. refl) (λ e. simp (not-true-false (q n) (λ t. true≢false (sym (h n t) ∙ e))) (last-skip p q h n))
 
 -- ---- the walk: x is one more than a place of the chain, or 0, and none past it matches
 pub record Walk (p q : ℕ → Bool) (m x : ℕ) : Type 0 where

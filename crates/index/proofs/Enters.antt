@@ -4,12 +4,13 @@ use mathlib.Core.List.{List}
 use mathlib.Core.Logic.{_≢_, _⊎_, ⊎-elim}
 use mathlib.Core.Path.{_∙_, _≡_, ap, refl, sym}
 use Prim.Native.Nat.{_%_, _*_, _+_, _-_, _/_, _<_, _≤_, suc, ℕ}
-use native.Mathlib.Nat.{eq-or-lt-of-le, le-of-suc-le-suc}
 use native.Mathlib.Omega.{arith}
 use lib.Dec.{eqb, ltb}
 use lib.ListN.{getD, length, length-set, set}
 use lib.Seq.{getD-set-other, getD-set-same}
 use borrow.Author.Tests.{eq-eqb, eqb-false, eqb-true, le-ltb, lt-ltb, ne-eqb}
+use Rattle.base.proofs.Reflect.{by-cases, by-test}
+use Rattle.base.proofs.Search.{last-or-below}
 use Rattle.base.specs.Search.{anyBelow}
 use Rattle.record.specs.Entries.{framesOf, isUsed, labelOf}
 use Rattle.record.specs.declared.Job.{Job}
@@ -81,9 +82,6 @@ module _ (numbers : List ℕ) (size : length numbers ≡ numbersSize) (m label t
       ∙ getD-set-other numbers m i label 0 w
 
 -- ---- one place more
-pub last-or-below : (p m : ℕ) → p < suc m → (p ≡ m) ⊎ (p < m)
-last-or-below p m l = eq-or-lt-of-le (le-of-suc-le-suc l)
-
 module _ (job : ℕ → Job) (m : ℕ) (numbers : List ℕ) (t : Numbered job m numbers) (lm : m < places) (used : usedAt job m ≡ true)
     (label tape b : ℕ) (ll : label ≤ m) (lt : tape ≤ m) (lb : b < buckets)
     (el : label ≡ numberAt job false m) (et : tape ≡ numberAt job true m) (eb : b ≡ bucketOf (labelAt job m)) where
@@ -108,17 +106,16 @@ module _ (job : ℕ → Job) (m : ℕ) (numbers : List ℕ) (t : Numbered job m 
   in-other c ne = simp (used, ne-eqb (bucketOf (labelAt job m)) c (λ e. ne (sym e ∙ sym eb)))
 
   small-next : (i : ℕ) → i < linksAt → getD entered i 0 < places
-  small-next i l = by (eqb i m) (eqb i (places + m)) refl refl
-    where
-      by : (u v : Bool) → eqb i m ≡ u → eqb i (places + m) ≡ v → getD entered i 0 < places
-      by true v eu ev =
-          let q = eqb-true i m eu in rw q (omega (arith, with-label numbers (t .size) m label tape b lm lb))
-      by false true eu ev =
-          let q = eqb-true i (places + m) ev in rw q (omega (arith, with-tape numbers (t .size) m label tape b lm lb))
-      by false false eu ev =
-          let kept =
-          with-other numbers (t .size) m label tape b lm lb i (eqb-false i m eu) (eqb-false i (places + m) ev) (λ e. omega arith) (λ e. omega arith) in
-          omega (arith, t .small i l, kept)
+  small-next i l =
+      by-test (eqb i m)
+      (λ e. let q = eqb-true i m e in rw q (omega (arith, with-label numbers (t .size) m label tape b lm lb)))
+      (λ e.
+      by-test (eqb i (places + m))
+      (λ f. let q = eqb-true i (places + m) f in rw q (omega (arith, with-tape numbers (t .size) m label tape b lm lb)))
+      (λ f.
+      let kept =
+      with-other numbers (t .size) m label tape b lm lb i (eqb-false i m e) (eqb-false i (places + m) f) (λ e. omega arith) (λ e. omega arith) in
+      omega (arith, t .small i l, kept)))
 
   pub numbered-next : Numbered job (suc m) entered
   numbered-next = record {
@@ -127,34 +124,28 @@ module _ (job : ℕ → Job) (m : ℕ) (numbers : List ℕ) (t : Numbered job m 
     named = λ exact p l u. ⊎-elim
         (λ (e : p ≡ m). rw e (named-now exact))
         (λ (o : p < m). named-before exact p o ∙ t .named exact p o u)
-        (last-or-below p m l);
+        (last-or-below l);
     linked = λ p l u. ⊎-elim
         (λ (e : p ≡ m). rw e (with-link numbers (t .size) m label tape b lm lb ∙ t .headed b lb ∙ ap (λ (c : ℕ). lastBelow m (inBucket job c)) eb))
         (λ (o : p < m).
         with-other numbers (t .size) m label tape b lm lb (linksAt + p) (λ e. omega arith) (λ e. omega arith) (λ e. omega arith) (λ e. omega arith)
         ∙ t .linked p o u)
-        (last-or-below p m l);
-    headed = λ c l. by c l (eqb c b) refl;
+        (last-or-below l);
+    headed = λ c l. by-test (eqb c b)
+        (λ e. let q = eqb-true c b e in rw q (with-head numbers (t .size) m label tape b lm lb ∙ sym (last-yes (inBucket job b) m in-own)))
+        (λ e.
+        let q = eqb-false c b e in
+        with-other numbers (t .size) m label tape b lm lb (headsAt + c) (λ e. omega arith) (λ e. omega arith) (λ e. omega arith) (λ e. q (omega arith))
+        ∙ t .headed c l ∙ sym (last-no (inBucket job c) m (in-other c q)));
   }
-    where
-      by : (c : ℕ) → c < buckets → (u : Bool) → eqb c b ≡ u → getD entered (headsAt + c) 0 ≡ lastBelow (suc m) (inBucket job c)
-      by c l true e =
-          let q = eqb-true c b e in
-          rw q (with-head numbers (t .size) m label tape b lm lb ∙ sym (last-yes (inBucket job b) m in-own))
-      by c l false e =
-          let q = eqb-false c b e in
-          with-other numbers (t .size) m label tape b lm lb (headsAt + c) (λ e. omega arith) (λ e. omega arith) (λ e. omega arith) (λ e. q (omega arith))
-          ∙ t .headed c l ∙ sym (last-no (inBucket job c) m (in-other c q))
 
 -- ---- the sets
 mark-bit : (words : List ℕ) (b : ℕ) → b < 64 * length words → (x : ℕ) (t : Bool) → bitAt (marked words b t) x ≡ ((t && eqb x b) || bitAt words x)
 unfolding marked
 mark-bit words b room x false = refl
-mark-bit words b room x true = by (eqb x b) refl
-  where
-    by : (u : Bool) → eqb x b ≡ u → bitAt (marked words b true) x ≡ (u || bitAt words x)
-    by true e = let q = eqb-true x b e in rw q (mark-sets words b room true refl)
-    by false e = mark-other words b room x true (eqb-false x b e)
+mark-bit words b room x true =
+    by-cases (λ u. bitAt (marked words b true) x ≡ (u || bitAt words x)) (eqb x b)
+    (λ e. let q = eqb-true x b e in rw q (mark-sets words b room true refl)) (λ e. mark-other words b room x true (eqb-false x b e))
 
 regroup : (a b c : Bool) → (a || (b || c)) ≡ ((b || a) || c)
 regroup true true c = refl
@@ -162,13 +153,9 @@ regroup true false c = refl
 regroup false true c = refl
 regroup false false c = refl
 
-side-small : (e : ℕ) → sideOf e ≤ 1
+pub side-low : (e : ℕ) → sideOf e < 2
 unfolding sideOf
-side-small e = by (ltb e 4)
-  where
-    by : (t : Bool) → cond t 0 1 ≤ 1
-    by true = omega arith
-    by false = omega arith
+side-low e = by-cases (λ t. cond t 0 1 < 2) (ltb e 4) (λ _. omega arith) (λ _. omega arith)
 
 module _ (job : ℕ → Job) (m : ℕ) (sets : List ℕ) (t : Marked job m sets) (lm : m < places) (used : usedAt job m ≡ true)
     (label tape n e : ℕ) (el : label ≡ numberAt job false m) (et : tape ≡ numberAt job true m) (en : n ≡ m / 8) (ee : e ≡ m % 8)
@@ -177,7 +164,7 @@ module _ (job : ℕ → Job) (m : ℕ) (sets : List ℕ) (t : Marked job m sets)
   first = marked sets (bitOf (sideOf e) label n) true
 
   room-one : bitOf (sideOf e) label n < 64 * length sets
-  room-one = omega (arith, t .size, side-small e)
+  room-one = omega (arith, t .size, side-low e)
 
   room-two : bitOf 2 tape n < 64 * length first
   room-two = omega (arith, t .size, mark-size sets (bitOf (sideOf e) label n) true)
@@ -201,7 +188,7 @@ module _ (job : ℕ → Job) (m : ℕ) (unused : usedAt job m ≡ false) where
 
   -- a used place below is another
   before : (p : ℕ) → p < suc m → usedAt job p ≡ true → p < m
-  before p l u = ⊎-elim (λ (e : p ≡ m). absurd (true≢false (sym u ∙ ap (usedAt job) e ∙ unused))) (λ (o : p < m). o) (last-or-below p m l)
+  before p l u = ⊎-elim (λ (e : p ≡ m). absurd (true≢false (sym u ∙ ap (usedAt job) e ∙ unused))) (λ (o : p < m). o) (last-or-below l)
 
   pub numbered-same : (numbers : List ℕ) → Numbered job m numbers → Numbered job (suc m) numbers
   numbered-same numbers t = record {

@@ -3,7 +3,7 @@ use mathlib.Core.Bool.{Bool, _||_, cond, false, true, true≢false}
 use mathlib.Core.List.{List}
 use mathlib.Core.Logic.{_≢_, ⊎-elim}
 use mathlib.Core.Path.{_∙_, _≡_, ap, refl, sym}
-use Prim.Native.Nat.{_%_, _*_, _+_, _-_, _/_, _<_, _≤_, min, suc, zero, ℕ}
+use Prim.Native.Nat.{_%_, _*_, _+_, _-_, _<_, _≤_, suc, zero, ℕ}
 use native.Mathlib.Nat.{mod-lt, not-suc-le-zero}
 use native.Mathlib.Numerals.{add-one}
 use native.Mathlib.Omega.{arith}
@@ -12,15 +12,14 @@ use lib.ListN.{getD, getD-replicate, length, length-replicate, length-set, repli
 use lib.Seq.{getD-set-other, getD-set-same}
 use borrow.Author.Tests.{eq-eqb, eqb-false, eqb-true, ne-eqb}
 use Rattle.base.proofs.Lists.{reflect-same}
-use Rattle.base.proofs.Reflect.{not-true-false}
-use Rattle.base.proofs.Search.{first-none}
+use Rattle.base.proofs.Reflect.{by-cases, by-test, not-true-false}
+use Rattle.base.proofs.Search.{first-none, last-or-below}
 use Rattle.base.specs.Search.{anyBelow, firstBelow}
-use Rattle.codec.specs.Codec.{jobOf, recordSize}
+use Rattle.codec.specs.Codec.{jobOf}
 use Rattle.record.specs.Entries.{framesOf, labelOf}
 use Rattle.record.specs.declared.Job.{Job}
-use Rattle.journal.specs.Journal.{capacity, equalAt, equalIn, insideOf, slotAt}
+use Rattle.journal.specs.Journal.{capacity, equalAt, slotAt}
 use Rattle.index.proofs.Chains.{last-has, last-le, last-no, last-skip, last-yes}
-use Rattle.index.proofs.Enters.{last-or-below}
 use Rattle.index.specs.Chains.{lastBelow}
 use Rattle.index.specs.Places.{bucketOf, buckets, slotJob}
 use Rattle.index.specs.Records.{Filed, inSum, recordsSize, recordsWith, sumOf, sumTo}
@@ -42,11 +41,8 @@ firstOr q x d = cond (anyBelow x q) (firstBelow x q) d
 module _ (q : ℕ → Bool) where
   or-no : (y d : ℕ) → q y ≡ false → firstOr q (suc y) d ≡ firstOr q y d
   unfolding firstOr anyBelow firstBelow
-  or-no y d h = by (anyBelow y q)
-    where
-      by : (t : Bool) → cond (q y || t) (cond t (firstBelow y q) (cond (q y) y (suc y))) d ≡ cond t (firstBelow y q) d
-      by true = simp h
-      by false = simp h
+  or-no y d h =
+      by-cases (λ t. cond (q y || t) (cond t (firstBelow y q) (cond (q y) y (suc y))) d ≡ cond t (firstBelow y q) d) (anyBelow y q) (λ _. simp h) (λ _. simp h)
 
   or-yes : (y d : ℕ) → q y ≡ true → firstOr q (suc y) d ≡ firstOr q y y
   unfolding firstOr anyBelow firstBelow
@@ -58,20 +54,14 @@ module _ (q : ℕ → Bool) where
 
   or-all : (n : ℕ) → firstOr q n n ≡ firstBelow n q
   unfolding firstOr
-  or-all n = by (anyBelow n q) refl
-    where
-      by : (t : Bool) → anyBelow n q ≡ t → cond t (firstBelow n q) n ≡ firstBelow n q
-      by true e = refl
-      by false e = sym (first-none q n e)
+  or-all n = by-cases (λ t. cond t (firstBelow n q) n ≡ firstBelow n q) (anyBelow n q) (λ _. refl) (λ e. sym (first-none q n e))
 
 or-skip : (p q : ℕ → Bool) → ((i : ℕ) → q i ≡ true → p i ≡ true) → (n d : ℕ) → firstOr q (lastBelow n p) d ≡ firstOr q n d
 unfolding lastBelow
 or-skip p q h zero d = refl
-or-skip p q h (suc n) d = by (p n) refl (or-skip p q h n d)
-  where
-    by : (t : Bool) → p n ≡ t → firstOr q (lastBelow n p) d ≡ firstOr q n d → firstOr q (cond t (suc n) (lastBelow n p)) d ≡ firstOr q (suc n) d
-    by true e f = refl
-    by false e f = f ∙ sym (or-no q n d (not-true-false (q n) (λ t. true≢false (sym (h n t) ∙ e))))
+or-skip p q h (suc n) d =
+    by-cases (λ t. firstOr q (cond t (suc n) (lastBelow n p)) d ≡ firstOr q (suc n) d) (p n)
+    (λ _. refl) (λ e. or-skip p q h n d ∙ sym (or-no q n d (not-true-false (q n) (λ t. true≢false (sym (h n t) ∙ e)))))
 
 -- ---- the walk: x is one more than a place of the chain, or 0, and d is the first found from there on
 pub record Hunt (p q : ℕ → Bool) (n x d : ℕ) : Type 0 where
@@ -88,12 +78,11 @@ module _ (p q : ℕ → Bool) (sub : (i : ℕ) → q i ≡ true → p i ≡ true
       rw (e, ef) (record {
         below = omega (arith, last-le p y, w .below);
         on = last-skip p p (λ i h. h) y;
-        left = or-skip p q sub y _ ∙ by (q y) refl ∙ w .left;
+        left = or-skip p q sub y _ ∙ near ∙ w .left;
       })
     where
-      by : (t : Bool) → q y ≡ t → firstOr q y (cond t y d) ≡ firstOr q (suc y) d
-      by true h = sym (or-yes q y d h)
-      by false h = sym (or-no q y d h)
+      near : firstOr q y (cond (q y) y d) ≡ firstOr q (suc y) d
+      near = by-cases (λ t. firstOr q y (cond t y d) ≡ firstOr q (suc y) d) (q y) (λ h. sym (or-yes q y d h)) (λ h. sym (or-no q y d h))
 
 -- ---- the records of a journal
 equal-sum : (journal bytes : List ℕ) (k : ℕ) → equalAt journal bytes k ≡ true → inSum (slotJob journal) (sumOf (jobOf bytes)) k ≡ true
@@ -171,17 +160,13 @@ module _ (job : ℕ → Job) (n : ℕ) (records : List ℕ) (t : Filed job n rec
     linked = λ k l. ⊎-elim
         (λ (e : k ≡ n). rw e (with-link ∙ t .headed b (sum-below a) ∙ ap (λ (j : Job). lastBelow n (inSum job (sumOf j))) ea))
         (λ (o : k < n). with-other (buckets + k) (λ e. omega (arith, e, sum-below a)) (λ e. omega arith) ∙ t .linked k o)
-        (last-or-below k n l);
-    headed = λ c l. by c l (eqb c b) refl;
+        (last-or-below l);
+    headed = λ c l. by-test (eqb c b)
+        (λ e. let q = eqb-true c b e in rw q (with-head ∙ sym (last-yes (inSum job b) n (eq-eqb _ _ (ap sumOf (sym ea))))))
+        (λ e.
+        let q = eqb-false c b e in
+        with-other c q (λ e. omega arith) ∙ t .headed c l ∙ sym (last-no (inSum job c) n (ne-eqb _ _ (λ r. q (sym r ∙ ap sumOf (sym ea))))));
   }
-    where
-      by : (c : ℕ) → c < buckets → (u : Bool) → eqb c b ≡ u → getD (recordsWith records b n) c 0 ≡ lastBelow (suc n) (inSum job c)
-      by c l true e =
-          let q = eqb-true c b e in
-          rw q (with-head ∙ sym (last-yes (inSum job b) n (eq-eqb _ _ (ap sumOf (sym ea)))))
-      by c l false e =
-          let q = eqb-false c b e in
-          with-other c q (λ e. omega arith) ∙ t .headed c l ∙ sym (last-no (inSum job c) n (ne-eqb _ _ (λ r. q (sym r ∙ ap sumOf (sym ea)))))
 
 -- ---- no record
 pub filed-new : (job : ℕ → Job) → Filed job 0 (replicate recordsSize 0)
@@ -191,11 +176,3 @@ filed-new job = record {
   linked = λ k l. absurd (not-suc-le-zero l);
   headed = λ b l. getD-replicate {A = ℕ} recordsSize b 0 0 (omega arith);
 }
-
--- what is found is the ledger's equal
-pub found-equal : (journal bytes : List ℕ) (booked : ℕ) → recordSize * booked ≤ length journal
-    → firstBelow booked (equalAt journal bytes) ≡ equalIn journal booked bytes
-unfolding equalIn insideOf
-found-equal journal bytes booked h =
-    let e : booked ≡ min booked (length journal / recordSize) = omega arith in
-    ap (λ (n : ℕ). firstBelow n (equalAt journal bytes)) e

@@ -1,5 +1,5 @@
 -- What the sets at a number have: the jobs with the label on that side, or the makers of the tape.
-use mathlib.Core.Bool.{Bool, _&&_, cond, false, not, true, true≢false}
+use mathlib.Core.Bool.{Bool, _&&_, cond, false, not, true}
 use mathlib.Core.Logic.{_⊎_, inl, inr, ⊎-elim}
 use mathlib.Core.Path.{_∙_, _≡_, ap, refl, sym}
 use Prim.Native.Nat.{_%_, _*_, _+_, _-_, _/_, _<_, _≤_, suc, ℕ}
@@ -7,7 +7,7 @@ use native.Mathlib.Nat.{eq-or-lt-of-le}
 use native.Mathlib.Omega.{arith}
 use lib.Dec.{eqb, ltb}
 use borrow.Author.Tests.{eq-eqb, eqb-true, le-ltb, lt-ltb, ltb-false, ltb-true}
-use Rattle.base.proofs.Reflect.{and-true, or-intro, or-true}
+use Rattle.base.proofs.Reflect.{and-true, by-cases, or-intro, or-true, reflect-false, same-truth}
 use Rattle.base.proofs.Search.{any-elim, any-intro, first-least, first-le, first-same}
 use Rattle.base.specs.Search.{anyBelow, firstBelow}
 use Rattle.conflicts.specs.Conflicts.{isLabelAt, isTapeAt, labelIn, makesTape}
@@ -15,8 +15,7 @@ use Rattle.record.specs.Entries.{isUsed}
 use Rattle.record.specs.declared.Job.{Job}
 use Rattle.journal.specs.Journal.{capacity}
 use Rattle.index.proofs.Chains.{first-short}
-use Rattle.index.proofs.Enters.{place-frames, place-label, place-used}
-use Rattle.index.proofs.Marks.{same-truth}
+use Rattle.index.proofs.Enters.{place-frames, place-label, place-used, side-low}
 use Rattle.index.proofs.Seeks.{fits-alike, fits-label}
 use Rattle.index.specs.Places.{bitOf, fits, framesAt, isMatch, labelAt, marks, numberAt, sideOf, usedAt}
 
@@ -85,31 +84,18 @@ bit-parts kind number k kind' number' k' lk lk' lj lj' e =
     let a : 3 * number + kind ≡ 3 * number' + kind' = omega arith in
     (omega arith, omega arith, omega arith)
 
--- a bit's place: used, with this side and this job's
-side-low : (e : ℕ) → sideOf e < 2
-unfolding sideOf
-side-low e = by (ltb e 4)
-  where
-    by : (t : Bool) → cond t 0 1 < 2
-    by true = omega arith
-    by false = omega arith
-
 -- the entry stands in the half that its side says
 side-half : (e : ℕ) → e < 8 → (4 * sideOf e ≤ e) × (e < 4 * sideOf e + 4)
 unfolding sideOf
-side-half e l = by (ltb e 4) refl
-  where
-    by : (t : Bool) → ltb e 4 ≡ t → (4 * cond t 0 1 ≤ e) × (e < 4 * cond t 0 1 + 4)
-    by true h = (omega arith, omega (arith, ltb-true e 4 h))
-    by false h = (omega (arith, ltb-false e 4 h), omega arith)
+side-half e l =
+    by-cases (λ t. (4 * cond t 0 1 ≤ e) × (e < 4 * cond t 0 1 + 4)) (ltb e 4)
+    (λ h. (omega arith, omega (arith, ltb-true e 4 h))) (λ h. (omega (arith, ltb-false e 4 h), omega arith))
 
 half-side : (kind i : ℕ) → kind < 2 → i < 4 → sideOf (4 * kind + i) ≡ kind
 unfolding sideOf
-half-side kind i lk li = by (ltb (4 * kind + i) 4) refl
-  where
-    by : (t : Bool) → ltb (4 * kind + i) 4 ≡ t → cond t 0 1 ≡ kind
-    by true h = omega (arith, ltb-true (4 * kind + i) 4 h)
-    by false h = omega (arith, ltb-false (4 * kind + i) 4 h)
+half-side kind i lk li =
+    by-cases (λ t. cond t 0 1 ≡ kind) (ltb (4 * kind + i) 4)
+    (λ h. omega (arith, ltb-true (4 * kind + i) 4 h)) (λ h. omega (arith, ltb-false (4 * kind + i) 4 h))
 
 -- what a used place enters
 module _ (job : ℕ → Job) (b q : ℕ) (v : usedAt job q ≡ true) where
@@ -152,12 +138,8 @@ module _ (job : ℕ → Job) (n : ℕ) (few : n ≤ capacity) (p : ℕ) (u : use
         (λ e.
         let b = and-true (not (ltb (q % 8) 4)) _ e in
         let r = bit-parts kind x k 2 (numberAt job true q) (q / 8) lx (omega arith) lk (omega arith) (eqb-true _ _ (b .1)) in
-        inr (far (ltb (q % 8) 4) refl (b .0), r .0, r .1, r .2))
+        inr (ltb-false (q % 8) 4 (reflect-false (ltb (q % 8) 4) .sound (b .0)), r .0, r .1, r .2))
         (or-true _ _ (and-true (usedAt job q) _ h .1))
-      where
-        far : (t : Bool) → ltb (q % 8) 4 ≡ t → not t ≡ true → 4 ≤ q % 8
-        far true e f = absurd (true≢false (sym f))
-        far false e f = ltb-false (q % 8) 4 e
 
   -- the entry i of a half, of job k
   abbrev there : ℕ → ℕ → ℕ

@@ -6,21 +6,15 @@ use mathlib.Core.Path.{_≡_, refl, subst, sym}
 use Prim.Native.Nat.{_%_, _*_, _+_, _-_, _/_, _<_, _≤_, ℕ}
 use native.Mathlib.Omega.{arith}
 use lib.Dec.{eqb, ltb}
-use lib.ListN.{getD, length, length-set, set}
+use lib.ListN.{getD, length, length-set}
 use lib.Seq.{getD-set-other, getD-set-same}
 use borrow.Author.Tests.{eqb-false, eqb-true, ltb-false, ltb-true}
+use Rattle.base.proofs.Reflect.{by-test}
 use Rattle.sets.proofs.Bits.{has-with-other, has-with-same}
 use Rattle.sets.proofs.Jobs.{in-high, in-low}
 use Rattle.sets.specs.Bits.{hasBit, withBit}
 use Rattle.sets.specs.Jobs.{jobHas}
 use Rattle.index.specs.Words.{bitAt, marked, setAt}
-
--- two tests that hold in the same cases
-pub same-truth : (a b : Bool) → (a ≡ true → b ≡ true) → (b ≡ true → a ≡ true) → a ≡ b
-same-truth true true f g = refl
-same-truth true false f g = sym (f refl)
-same-truth false true f g = g refl
-same-truth false false f g = refl
 
 pub mark-size : (words : List ℕ) (b : ℕ) (t : Bool) → length (marked words b t) ≡ length words
 unfolding marked
@@ -39,30 +33,28 @@ module _ (words : List ℕ) (b : ℕ) (room : b < 64 * length words) where
   pub mark-other : (x : ℕ) (t : Bool) → x ≢ b → bitAt (marked words b t) x ≡ bitAt words x
   unfolding bitAt marked
   mark-other x false ne = refl
-  mark-other x true ne = by (eqb (x / 64) (b / 64)) refl
-    where
-      by : (t : Bool) → eqb (x / 64) (b / 64) ≡ t
-          → hasBit (getD (set words (b / 64) (withBit (getD words (b / 64) 0) (b % 64))) (x / 64) 0) (x % 64) ≡ hasBit (getD words (x / 64) 0) (x % 64)
-      by true e =
-          let q : x / 64 ≡ b / 64 = eqb-true _ _ e in
-          let r : x % 64 ≢ b % 64 = λ m. ne (omega arith) in
-          rw (q, getD-set-same words (b / 64) (withBit (getD words (b / 64) 0) (b % 64)) 0 at) (has-with-other (getD words (b / 64) 0) (b % 64) (x % 64) r)
-      by false e = rw (getD-set-other words (b / 64) (x / 64) (withBit (getD words (b / 64) 0) (b % 64)) 0 (eqb-false _ _ e))
+  mark-other x true ne =
+      let word = withBit (getD words (b / 64) 0) (b % 64) in
+      by-test (eqb (x / 64) (b / 64))
+      (λ e.
+      let q : x / 64 ≡ b / 64 = eqb-true _ _ e in
+      let r : x % 64 ≢ b % 64 = λ m. ne (omega arith) in
+      rw (q, getD-set-same words (b / 64) word 0 at) (has-with-other (getD words (b / 64) 0) (b % 64) (x % 64) r))
+      (λ e. rw (getD-set-other words (b / 64) (x / 64) word 0 (eqb-false _ _ e)))
 
 -- the set of jobs in two words has the jobs whose bits are set
 pub set-bit : (words : List ℕ) (at k : ℕ) → k < 128 → jobHas (setAt words at) k ≡ bitAt words (64 * at + k)
 unfolding setAt bitAt
-set-bit words at k h = by (ltb k 64) refl
-  where
-    by : (t : Bool) → ltb k 64 ≡ t → jobHas (setAt words at) k ≡ hasBit (getD words ((64 * at + k) / 64) 0) ((64 * at + k) % 64)
-    by true e =
-        let l : k < 64 = ltb-true k 64 e in
-        let p : (64 * at + k) / 64 ≡ at = omega arith in
-        let q : (64 * at + k) % 64 ≡ k = omega arith in
-        rw (p, q) (in-low (setAt words at) k l)
-    by false e =
-        let l : 64 ≤ k = ltb-false k 64 e in
-        let p : (64 * at + k) / 64 ≡ at + 1 = omega arith in
-        let q : (64 * at + k) % 64 ≡ k - 64 = omega arith in
-        let s : 64 + (k - 64) ≡ k = omega arith in
-        rw (p, q) (subst (λ (y : ℕ). jobHas (setAt words at) y ≡ hasBit (getD words (at + 1) 0) (k - 64)) s (in-high (setAt words at) (k - 64) (omega arith)))
+set-bit words at k h =
+    by-test (ltb k 64)
+    (λ e.
+    let l : k < 64 = ltb-true k 64 e in
+    let p : (64 * at + k) / 64 ≡ at = omega arith in
+    let q : (64 * at + k) % 64 ≡ k = omega arith in
+    rw (p, q) (in-low (setAt words at) k l))
+    (λ e.
+    let l : 64 ≤ k = ltb-false k 64 e in
+    let p : (64 * at + k) / 64 ≡ at + 1 = omega arith in
+    let q : (64 * at + k) % 64 ≡ k - 64 = omega arith in
+    let s : 64 + (k - 64) ≡ k = omega arith in
+    rw (p, q) (subst (λ (y : ℕ). jobHas (setAt words at) y ≡ hasBit (getD words (at + 1) 0) (k - 64)) s (in-high (setAt words at) (k - 64) (omega arith))))

@@ -7,7 +7,7 @@ use native.Mathlib.Omega.{arith}
 use lib.Dec.{ltb}
 use lib.ListN.{getD}
 use borrow.Author.Tests.{lt-ltb, ltb-true}
-use Rattle.base.proofs.Reflect.{and-true}
+use Rattle.base.proofs.Reflect.{and-true, same-truth}
 use Rattle.base.proofs.Search.{any-elim, any-intro}
 use Rattle.base.specs.Search.{anyBelow}
 use Rattle.conflicts.specs.Conflicts.{labelIn, makesTape}
@@ -20,7 +20,7 @@ use Rattle.journal.specs.Journal.{capacity}
 use Rattle.index.specs.Admission.{listedBy, listsAt, madeBy, makesAt}
 use Rattle.index.proofs.Enters.{place-frames, place-label, place-used}
 use Rattle.index.proofs.Finds.{label-set, tape-set}
-use Rattle.index.proofs.Marks.{same-truth, set-bit}
+use Rattle.index.proofs.Marks.{set-bit}
 use Rattle.index.specs.Checks.{Tables, setOf}
 use Rattle.index.specs.Places.{Entered, bitOf, linksAt, marks, numberAt, numbersAt, places, usedAt}
 use Rattle.index.specs.Words.{bitAt}
@@ -76,13 +76,9 @@ module _ (job : ℕ → Job) (n : ℕ) (numbers sets : List ℕ) (t : Entered jo
 
     -- against a set of jobs, as the ledger asks
     module _ (s : JobSet) (w : InWords s) where
-      pub readers-meet : jobsMeet (setOf numbers sets (8 * k + e) 0) s ≡ listedBy job n 0 s (labelOf (job k) e)
+      pub listers-meet : (kind : ℕ) → kind < 2 → jobsMeet (setOf numbers sets (8 * k + e) kind) s ≡ listedBy job n (4 * kind) s (labelOf (job k) e)
       unfolding listedBy listsAt
-      readers-meet = set-meets _ s n (λ j. labelIn 0 (job j) (labelOf (job k) e)) few w (λ j l. label-has 0 j (omega arith) l)
-
-      pub writers-meet : jobsMeet (setOf numbers sets (8 * k + e) 1) s ≡ listedBy job n 4 s (labelOf (job k) e)
-      unfolding listedBy listsAt
-      writers-meet = set-meets _ s n (λ j. labelIn 4 (job j) (labelOf (job k) e)) few w (λ j l. label-has 1 j (omega arith) l)
+      listers-meet kind l = set-meets _ s n (λ j. labelIn (4 * kind) (job j) (labelOf (job k) e)) few w (λ j. label-has kind j l)
 
       pub makers-meet : jobsMeet (setOf numbers sets (places + 8 * k + e) 2) s ≡ madeBy job n s (labelOf (job k) e) (framesOf (job k) e)
       unfolding madeBy makesAt

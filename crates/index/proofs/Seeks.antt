@@ -8,7 +8,7 @@ use native.Mathlib.Omega.{arith}
 use lib.Dec.{eqb}
 use lib.ListN.{getD}
 use borrow.Author.Tests.{eq-eqb, eqb-false, eqb-true, ne-eqb}
-use Rattle.base.proofs.Reflect.{and-true}
+use Rattle.base.proofs.Reflect.{and-true, by-cases}
 use Rattle.base.proofs.Search.{first-le, first-none, first-same}
 use Rattle.base.specs.Search.{firstBelow}
 use Rattle.record.specs.declared.Job.{Job}
@@ -164,15 +164,14 @@ module _ (job : ℕ → Job) (m : ℕ) (numbers : List ℕ) (t : Numbered job m 
     label-elsewhere ne = simp (place-used, ne-eqb (labelAt job (x - 1)) label ne)
 
     eye-next : (y u : ℕ) → y ≡ getD numbers (linksAt + (x - 1)) 0 → u ≡ cond (eqb (labelAt job (x - 1)) label) x seen → Seen named m y u
-    eye-next y u e eu = by (eqb (labelAt job (x - 1)) label) refl eu
-      where
-        by : (b : Bool) → eqb (labelAt job (x - 1)) label ≡ b → u ≡ cond b x seen → Seen named m y u
-        by true h g = record {
+    eye-next y u e eu =
+        by-cases (λ b. u ≡ cond b x seen → Seen named m y u) (eqb (labelAt job (x - 1)) label)
+        (λ h g. record {
           low = omega (arith, w .walk .below);
           has = λ _. let z : u - 1 ≡ x - 1 = omega arith in rw z (label-here (eqb-true (labelAt job (x - 1)) label h));
           none = λ z. absurd (omega arith);
-        }
-        by false h g = record {
+        })
+        (λ h g. record {
           low = omega (arith, w .eye .low);
           has = λ o. rw g (w .eye .has (λ z. o (g ∙ z)));
           none = λ z.
@@ -181,7 +180,8 @@ module _ (job : ℕ → Job) (m : ℕ) (numbers : List ℕ) (t : Numbered job m 
               ap (λ (i : ℕ). lastBelow i named) (e ∙ link job m numbers t true label frames x some (w .walk))
               ∙ last-skip (inBucket job (bucketOf label)) named (match-chained job false label frames) (x - 1)
               ∙ sym (last-no named (x - 1) miss) ∙ ap (λ (i : ℕ). lastBelow i named) turn ∙ w .eye .none (sym g ∙ z);
-        }
+        })
+        eu
 
     pub look-next : (r : Bool) (l f u y : ℕ) → (l ≡ labelAt job (x - 1)) × (f ≡ framesAt job (x - 1)) → r ≡ fits true label frames l f → r ≡ false
         → u ≡ cond (eqb l label) x seen → y ≡ getD numbers (linksAt + (x - 1)) 0 → Look job label frames m y u
@@ -207,19 +207,19 @@ module _ (job : ℕ → Job) (m : ℕ) (numbers : List ℕ) (t : Numbered job m 
 
   pub look-end : (x seen name : ℕ) → x ≤ 0 → Look job label frames m x seen → name ≡ cond (eqb seen 0) m (getD numbers (seen - 1) 0)
       → Sought job label frames m name m
-  look-end x seen name lx w e = by (eqb seen 0) refl e
+  look-end x seen name lx w e =
+      by-cases (λ b. name ≡ cond b m (getD numbers (seen - 1) 0) → Sought job label frames m name m) (eqb seen 0)
+      (λ h g.
+      let no-label = number-none job m numbers t false label frames 0 (sym (none-left named) ∙ w .eye .none (eqb-true seen 0 h)) refl in
+      record { name-first = g ∙ no-label; tape-first = no-tape; name-low = omega arith; tape-low = omega arith })
+      (λ h g.
+      let o = eqb-false seen 0 h in
+      let p = number-found job m numbers t false label frames (seen - 1) (seen - 1) name (omega (arith, w .eye .low)) (w .eye .has o) (omega arith) g in
+      record { name-first = p .0; tape-first = no-tape; name-low = p .1; tape-low = omega arith })
+      e
     where
       none-left : (q : ℕ → Bool) → lastBelow x q ≡ 0
       none-left q = let z : x ≡ 0 = omega arith in ap (λ (i : ℕ). lastBelow i q) z ∙ last-zero q
 
       no-tape : m ≡ firstBelow m (isMatch job true label frames)
       no-tape = number-none job m numbers t true label frames 0 (sym (none-left (isMatch job true label frames)) ∙ w .walk .left) refl
-
-      by : (b : Bool) → eqb seen 0 ≡ b → name ≡ cond b m (getD numbers (seen - 1) 0) → Sought job label frames m name m
-      by true h g =
-          let no-label = number-none job m numbers t false label frames 0 (sym (none-left named) ∙ w .eye .none (eqb-true seen 0 h)) refl in
-          record { name-first = g ∙ no-label; tape-first = no-tape; name-low = omega arith; tape-low = omega arith }
-      by false h g =
-          let o = eqb-false seen 0 h in
-          let p = number-found job m numbers t false label frames (seen - 1) (seen - 1) name (omega (arith, w .eye .low)) (w .eye .has o) (omega arith) g in
-          record { name-first = p .0; tape-first = no-tape; name-low = p .1; tape-low = omega arith }

@@ -8,6 +8,7 @@ use native.Mathlib.Nat.{le-refl, mod-lt}
 use native.Mathlib.Numerals.{add-one}
 use native.Mathlib.Omega.{arith}
 use lib.ListN.{length}
+use Rattle.base.proofs.Reflect.{by-cases}
 use Rattle.base.proofs.Search.{first-le}
 use Rattle.codec.specs.Codec.{jobOf, recordSize}
 use Rattle.record.specs.Entries.{framesOf, isUsed, labelOf}
@@ -43,31 +44,22 @@ module _ (job : ℕ → Job) where
   pub tables-entered : (m : ℕ) → m ≤ places → Entered job m (numbersOf job m) (setsOf job m)
   unfolding numbersOf setsOf
   tables-entered zero h = entered-new job
-  tables-entered (suc m) h = by (usedAt job m) refl (tables-entered m (omega arith))
-    where
-      label : ℕ
-      label = numberAt job false m
-
-      tape : ℕ
-      tape = numberAt job true m
-
-      b : ℕ
-      b = bucketOf (labelAt job m)
-
-      by : (t : Bool) → usedAt job m ≡ t → Entered job m (numbersOf job m) (setsOf job m)
-          → Entered job (suc m) (cond t (numbersWith (numbersOf job m) m label tape b) (numbersOf job m))
-          (cond t (setsWith (setsOf job m) label tape (m / 8) (m % 8)) (setsOf job m))
-      by true u t = record {
+  tables-entered (suc m) h =
+      let label = numberAt job false m in
+      let tape = numberAt job true m in
+      let b = bucketOf (labelAt job m) in
+      let numbers = numbersOf job m in
+      let sets = setsOf job m in
+      let t = tables-entered m (omega arith) in
+      by-cases
+      (λ u. Entered job (suc m) (cond u (numbersWith numbers m label tape b) numbers) (cond u (setsWith sets label tape (m / 8) (m % 8)) sets)) (usedAt job m)
+      (λ u. record {
         numbered =
-            numbered-next job m (numbersOf job m) (t .numbered) h u label tape b
+            numbered-next job m numbers (t .numbered) h u label tape b
             (number-low false m) (number-low true m) (bucket-low (labelAt job m)) refl refl refl;
-        marked =
-            marked-next job m (setsOf job m) (t .marked) h u label tape (m / 8) (m % 8) refl refl refl refl (number-low false m) (number-low true m);
-      }
-      by false u t = record {
-        numbered = numbered-same job m u (numbersOf job m) (t .numbered);
-        marked = marked-same job m u (setsOf job m) (t .marked);
-      }
+        marked = marked-next job m sets (t .marked) h u label tape (m / 8) (m % 8) refl refl refl refl (number-low false m) (number-low true m);
+      })
+      (λ u. record { numbered = numbered-same job m u numbers (t .numbered); marked = marked-same job m u sets (t .marked) })
 
   pub tables-filed : (n : ℕ) → n ≤ capacity → Filed job n (recordsOf job n)
   unfolding recordsOf

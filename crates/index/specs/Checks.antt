@@ -3,7 +3,7 @@ use mathlib.Core.Bool.{Bool, _&&_, cond, not}
 use mathlib.Core.List.{List}
 use mathlib.Core.Path.{_≡_}
 use Prim.Native.Nat.{_*_, _+_, _<_, ℕ}
-use lib.Dec.{ltb}
+use lib.Dec.{eqb, ltb}
 use lib.ListN.{getD, length}
 use Rattle.base.specs.Search.{firstBelow}
 use Rattle.outcome.specs.declared.Refusal.the-variants.{InputReserved, NotCreated, OutputReserved, Retired}
@@ -24,34 +24,32 @@ pub record Tables (numbers sets : List ℕ) : Type 0 where
 unfoldable pub setOf : List ℕ → List ℕ → ℕ → ℕ → JobSet
 setOf numbers sets at kind = setAt sets (6 * getD numbers at 0 + 2 * kind)
 
--- entry e is one of so many, and its set meets s
-unfoldable pub metAt : List ℕ → List ℕ → ℕ → ℕ → ℕ → JobSet → ℕ → Bool
-metAt numbers sets count at kind s e = ltb e count && jobsMeet (setOf numbers sets (at + e) kind) s
+-- entry e is one of so many, and offends against s: check 11 wants a job of s that makes its tape, the others none that has its label
+unfoldable pub offendsAt : List ℕ → List ℕ → ℕ → ℕ → ℕ → JobSet → ℕ → Bool
+offendsAt numbers sets count at kind s e =
+    ltb e count && (let met = jobsMeet (setOf numbers sets (at + e) kind) s in cond (eqb kind 2) (not met) met)
 
--- it is one of them, and does not
-unfoldable pub unmetAt : List ℕ → List ℕ → ℕ → ℕ → ℕ → JobSet → ℕ → Bool
-unmetAt numbers sets count at kind s e = ltb e count && not (jobsMeet (setOf numbers sets (at + e) kind) s)
-
-unfoldable pub firstMet : List ℕ → List ℕ → ℕ → ℕ → ℕ → JobSet → ℕ
-firstMet numbers sets count at kind s = firstBelow 4 (metAt numbers sets count at kind s)
-
-unfoldable pub firstUnmet : List ℕ → List ℕ → ℕ → ℕ → ℕ → JobSet → ℕ
-firstUnmet numbers sets count at kind s = firstBelow 4 (unmetAt numbers sets count at kind s)
+unfoldable pub firstOffending : List ℕ → List ℕ → ℕ → ℕ → ℕ → JobSet → ℕ
+firstOffending numbers sets count at kind s = firstBelow 4 (offendsAt numbers sets count at kind s)
 
 -- checks 12 and 13 of job k, which has so many inputs
 unfoldable pub consumedBy : List ℕ → List ℕ → ℕ → JobSet → JobSet → ℕ → Verdict
 consumedBy numbers sets inputs held others k =
-    let retired = firstMet numbers sets inputs (8 * k) 0 held in
+    let retired = firstOffending numbers sets inputs (8 * k) 0 held in
     cond (ltb retired 4) (Fail (Retired retired))
-    (let reserved = firstMet numbers sets inputs (8 * k) 0 others in
+    (let reserved = firstOffending numbers sets inputs (8 * k) 0 others in
     cond (ltb reserved 4) (Fail (InputReserved reserved)) Pass)
+
+-- check 14 of job k, which has so many outputs
+unfoldable pub remadeBy : List ℕ → List ℕ → ℕ → JobSet → ℕ → Verdict
+remadeBy numbers sets outputs known k =
+    let remade = firstOffending numbers sets outputs (8 * k + 4) 1 known in
+    cond (ltb remade 4) (Fail (OutputReserved (4 + remade))) Pass
 
 -- checks 11 to 14; 12 and 13 only where one of them fails
 unfoldable pub admissionBy : List ℕ → List ℕ → ℕ → ℕ → JobSet → JobSet → ℕ → Verdict
 admissionBy numbers sets inputs outputs held others k =
-    let missing = firstUnmet numbers sets inputs (places + 8 * k) 2 held in
+    let missing = firstOffending numbers sets inputs (places + 8 * k) 2 held in
     cond (ltb missing 4) (Fail (NotCreated missing))
     (let known = jobUnion held others in
-    cond (ltb (firstMet numbers sets inputs (8 * k) 0 known) 4) (consumedBy numbers sets inputs held others k)
-    (let remade = firstMet numbers sets outputs (8 * k + 4) 1 known in
-    cond (ltb remade 4) (Fail (OutputReserved (4 + remade))) Pass))
+    cond (ltb (firstOffending numbers sets inputs (8 * k) 0 known) 4) (consumedBy numbers sets inputs held others k) (remadeBy numbers sets outputs known k))

@@ -4,7 +4,7 @@ ghost use Prim.Native.Nat.{_+_, _*_, _<_, _≤_};
 ghost use Rattle.sets.specs.Jobs.{InWords};
 ghost use Rattle.journal.specs.Journal.{capacity, jobAt};
 ghost use Rattle.index.specs.Admission.{admission};
-ghost use Rattle.index.specs.Checks.{Tables, setOf, metAt, firstMet, unmetAt, firstUnmet, consumedBy, admissionBy};
+ghost use Rattle.index.specs.Checks.{Tables, setOf, offendsAt, firstOffending, consumedBy, remadeBy, admissionBy};
 ghost use Rattle.index.specs.Index.{IndexedEntries};
 ghost use Rattle.index.specs.Places.{linksAt, places};
 use crate::PLACES;
@@ -36,7 +36,8 @@ pub fn makers(numbers: &[u16], sets: &[u64], k: usize, e: usize) -> JobSet
     set_of(numbers, sets, PLACES + 8 * k + e, MAKERS)
 }
 
-fn met_at(
+// Entry e is one of so many, and offends against s: no job of s makes its tape, or some job of s has its label.
+fn offends_at(
     numbers: &[u16],
     sets: &[u64],
     count: usize,
@@ -46,54 +47,20 @@ fn met_at(
     e: usize,
 ) -> bool
     requires { ⌜ (e < 4) × (at + 4 ≤ linksAt) × (kind < 3) × Tables (now numbers) (now sets) ⌝ }
-    ensures { λ r. ⌜ r ≡ metAt (now (numbers .entry)) (now (sets .entry)) count at kind s e ⌝ }
+    ensures { λ r. ⌜ r ≡ offendsAt (now (numbers .entry)) (now (sets .entry)) count at kind s e ⌝ }
 {
     if e < count {
-        return set_of(numbers, sets, at + e, kind).meets(s);
-    }
-    false
-}
-
-// The first of so many entries whose set meets s, or 4.
-fn first_met(
-    numbers: &[u16],
-    sets: &[u64],
-    count: usize,
-    at: usize,
-    kind: usize,
-    s: JobSet,
-) -> usize
-    requires { ⌜ (at + 4 ≤ linksAt) × (kind < 3) × Tables (now numbers) (now sets) ⌝ }
-    ensures { λ r. ⌜ r ≡ firstMet (now (numbers .entry)) (now (sets .entry)) count at kind s ⌝ }
-{
-    for e in 0..4 {
-        if met_at(numbers, sets, count, at, kind, s, e) {
-            return e;
+        let met = set_of(numbers, sets, at + e, kind).meets(s);
+        if kind == MAKERS {
+            return !met;
         }
-    }
-    4
-}
-
-fn unmet_at(
-    numbers: &[u16],
-    sets: &[u64],
-    count: usize,
-    at: usize,
-    kind: usize,
-    s: JobSet,
-    e: usize,
-) -> bool
-    requires { ⌜ (e < 4) × (at + 4 ≤ linksAt) × (kind < 3) × Tables (now numbers) (now sets) ⌝ }
-    ensures { λ r. ⌜ r ≡ unmetAt (now (numbers .entry)) (now (sets .entry)) count at kind s e ⌝ }
-{
-    if e < count {
-        return !set_of(numbers, sets, at + e, kind).meets(s);
+        return met;
     }
     false
 }
 
-// The first of so many entries whose set does not meet s, or 4.
-fn first_unmet(
+// The first of four entries that offends, or 4.
+fn first_offending(
     numbers: &[u16],
     sets: &[u64],
     count: usize,
@@ -102,10 +69,10 @@ fn first_unmet(
     s: JobSet,
 ) -> usize
     requires { ⌜ (at + 4 ≤ linksAt) × (kind < 3) × Tables (now numbers) (now sets) ⌝ }
-    ensures { λ r. ⌜ r ≡ firstUnmet (now (numbers .entry)) (now (sets .entry)) count at kind s ⌝ }
+    ensures { λ r. ⌜ r ≡ firstOffending (now (numbers .entry)) (now (sets .entry)) count at kind s ⌝ }
 {
     for e in 0..4 {
-        if unmet_at(numbers, sets, count, at, kind, s, e) {
+        if offends_at(numbers, sets, count, at, kind, s, e) {
             return e;
         }
     }
@@ -124,13 +91,25 @@ fn consumed(
     requires { ⌜ (job < capacity) × Tables (now numbers) (now sets) ⌝ }
     ensures { λ r. ⌜ r ≡ consumedBy (now (numbers .entry)) (now (sets .entry)) inputs held others job ⌝ }
 {
-    let retired = first_met(numbers, sets, inputs, 8 * job, READERS, held);
+    let retired = first_offending(numbers, sets, inputs, 8 * job, READERS, held);
     if retired < 4 {
         return Verdict::Fail(Refusal::Retired(retired as u8));
     }
-    let reserved = first_met(numbers, sets, inputs, 8 * job, READERS, others);
+    let reserved = first_offending(numbers, sets, inputs, 8 * job, READERS, others);
     if reserved < 4 {
         return Verdict::Fail(Refusal::InputReserved(reserved as u8));
+    }
+    Verdict::Pass
+}
+
+// Check 14, against the jobs that are held or signed.
+fn remade(numbers: &[u16], sets: &[u64], outputs: usize, known: JobSet, job: usize) -> Verdict
+    requires { ⌜ (job < capacity) × Tables (now numbers) (now sets) ⌝ }
+    ensures { λ r. ⌜ r ≡ remadeBy (now (numbers .entry)) (now (sets .entry)) outputs known job ⌝ }
+{
+    let remade = first_offending(numbers, sets, outputs, 8 * job + 4, WRITERS, known);
+    if remade < 4 {
+        return Verdict::Fail(Refusal::OutputReserved(4 + remade as u8));
     }
     Verdict::Pass
 }
@@ -149,19 +128,15 @@ fn admission_by(
     ensures { λ r. ⌜ r ≡ admissionBy (now (numbers .entry)) (now (sets .entry)) inputs outputs held others job ⌝ }
 {
     let at = 8 * job;
-    let missing = first_unmet(numbers, sets, inputs, PLACES + at, MAKERS, held);
+    let missing = first_offending(numbers, sets, inputs, PLACES + at, MAKERS, held);
     if missing < 4 {
         return Verdict::Fail(Refusal::NotCreated(missing as u8));
     }
     let known = held.union(others);
-    if first_met(numbers, sets, inputs, at, READERS, known) < 4 {
+    if first_offending(numbers, sets, inputs, at, READERS, known) < 4 {
         return consumed(numbers, sets, inputs, held, others, job);
     }
-    let remade = first_met(numbers, sets, outputs, at + 4, WRITERS, known);
-    if remade < 4 {
-        return Verdict::Fail(Refusal::OutputReserved(4 + remade as u8));
-    }
-    Verdict::Pass
+    remade(numbers, sets, outputs, known, job)
 }
 
 // Checks 11 to 14 of a booked job, against the jobs that a vault holds and the others that it signed.

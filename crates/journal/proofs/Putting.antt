@@ -1,5 +1,4 @@
 -- A record put into the journal: the journal stays as long as it was, the places before are as they were, and the place has the record.
--- Assumes nothing.
 use mathlib.Core.List.{List, _++_}
 use mathlib.Core.Path.{_∙_, _≡_, ap, sym}
 use Prim.Native.Nat.{_*_, _+_, _<_, _≤_, ℕ}
@@ -22,15 +21,19 @@ module _ (n : ℕ) (journal bytes : List ℕ) (size : length bytes ≡ recordSiz
   unfolding slotAt putAt
   slot-before k h =
       let e : recordSize * k + recordSize ≤ recordSize * n = omega arith in
-      take-drop (recordSize * k) recordSize (take (recordSize * n) journal ++ (bytes ++ drop (recordSize * n + recordSize) journal))
-      ∙ ap (drop (recordSize * k)) (take-append-le (recordSize * k + recordSize) (take (recordSize * n) journal) (bytes ++ drop (recordSize * n + recordSize) journal) (omega (arith, front, e))
-      ∙ take-take (recordSize * k + recordSize) (recordSize * n) journal e)
+      let head = take (recordSize * n) journal in
+      let rest = bytes ++ drop (recordSize * n + recordSize) journal in
+      let kept = take-append-le (recordSize * k + recordSize) head rest (omega (arith, front, e)) in
+      take-drop (recordSize * k) recordSize (head ++ rest)
+      ∙ ap (drop (recordSize * k)) (kept ∙ take-take (recordSize * k + recordSize) (recordSize * n) journal e)
       ∙ sym (take-drop (recordSize * k) recordSize journal)
 
   pub slot-put : slotAt (putAt journal n bytes) n ≡ bytes
   unfolding slotAt putAt
   slot-put =
-      ap (λ (m : ℕ). take recordSize (drop m (take (recordSize * n) journal ++ (bytes ++ drop (recordSize * n + recordSize) journal)))) (sym front)
-      ∙ ap (take recordSize) (drop-append-seam (take (recordSize * n) journal) (bytes ++ drop (recordSize * n + recordSize) journal))
-      ∙ ap (λ (m : ℕ). take m (bytes ++ drop (recordSize * n + recordSize) journal)) (sym size)
-      ∙ take-append-seam bytes (drop (recordSize * n + recordSize) journal)
+      let head = take (recordSize * n) journal in
+      let tail = drop (recordSize * n + recordSize) journal in
+      ap (λ (m : ℕ). take recordSize (drop m (head ++ (bytes ++ tail)))) (sym front)
+      ∙ ap (take recordSize) (drop-append-seam head (bytes ++ tail))
+      ∙ ap (λ (m : ℕ). take m (bytes ++ tail)) (sym size)
+      ∙ take-append-seam bytes tail

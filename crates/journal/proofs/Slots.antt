@@ -1,5 +1,4 @@
 -- A record's bytes copied over a place leave the rest.
--- Assumes nothing.
 use mathlib.Core.List.{List, _++_, append-nil}
 use mathlib.Core.Path.{_≡_}
 use Prim.Native.Nat.{_+_, _-_, ℕ}

@@ -1,5 +1,7 @@
 -- What a step does: one effect under its guard, or nothing. One case analysis of the steps, from which the invariant, what only
 -- grows and that a refused step changes nothing all follow. The steps that read only what is booked do so whatever journal is lent.
+use Rattle.sets.specs.declared.job_set.JobSet.{JobSet}
+use Rattle.snapshot.specs.Snapshot.{seenAfter}
 use mathlib.Core.Bool.{Bool, cond, false, true}
 use mathlib.Core.List.{List, [], _++_}
 use mathlib.Core.Path.{_∙_, _≡_, ap, refl, subst, sym}
@@ -36,7 +38,7 @@ use Rattle.generations.specs.Generations.{ageIn}
 use Rattle.journal.specs.Journal.{insideOf, jobAt, slotAt}
 use Rattle.ledger.specs.Meaning.{Entered, KnownAt, NewAt, Proposed, Sane, failed, full, insane, known, new}
 use Rattle.ledger.specs.Register.{isDone, tabled}
-use Rattle.ledger.specs.State.{applied, arriving, booking, signersOf, vaultAt, voted, votesAt, votesIn, withVault}
+use Rattle.ledger.specs.State.{applied, arriving, booking, signersOf, vaultAt, visited, voted, votesAt, votesIn, withVault}
 use Rattle.ledger.specs.State.{acknowledgersOf}
 use Rattle.ledger.specs.Decisions.{
   ageing,
@@ -49,6 +51,7 @@ use Rattle.ledger.specs.Decisions.{
   preflighting,
   receiving,
   refusing,
+  snapshotting,
   statusOf,
   voting,
 }
@@ -62,7 +65,9 @@ use Rattle.ledger.specs.Steps.{
   journalWith,
   preflightDecision,
   proposeDecision,
+  saneGate,
   showDecision,
+  snapshotDecision,
   vaultGate,
 }
 use Rattle.ledger.specs.Vaults.{admissionAt, consented, holding, signing, vaultPreflight}
@@ -81,6 +86,7 @@ use Rattle.ledger.specs.Worlds.{
   propose,
   replyTo,
   show,
+  snapshot,
   stepOf,
 }
 use Rattle.ledger.specs.declared.Change.the-variants.{Hold, Record, Sign}
@@ -101,10 +107,11 @@ pub record Shape (l : Ledger) (bs : List ℕ) : Type 0 where
   pub arrivals : l .arrivals ≤ 128
   pub records : length bs ≡ recordSize * l .booked
   pub room : l .booked ≤ 128
+  pub next : l .next < l .settings .n
   pub votes-below : (c : Column) (k : ℕ) → votesIn l c k < 2 ^ l .settings .n
 
 pub shape-sane : {l : Ledger} {bs : List ℕ} → Shape l bs → Sane l
-shape-sane s = record { lawful = s .lawful; booked = s .room; arrivals = s .arrivals }
+shape-sane s = record { lawful = s .lawful; booked = s .room; arrivals = s .arrivals; next = s .next }
 
 abbrev pub withLedger : World → Ledger → World
 withLedger w l = record { ledger = l; booked = w .booked }
@@ -121,6 +128,10 @@ signedBy l v k = voted (withVault l v (signing (vaultAt l v) k)) Signatures v k
 unfoldable pub held : Ledger → ℕ → ℕ → Ledger
 held l v k = arriving (voted (withVault l v (holding (vaultAt l v) k)) Acknowledgements v k) k
 
+-- the jobs that a snapshot's next visit leaves seen
+abbrev pub seenNext : Ledger → JobSet
+seenNext l = seenAfter (l .settings) (l .next) (l .seen) (vaultAt l (l .next) .held)
+
 -- a request that is answered 0 and changes nothing
 abbrev pub Idle : World → Request → Type 0
 Idle w (propose bytes) = In bytes (tableOf w)
@@ -129,6 +140,7 @@ Idle w (commit v k signers) = HeldBy (w .ledger) k v
 Idle w (faultyVote c v k) = ⊥
 Idle w (show k) = Unit {0}
 Idle w (generations k) = Unit {0}
+Idle w snapshot = ⊥
 
 pub data Change (w : World) : Request → Bool → World → Type 0 where
   -- refused
@@ -145,6 +157,7 @@ pub data Change (w : World) : Request → Bool → World → Type 0 where
       → Change w (faultyVote c v k) true (withLedger w (voted (w .ledger) c v k))
   holds : (v k signers : ℕ) → Correct (w .ledger .settings) v → k < w .ledger .booked → thresholdOf (w .ledger .settings) ≤ ones (signersOf (w .ledger) k)
       → Change w (commit v k signers) true (withLedger w (held (w .ledger) v k))
+  sees : Change w snapshot true (withLedger w (visited (w .ledger) (seenNext (w .ledger))))
 
 -- ---- each step is a change
 module _ (w : World) (sh : Shape (w .ledger) (w .booked)) (size : ℕ) (beyond : List ℕ) where
@@ -275,6 +288,13 @@ module _ (w : World) (sh : Shape (w .ledger) (w .booked)) (size : ℕ) (beyond :
       (λ e. answers (generations k) age 0 k tt)
       (λ e. refuses (generations k) NotHeld 0 k))
 
+  -- ---- a snapshot's visit
+  change-snapshot : Moves snapshot (carried l (snapshotDecision l) 0 0)
+  unfolding snapshotDecision snapshotting applied visited
+  change-snapshot =
+      behind snapshot (saneGate l) _ 0 0
+      (λ g. moves snapshot (carried l (snapshotting (l .settings) (l .next) (l .seen) (vaultAt l (l .next) .held)) 0 0) refl sees)
+
   -- ---- propose
   -- a record inside the journal is a booked one
   slot-tabled : (k : ℕ) → k < insideOf journal (l .booked) → slotAt journal k ≡ getD (tableOf w) k []
@@ -315,6 +335,7 @@ module _ (w : World) (sh : Shape (w .ledger) (w .booked)) (size : ℕ) (beyond :
   change (faultyVote c v k) = change-vote c v k
   change (show k) = change-show k
   change (generations k) = change-generations k
+  change snapshot = change-snapshot
 
 pub changes : (w : World) → Shape (w .ledger) (w .booked) → (e : Event) → Change w (e .request) (isDone (replyTo w e .outcome)) (after w e)
 unfolding after

@@ -17,7 +17,7 @@ use Rattle.sets.proofs.Jobs.{has-no-jobs}
 use Rattle.sets.specs.Bits.{hasBit}
 use Rattle.sets.specs.Jobs.{jobHas, noJobs}
 use Rattle.sets.specs.declared.job_set.JobSet.{JobSet}
-use Rattle.ledger.proofs.Changes.{Change, appends, changes, holds, idle, nothing, shape-sane, signs, votes}
+use Rattle.ledger.proofs.Changes.{Change, appends, changes, holds, idle, nothing, sees, shape-sane, signs, votes}
 use Rattle.ledger.proofs.Effects.{hold-settings}
 use Rattle.ledger.proofs.Gates.{reflect-sane}
 use Rattle.ledger.proofs.Invariant.{Inv, held-by, is-recorded, keep}
@@ -27,7 +27,7 @@ use Rattle.ledger.proofs.Views.{heldAt, signedAt, votedAt}
 use Rattle.ledger.specs.Demand3.{Apart, Demand3, Disjoint, Held, Holds, RefusedUnchanged, accessionedAlong, madeAlong, recordsIn, standingAlong}
 use Rattle.federation.specs.Federation.{Lawful, thresholdOf}
 use Rattle.ledger.specs.Register.{Register, feed, feedAll, isDone, log, newRegister, tabled}
-use Rattle.ledger.specs.State.{acknowledgersOf, booking, newLedger, signersOf, vaultAt, voted, votesIn, withVault}
+use Rattle.ledger.specs.State.{acknowledgersOf, booking, newLedger, signersOf, vaultAt, visited, voted, votesIn, withVault}
 use Rattle.ledger.specs.Vaults.{newVault}
 use Rattle.ledger.specs.Votes.{columnOf, noVotes}
 use Rattle.ledger.specs.declared.Column.{Column}
@@ -45,16 +45,17 @@ along [] w r i = i
 along (e ∷ es) w r i = along es (after w e) (feed r (e .request) (isDone (replyTo w e .outcome))) (kept w r i e)
 
 -- ---- what a change leaves alone
-same-settings : (w : World) (q : Request) (done : Bool) (w′ : World) → Change w q done w′ → w′ .ledger .settings ≡ w .ledger .settings
-unfolding booking voted withVault
+pub same-settings : (w : World) (q : Request) (done : Bool) (w′ : World) → Change w q done w′ → w′ .ledger .settings ≡ w .ledger .settings
+unfolding booking visited voted withVault
 same-settings w q done w′ (nothing p) = refl
 same-settings w q done w′ (idle p m) = refl
 same-settings w q done w′ (appends bytes e h n) = refl
 same-settings w q done w′ (signs v k c h u) = refl
 same-settings w q done w′ (votes d v k h f b) = refl
 same-settings w q done w′ (holds v k signers c h e) = hold-settings (w .ledger) v k
+same-settings w q done w′ sees = refl
 
-settings-along : (es : List Event) (w : World) (r : Register) → Inv w r → afterAll w es .ledger .settings ≡ w .ledger .settings
+pub settings-along : (es : List Event) (w : World) (r : Register) → Inv w r → afterAll w es .ledger .settings ≡ w .ledger .settings
 settings-along [] w r i = refl
 settings-along (e ∷ es) w r i =
     settings-along es (after w e) (feed r (e .request) (isDone (replyTo w e .outcome))) (kept w r i e)
@@ -68,6 +69,7 @@ same-world w q done w′ (appends bytes e h n) f = absurd (true≢false f)
 same-world w q done w′ (signs v k c h u) f = absurd (true≢false f)
 same-world w q done w′ (votes d v k h p b) f = absurd (true≢false f)
 same-world w q done w′ (holds v k signers c h e) f = absurd (true≢false f)
+same-world w q done w′ sees f = absurd (true≢false f)
 
 -- ---- at first nothing is held, signed, recorded or acknowledged
 filled : {A : Type 0} (n i : ℕ) (a : A) → getD (replicate n a) i a ≡ a
@@ -97,7 +99,7 @@ module _ (n b faulty : ℕ) where
   none-below : (c : Column) (k : ℕ) → votesIn empty c k < 2 ^ n
   none-below c k = rw (none-in c k) (pow-pos n)
 
-  settings-first : start n b faulty .ledger .settings ≡ record { n = n; b = b; faulty = faulty }
+  pub settings-first : start n b faulty .ledger .settings ≡ record { n = n; b = b; faulty = faulty }
   unfolding start newLedger
   settings-first = refl
 
@@ -112,6 +114,7 @@ module _ (n b faulty : ℕ) where
       arrivals = omega arith;
       records = refl;
       room = omega arith;
+      next = omega (arith, lawful .few);
       votes-below = none-below;
     };
     safe = record {

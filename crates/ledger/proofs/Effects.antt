@@ -1,4 +1,6 @@
 -- What each effect does to the relations and to the shape: a vote or a held job is one more pair, and the rest is as it was.
+use Rattle.sets.specs.declared.job_set.JobSet.{JobSet}
+use Rattle.snapshot.proofs.Visits.{stays-below}
 use mathlib.Core.Bool.{Bool, false, true}
 use mathlib.Core.List.{List, [], _++_, _∷_}
 use mathlib.Core.Path.{_∙_, _≡_, ap, refl, subst, sym}
@@ -34,7 +36,7 @@ use Rattle.ledger.proofs.Views.{
 }
 use Rattle.federation.specs.Federation.{Lawful}
 use Rattle.generations.specs.Generations.{isAt}
-use Rattle.ledger.specs.State.{arrived, arriving, booking, hasArrived, signersOf, vaultAt, voted, votesIn, withVault}
+use Rattle.ledger.specs.State.{arrived, arriving, booking, hasArrived, signersOf, vaultAt, visited, voted, votesIn, withVault}
 use Rattle.ledger.specs.Vaults.{holding, newVault, signing}
 use Rattle.ledger.specs.Votes.{columnOf, noVotes}
 use Rattle.ledger.specs.declared.Column.{Column}
@@ -100,6 +102,14 @@ module _ (l : Ledger) (v k : ℕ) where
   unfolding voted withVault
   hold-booked = hold-arrives .booked
 
+  pub hold-next : held l v k .next ≡ l .next
+  unfolding voted withVault
+  hold-next = hold-arrives .next
+
+  pub hold-seen : held l v k .seen ≡ l .seen
+  unfolding voted withVault
+  hold-seen = hold-arrives .seen
+
   pub hold-held : v < length (l .vaults) → k < 128 → Grown (heldAt l) (heldAt (held l v k)) v k
   unfolding heldAt holding
   hold-held hv hk =
@@ -154,6 +164,7 @@ module _ {l : Ledger} {bs : List ℕ} (s : Shape l bs) where
     arrivals = s .arrivals;
     records = s .records;
     room = s .room;
+    next = s .next;
     votes-below = s .votes-below;
   }
 
@@ -167,6 +178,7 @@ module _ {l : Ledger} {bs : List ℕ} (s : Shape l bs) where
     arrivals = s .arrivals;
     records = s .records;
     room = s .room;
+    next = s .next;
     votes-below = voted-below l c v k (l .settings .n) hv (s .lawful .vaults) (s .votes-below);
   }
 
@@ -182,10 +194,25 @@ module _ {l : Ledger} {bs : List ℕ} (s : Shape l bs) where
         arrivals = a .arrivals (s .arrivals);
         records = s .records ∙ ap (λ (m : ℕ). recordSize * m) (sym (a .booked));
         room = rw (a .booked) (s .room);
+        next = rw (a .next, a .settings) (s .next);
         votes-below = λ c m.
             subst (λ (st : Settings). columnOf c (getD (arriving l k .votes) m noVotes) < 2 ^ st .n) (sym (a .settings))
             (subst (λ (xs : List Votes). columnOf c (getD xs m noVotes) < 2 ^ l .settings .n) (sym (a .votes)) (s .votes-below c m));
       }
+
+  pub shape-see : (seen : JobSet) → Shape (visited l seen) bs
+  unfolding visited votesIn
+  shape-see seen = record {
+    lawful = s .lawful;
+    vaults = s .vaults;
+    votes = s .votes;
+    order = s .order;
+    arrivals = s .arrivals;
+    records = s .records;
+    room = s .room;
+    next = stays-below (l .settings .n) (l .next) (omega (arith, s .lawful .few));
+    votes-below = s .votes-below;
+  }
 
   pub shape-book : (bytes : List ℕ) → l .booked < 128 → length bytes ≡ recordSize → Shape (booking l) (bs ++ bytes)
   unfolding booking votesIn
@@ -197,6 +224,7 @@ module _ {l : Ledger} {bs : List ℕ} (s : Shape l bs) where
     arrivals = s .arrivals;
     records = omega (arith, length-append bs bytes, s .records);
     room = omega arith;
+    next = s .next;
     votes-below = s .votes-below;
   }
 

@@ -7,7 +7,7 @@ use Prim.Native.Nat.{_<_, _≤_, ℕ}
 use native.Mathlib.Omega.{arith}
 use lib.Dec.{ltb}
 use borrow.Author.Tests.{lt-ltb, ltb-true}
-use Rattle.base.proofs.Reflect.{reflect-and, reflect-as, reflect-le}
+use Rattle.base.proofs.Reflect.{reflect-and, reflect-as, reflect-le, reflect-lt}
 use Rattle.base.specs.Reflect.{Reflects}
 use Rattle.outcome.specs.declared.Outcome.the-variants.{Refused}
 use Rattle.outcome.specs.declared.Refusal.{Refusal}
@@ -30,9 +30,10 @@ pub reflect-sane : (l : Ledger) → Reflects (isSane l) (Sane l)
 unfolding isSane
 reflect-sane l =
     reflect-as
-    (reflect-and (reflect-lawful (l .settings)) (reflect-and (reflect-le (l .booked) capacity) (reflect-le (l .arrivals) capacity)))
-    (λ h. record { lawful = h .0; booked = h .1 .0; arrivals = h .1 .1 })
-    (λ h. (h .lawful, (h .booked, h .arrivals)))
+    (reflect-and (reflect-lawful (l .settings))
+    (reflect-and (reflect-le (l .booked) capacity) (reflect-and (reflect-le (l .arrivals) capacity) (reflect-lt (l .next) (l .settings .n)))))
+    (λ h. record { lawful = h .0; booked = h .1 .0; arrivals = h .1 .1 .0; next = h .1 .1 .1 })
+    (λ h. (h .lawful, (h .booked, (h .arrivals, h .next))))
 
 reflect-beq : (a b : Bool) → Reflects (Bool·beq a b) (a ≡ b)
 reflect-beq true true = record { sound = λ e. refl; complete = λ e. refl }
@@ -133,8 +134,24 @@ module _ (l : Ledger) where
   pub sane-booked : (r : Bool) → r ≡ isSane l → r ≡ true → l .booked ≤ capacity
   sane-booked r p q = reflect-sane l .sound (sym p ∙ q) .booked
 
-pub ruleset entering =
-    (placed, placed-vault, placed-job, placed-few, placed-known, known-job, known-booked, known-few, known-arrivals, known-vaults, sane-placed, sane-booked)
+  pub sane-next : (r : Bool) → r ≡ isSane l → r ≡ true → l .next < 16
+  sane-next r p q = let h = reflect-sane l .sound (sym p ∙ q) in omega (arith, h .next, h .lawful .vaults)
+
+pub ruleset entering = (
+  placed,
+  placed-vault,
+  placed-job,
+  placed-few,
+  placed-known,
+  known-job,
+  known-booked,
+  known-few,
+  known-arrivals,
+  known-vaults,
+  sane-placed,
+  sane-booked,
+  sane-next,
+)
 
 -- ---- the two ways of a step: its gate passes and what was decided is carried, or its gate fails
 module _ (l : Ledger) (v job : ℕ) where

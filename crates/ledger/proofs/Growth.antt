@@ -5,20 +5,20 @@ use mathlib.Core.List.{List, [], _++_, _∷_, append-assoc, append-nil}
 use mathlib.Core.Path.{_∙_, _≡_, ap, refl, sym}
 use Prim.Native.Nat.{ℕ}
 use native.Mathlib.Omega.{arith}
-use Rattle.ledger.proofs.Changes.{Change, Shape, appends, changes, holds, idle, nothing, signs, votes, withLedger}
+use Rattle.ledger.proofs.Changes.{Change, Shape, appends, changes, holds, idle, nothing, sees, signs, votes, withLedger}
 use Rattle.ledger.proofs.Demand3.{kept}
 use Rattle.ledger.proofs.Effects.{hold-held, hold-signed, hold-votes, sign-held, sign-signed, sign-votes}
 use Rattle.ledger.proofs.Invariant.{Inv}
 use Rattle.ledger.proofs.Views.{heldAt, signedAt, voted-added, votedAt}
 use Rattle.ledger.specs.Growth.{Grows}
 use Rattle.ledger.specs.Register.{Register, feed, isDone}
-use Rattle.ledger.specs.State.{booking, voted, votesIn}
+use Rattle.ledger.specs.State.{booking, visited, voted, votesIn}
 use Rattle.ledger.specs.declared.Column.{Column}
 use Rattle.ledger.specs.declared.Column.the-variants.{Acknowledgements, Signatures}
 use Rattle.ledger.specs.declared.Ledger.{Ledger}
 use Rattle.ledger.specs.Worlds.{Event, Request, World, after, afterAll, replyTo}
 
-grows-same : (w : World) → Grows w w
+pub grows-same : (w : World) → Grows w w
 grows-same w = record {
   held = λ v k h. h;
   signed = λ v k h. h;
@@ -28,7 +28,7 @@ grows-same w = record {
   booked = sym (append-nil (w .booked));
 }
 
-grows-on : {a b c : World} → Grows a b → Grows b c → Grows a c
+pub grows-on : {a b c : World} → Grows a b → Grows b c → Grows a c
 grows-on {a} {b} {c} p q = record {
   held = λ v k h. q .held v k (p .held v k h);
   signed = λ v k h. q .signed v k (p .signed v k h);
@@ -62,8 +62,8 @@ module _ (w : World) (sh : Shape (w .ledger) (w .booked)) where
   same : {f g : ℕ → ℕ → Bool} → g ≡ f → (u m : ℕ) → f u m ≡ true → g u m ≡ true
   same e u m t = ap (λ (f : ℕ → ℕ → Bool). f u m) e ∙ t
 
-  grow : (q : Request) (done : Bool) (w′ : World) → Change w q done w′ → Grows w w′
-  unfolding booking votesIn voted heldAt signedAt
+  pub grow : (q : Request) (done : Bool) (w′ : World) → Change w q done w′ → Grows w w′
+  unfolding booking visited votesIn voted votedAt heldAt signedAt
   grow q done w′ (nothing p) = grows-same w
   grow q done w′ (idle p m) = grows-same w
   grow q done w′ (appends bytes e h n) = record {
@@ -82,6 +82,7 @@ module _ (w : World) (sh : Shape (w .ledger) (w .booked)) where
   grow q done w′ (holds v k signers c h e) =
       grows-ledger w _ (hold-held l v k (omega (arith, c .below, sh .vaults, sh .lawful .vaults)) (omega (arith, sh .room)) .old) (same (hold-signed l v k))
       (λ d. hold-votes l v k (omega (arith, c .below, sh .lawful .vaults)) d .old)
+  grow q done w′ sees = grows-ledger w _ (λ u m t. t) (λ u m t. t) (λ d m u t. t)
 
 pub grows : (es : List Event) (w : World) (r : Register) → Inv w r → Grows w (afterAll w es)
 grows [] w r i = grows-same w

@@ -1,6 +1,7 @@
 -- The invariant of demand 3, and that each change a step makes keeps it. A job that arrives was signed by a quorum; so was every job
 -- that arrived before, and two quorums share a correct vault, so the newcomer conflicts with none of them; its inputs were made by jobs
 -- that a correct vault holds, and none of those has retired them. So the register takes it.
+use Rattle.sets.specs.declared.job_set.JobSet.{JobSet}
 use mathlib.Core.Bool.{Bool, _&&_, cond, false, true, true≢false}
 use mathlib.Core.List.{List, [], _++_, _∷_}
 use mathlib.Core.Logic.{inr, ⊎-elim}
@@ -27,7 +28,7 @@ use Rattle.sets.proofs.Jobs.{job-without-other}
 use Rattle.sets.specs.Bits.{hasBit}
 use Rattle.sets.specs.Jobs.{jobWithout}
 use Rattle.ledger.proofs.Account.{Books, CanTake, books-enter, books-take, reflect-admissible}
-use Rattle.ledger.proofs.Changes.{Change, Idle, Shape, appends, held, holds, idle, nothing, signedBy, signs, tableOf, votes, withLedger}
+use Rattle.ledger.proofs.Changes.{Change, Idle, Shape, appends, held, holds, idle, nothing, seenNext, sees, signedBy, signs, tableOf, votes, withLedger}
 use Rattle.ledger.proofs.Effects.{
   hold-acked,
   hold-again,
@@ -40,6 +41,7 @@ use Rattle.ledger.proofs.Effects.{
   hold-signers,
   shape-book,
   shape-hold,
+  shape-see,
   shape-sign,
   shape-vote,
   sign-acked,
@@ -56,8 +58,8 @@ use Rattle.ledger.specs.Demand3.{Apart, Correct, Held, recordsIn}
 use Rattle.federation.specs.Federation.{thresholdOf}
 use Rattle.ledger.specs.Graph.{Unblocked}
 use Rattle.ledger.specs.Register.{Register, entering, feed, feedCommit, feedDone, feedProposal, isAdmissible, stopped, tabled, taking}
-use Rattle.ledger.specs.State.{arrived, booking, signersOf, vaultAt, voted, votesIn, withVault}
-use Rattle.ledger.specs.Worlds.{Request, World, commit, faultyVote, generations, preflight, propose, show}
+use Rattle.ledger.specs.State.{arrived, booking, signersOf, vaultAt, visited, voted, votesIn, withVault}
+use Rattle.ledger.specs.Worlds.{Request, World, commit, faultyVote, generations, preflight, propose, show, snapshot}
 use Rattle.ledger.specs.declared.Column.{Column}
 use Rattle.ledger.specs.declared.Column.the-variants.{Acknowledgements, Signatures}
 use Rattle.ledger.specs.declared.Ledger.{Ledger}
@@ -81,10 +83,10 @@ pub table-length : {w : World} {r : Register} → Inv w r → length (r .table) 
 table-length {w} i = ap length (i .table) ∙ records-length (w .ledger .booked) (w .booked)
 
 -- ---- what is held stays held
-abbrev Keeps : Ledger → Ledger → Type 0
+abbrev pub Keeps : Ledger → Ledger → Type 0
 Keeps l l′ = (v k : ℕ) → heldAt l v k ≡ true → heldAt l′ v k ≡ true
 
-still : (l l′ : Ledger) → l′ .settings ≡ l .settings → Keeps l l′ → (k : ℕ) → Held l k → Held l′ k
+pub still : (l l′ : Ledger) → l′ .settings ≡ l .settings → Keeps l l′ → (k : ℕ) → Held l k → Held l′ k
 unfolding heldAt
 still l l′ e h k x = record {
   vault = x .vault;
@@ -181,6 +183,15 @@ module _ {w : World} {r : Register} (i : Inv w r) where
       (record { settings = refl; booked = refl; order = refl; keeps = λ u m t. t; taken = i .held-taken })
       (shape-vote (i .shape) d v k hv)
       (safe-faulty (i .safe) v k hk (λ c. true≢false (sym f ∙ c .sound)) (added Signatures) (added Acknowledgements) (voted-ones l d v k Signatures))
+
+  -- ---- a snapshot's visit: nothing that the invariant speaks of changes
+  inv-see : (seen : JobSet) → Inv (withLedger w (visited l seen)) r
+  unfolding visited heldAt signedAt votedAt votesIn
+  inv-see seen =
+      inv-ledger (visited l seen)
+      (record { settings = refl; booked = refl; order = refl; keeps = λ u m t. t; taken = i .held-taken })
+      (shape-see (i .shape) seen)
+      (i .safe)
 
   -- ---- a record is booked
   inv-book : (bytes : List ℕ) → examined bytes ≡ Pass → l .booked < 128 → (In bytes (tableOf w) → ⊥)
@@ -340,6 +351,7 @@ module _ {w : World} {r : Register} (i : Inv w r) where
   inv-idle (faultyVote d v k) m = absurd m
   inv-idle (show k) m = i
   inv-idle (generations k) m = i
+  inv-idle snapshot m = absurd m
 
   -- a record that is not in the table enters it
   feeds-new : (bytes : List ℕ) → (In bytes (tableOf w) → ⊥) → feedProposal r bytes ≡ entering r bytes
@@ -362,3 +374,4 @@ keep w r i q done w′ (appends bytes e h n) =
 keep w r i q done w′ (signs v k c h u) = fed i q w′ (inv-sign i v k c h (clear i v k u))
 keep w r i q done w′ (votes d v k h f b) = fed i q w′ (inv-vote i d v k h f b)
 keep w r i q done w′ (holds v k signers c h e) = fed i q w′ (inv-hold i v k c h e)
+keep w r i q done w′ sees = fed i q w′ (inv-see i (seenNext (w .ledger)))

@@ -44,7 +44,20 @@ use Rattle.federation.specs.declared.Settings.{Settings}
 use Rattle.journal.specs.Journal.{isBooked}
 use Rattle.ledger.specs.Meaning.{missing, remade, reserved}
 use Rattle.ledger.specs.State.{isSane}
-use Rattle.ledger.specs.Decisions.{ageing, certificate, committing, consent, consenting, gated, placing, preflighting, proposal, receiving, settling}
+use Rattle.ledger.specs.Decisions.{
+  ageing,
+  certificate,
+  committing,
+  consent,
+  consenting,
+  gated,
+  placing,
+  preflighting,
+  proposal,
+  receiving,
+  settling,
+  snapshotting,
+}
 use Rattle.ledger.specs.Steps.{
   bookedGate,
   commitDecision,
@@ -55,10 +68,11 @@ use Rattle.ledger.specs.Steps.{
   proposeDecision,
   saneGate,
   showDecision,
+  snapshotDecision,
   vaultGate,
 }
 use Rattle.ledger.specs.Vaults.{admissionAt, consented, vaultPreflight}
-use Rattle.ledger.specs.Worlds.{Request, commit, faultyVote, generations, preflight, propose, show, stepOf}
+use Rattle.ledger.specs.Worlds.{Request, commit, faultyVote, generations, preflight, propose, show, snapshot, stepOf}
 use Rattle.ledger.specs.declared.Consent.the-variants.{Already}
 use Rattle.ledger.specs.declared.Decision.{Decision}
 use Rattle.ledger.specs.declared.Ledger.{Ledger}
@@ -182,7 +196,7 @@ module _ (l : Ledger) (journal : List ℕ) (sane : isSane l ≡ true) where
 
   fine : (q : Request) → Fine (stepOf l journal q .outcome)
   unfolding proposeDecision proposal settling preflightDecision preflighting admissionAt commitDecision committing faultyVoteDecision showDecision
-      generationsDecision
+      generationsDecision snapshotDecision snapshotting
   fine (propose bytes) = behind (saneGate l) _ sane-gate (behind (examined bytes) _ (examines bytes) (places _ _ _ _))
   fine (preflight v k) = behind (vaultGate l journal v k false) _ (vault-gate v k false) (consents _ _ _ _ _ (admits _ _ _ _ _))
   fine (commit v k signers) =
@@ -190,6 +204,7 @@ module _ (l : Ledger) (journal : List ℕ) (sane : isSane l ≡ true) where
   fine (faultyVote c v k) = behind (vaultGate l journal v k true) _ (vault-gate v k true) (done _)
   fine (show k) = behind (bookedGate l journal k) _ (gate k) (done _)
   fine (generations k) = behind (bookedGate l journal k) _ (gate k) (ages _ _)
+  fine snapshot = behind (saneGate l) _ sane-gate (done _)
 
   -- whatever the request
   pub never-one : (q : Request) → numberOf (stepOf l journal q .outcome) ≡ 1 → ⊥

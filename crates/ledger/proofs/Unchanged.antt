@@ -26,6 +26,7 @@ use Rattle.ledger.specs.Decisions.{
   receiving,
   refusing,
   settling,
+  snapshotting,
 }
 use Rattle.ledger.specs.Register.{isDone}
 use Rattle.ledger.specs.State.{applied}
@@ -39,10 +40,11 @@ use Rattle.ledger.specs.Steps.{
   proposeDecision,
   saneGate,
   showDecision,
+  snapshotDecision,
   vaultGate,
 }
 use Rattle.ledger.specs.Vaults.{vaultPreflight}
-use Rattle.ledger.specs.Worlds.{Request, commit, decisionOf, faultyVote, generations, leftBy, preflight, propose, show, stepOf}
+use Rattle.ledger.specs.Worlds.{Request, commit, decisionOf, faultyVote, generations, leftBy, preflight, propose, show, snapshot, stepOf}
 use Rattle.ledger.specs.declared.Change.{Change}
 use Rattle.ledger.specs.declared.Change.the-variants.{Book, Nothing}
 use Rattle.ledger.specs.declared.Consent.{Consent}
@@ -95,12 +97,14 @@ aged b age = either b _ _ (quiet (answering age) refl) (quiet (refusing NotHeld)
 module _ (l : Ledger) (journal : List ℕ) where
   pub quiets : (q : Request) → Quiet (decisionOf l journal q)
   unfolding proposeDecision proposal settling preflightDecision preflighting commitDecision committing faultyVoteDecision showDecision generationsDecision
+      snapshotDecision snapshotting
   quiets (propose bytes) = behind (saneGate l) _ (behind (examined bytes) _ (placed _ _ _ _))
   quiets (preflight v k) = behind (vaultGate l journal v k false) _ (consents _ _ _ _ _)
   quiets (commit v k signers) = behind (vaultGate l journal v k false) _ (behind (certificate _ _ _) _ (received _ _ _ _))
   quiets (faultyVote c v k) = behind (vaultGate l journal v k true) _ (done _ _)
   quiets (show k) = behind (bookedGate l journal k) _ (quiet (answering _) refl)
   quiets (generations k) = behind (bookedGate l journal k) _ (aged _ _)
+  quiets snapshot = behind (saneGate l) _ (done _ _)
 
   left : (q : Request) → decisionOf l journal q .change ≡ Nothing → leftBy l journal q ≡ journal
   unfolding journalAfter
@@ -110,6 +114,7 @@ module _ (l : Ledger) (journal : List ℕ) where
   left (faultyVote c v k) e = refl
   left (show k) e = refl
   left (generations k) e = refl
+  left snapshot e = refl
 
   pub unchanged : (q : Request) → isDone (stepOf l journal q .outcome) ≡ false → (stepOf l journal q .ledger ≡ l) × (leftBy l journal q ≡ journal)
   unfolding applied

@@ -10,13 +10,15 @@ use Rattle.outcome.specs.declared.Refusal.the-variants.{Full, NotHeld, NotSigne
 use Rattle.outcome.specs.declared.Verdict.{Verdict}
 use Rattle.outcome.specs.declared.Verdict.the-variants.{Pass, Fail}
 use Rattle.sets.specs.Bits.{subsetOf, withMember}
-use Rattle.sets.specs.Jobs.{jobHas}
+use Rattle.sets.specs.Jobs.{jobCount, jobHas}
+use Rattle.sets.specs.declared.job_set.JobSet.{JobSet}
+use Rattle.snapshot.specs.Snapshot.{seenAfter}
 use Rattle.federation.specs.Federation.{thresholdOf}
 use Rattle.federation.specs.declared.Settings.{Settings}
 use Rattle.checks.specs.Checks.{examined}
 use Rattle.journal.specs.Journal.{equalIn, hasRoom, insideOf}
 use Rattle.ledger.specs.declared.Change.{Change}
-use Rattle.ledger.specs.declared.Change.the-variants.{Book, Hold, Nothing, Record, Sign}
+use Rattle.ledger.specs.declared.Change.the-variants.{Book, Hold, Nothing, Record, See, Sign}
 use Rattle.ledger.specs.declared.Consent.{Consent}
 use Rattle.ledger.specs.declared.Consent.the-variants.{Already, Denied, Fresh}
 use Rattle.ledger.specs.declared.Decision.{Decision}
@@ -96,6 +98,12 @@ statusOf s votes =
 unfoldable pub ageing : Bool → ℕ → Decision
 ageing held age = cond held (answering age) (refusing NotHeld)
 
+-- ---- kind 9, a snapshot: "The value is the number of different jobs seen in this round."
+unfoldable pub snapshotting : Settings → ℕ → JobSet → JobSet → Decision
+snapshotting s next seen held =
+    let all = seenAfter s next seen held in
+    record { outcome = Done (jobCount all); change = See all }
+
 -- ---- of a change
 abbrev pub isNothing : Change → Bool
 isNothing Nothing = true
@@ -103,6 +111,7 @@ isNothing Book = false
 isNothing (Sign state) = false
 isNothing (Hold state) = false
 isNothing (Record column) = false
+isNothing (See seen) = false
 
 abbrev pub isBook : Change → Bool
 isBook Nothing = false
@@ -110,3 +119,4 @@ isBook Book = true
 isBook (Sign state) = false
 isBook (Hold state) = false
 isBook (Record column) = false
+isBook (See seen) = false

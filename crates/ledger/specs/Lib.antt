@@ -7,6 +7,7 @@ pub mod Growth
 pub mod Holders
 pub mod Meaning
 pub mod Register
+pub mod Rounds
 pub mod State
 pub mod Steps
 pub mod Vaults

@@ -36,6 +36,7 @@ pub record Sane (l : Ledger) : Type 0 where
   pub lawful : Lawful (l .settings)
   pub booked : l .booked ≤ capacity
   pub arrivals : l .arrivals ≤ capacity
+  pub next : l .next < l .settings .n
 
 -- checks 1, 3, 5 and 4 pass, for a step that is for faulty vaults or for correct ones
 pub record Entered (l : Ledger) (journal : List ℕ) (v job : ℕ) (faulty : Bool) : Type 0 where

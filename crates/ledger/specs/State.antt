@@ -3,12 +3,15 @@
 use mathlib.Core.Bool.{Bool, cond, _&&_, _||_}
 use mathlib.Core.List.{List}
 use Prim.Native.Nat.{ℕ, _+_}
-use lib.Dec.{leb}
+use lib.Dec.{leb, ltb}
 use lib.ListN.{getD, set, replicate, take}
 use Rattle.base.specs.Search.{anyBelow}
+use Rattle.sets.specs.Jobs.{noJobs}
+use Rattle.sets.specs.declared.job_set.JobSet.{JobSet}
+use Rattle.snapshot.specs.Snapshot.{following}
 use Rattle.ledger.specs.declared.Vault.{Vault}
 use Rattle.ledger.specs.declared.Change.{Change}
-use Rattle.ledger.specs.declared.Change.the-variants.{Book, Hold, Nothing, Record, Sign}
+use Rattle.ledger.specs.declared.Change.the-variants.{Book, Hold, Nothing, Record, See, Sign}
 use Rattle.ledger.specs.declared.Ledger.{Ledger}
 use Rattle.federation.specs.Federation.{isLawful}
 use Rattle.journal.specs.Journal.{capacity}
@@ -45,9 +48,9 @@ arrived l = take (l .arrivals) (l .order)
 unfoldable pub hasArrived : List ℕ → ℕ → ℕ → Bool
 hasArrived order n job = anyBelow n (isAt order job)
 
--- a state that a run can reach has lawful settings and counts within the capacity
+-- a state that a run can reach has lawful settings, counts within the capacity, and a vault to visit next
 unfoldable pub isSane : Ledger → Bool
-isSane l = isLawful (l .settings) && (leb (l .booked) capacity && leb (l .arrivals) capacity)
+isSane l = isLawful (l .settings) && (leb (l .booked) capacity && (leb (l .arrivals) capacity && ltb (l .next) (l .settings .n)))
 
 -- ---- changes
 
@@ -58,6 +61,8 @@ newLedger n b faulty =
       settings = record { n = n; b = b; faulty = faulty };
       booked = 0;
       arrivals = 0;
+      next = 0;
+      seen = noJobs;
       votes = replicate 128 noVotes;
       order = replicate 128 0;
       vaults = replicate 16 newVault;
@@ -70,6 +75,8 @@ booking l =
       settings = l .settings;
       booked = l .booked + 1;
       arrivals = l .arrivals;
+      next = l .next;
+      seen = l .seen;
       votes = l .votes;
       order = l .order;
       vaults = l .vaults;
@@ -82,6 +89,8 @@ voted l column v job =
       settings = l .settings;
       booked = l .booked;
       arrivals = l .arrivals;
+      next = l .next;
+      seen = l .seen;
       votes = set (l .votes) job (withVote column v (votesAt l job));
       order = l .order;
       vaults = l .vaults;
@@ -94,6 +103,8 @@ withVault l v state =
       settings = l .settings;
       booked = l .booked;
       arrivals = l .arrivals;
+      next = l .next;
+      seen = l .seen;
       votes = l .votes;
       order = l .order;
       vaults = set (l .vaults) v state;
@@ -106,6 +117,8 @@ enqueued l job =
       settings = l .settings;
       booked = l .booked;
       arrivals = l .arrivals + 1;
+      next = l .next;
+      seen = l .seen;
       votes = l .votes;
       order = set (l .order) (l .arrivals) job;
       vaults = l .vaults;
@@ -115,6 +128,20 @@ enqueued l job =
 unfoldable pub arriving : Ledger → ℕ → Ledger
 arriving l job = cond (hasArrived (l .order) (l .arrivals) job || leb capacity (l .arrivals)) l (enqueued l job)
 
+-- a vault visited, and the jobs seen in this round
+unfoldable pub visited : Ledger → JobSet → Ledger
+visited l seen =
+    record {
+      settings = l .settings;
+      booked = l .booked;
+      arrivals = l .arrivals;
+      next = following (l .settings .n) (l .next);
+      seen = seen;
+      votes = l .votes;
+      order = l .order;
+      vaults = l .vaults;
+    }
+
 -- the one place where a ledger changes, by the vault and the job that the step names
 unfoldable pub applied : Ledger → Change → ℕ → ℕ → Ledger
 applied l Nothing v job = l
@@ -122,3 +149,4 @@ applied l Book v job = booking l
 applied l (Sign state) v job = voted (withVault l v state) Signatures v job
 applied l (Hold state) v job = arriving (voted (withVault l v state) Acknowledgements v job) job
 applied l (Record column) v job = voted l column v job
+applied l (See seen) v job = visited l seen

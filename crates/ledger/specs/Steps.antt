@@ -16,12 +16,12 @@ use Rattle.federation.specs.declared.Settings.{Settings}
 use Rattle.journal.specs.Journal.{isBooked, jobAt, putAt}
 use Rattle.generations.specs.Generations.{ageIn}
 use Rattle.ledger.specs.declared.Change.{Change}
-use Rattle.ledger.specs.declared.Change.the-variants.{Book, Hold, Nothing, Record, Sign}
+use Rattle.ledger.specs.declared.Change.the-variants.{Book, Hold, Nothing, Record, See, Sign}
 use Rattle.ledger.specs.declared.Column.{Column}
 use Rattle.ledger.specs.declared.Decision.{Decision}
 use Rattle.ledger.specs.declared.Ledger.{Ledger}
 use Rattle.ledger.specs.declared.Reply.{Reply}
-use Rattle.ledger.specs.Decisions.{ageing, answering, committing, gated, preflighting, proposal, statusOf, voting}
+use Rattle.ledger.specs.Decisions.{ageing, answering, committing, gated, preflighting, proposal, snapshotting, statusOf, voting}
 use Rattle.ledger.specs.Holders.{isHeld}
 use Rattle.ledger.specs.State.{applied, isSane, newLedger, signersOf, vaultAt, votesAt, votesIn}
 
@@ -88,6 +88,10 @@ generationsDecision l journal job =
     gated (bookedGate l journal job)
     (ageing (isHeld (l .settings) (l .vaults) job) (ageIn (jobAt journal (l .booked)) (l .order) (l .arrivals) job))
 
+-- kind 9: "no check but 2"; the vault that it visits is the ledger's
+unfoldable pub snapshotDecision : Ledger → Decision
+snapshotDecision l = gated (saneGate l) (snapshotting (l .settings) (l .next) (l .seen) (vaultAt l (l .next) .held))
+
 -- ---- a decision carried out
 
 abbrev pub carried : Ledger → Decision → ℕ → ℕ → Reply
@@ -104,6 +108,7 @@ journalWith Nothing booked journal bytes = journal
 journalWith (Sign state) booked journal bytes = journal
 journalWith (Hold state) booked journal bytes = journal
 journalWith (Record column) booked journal bytes = journal
+journalWith (See seen) booked journal bytes = journal
 
 -- ---- the operations; a proposal names no vault and no job
 unfoldable pub proposeOf : Ledger → List ℕ → List ℕ → Reply
@@ -120,6 +125,9 @@ commitOf l journal v job signers = carried l (commitDecision l journal v job sig
 
 unfoldable pub faultyVoteOf : Ledger → List ℕ → Column → ℕ → ℕ → Reply
 faultyVoteOf l journal column v job = carried l (faultyVoteDecision l journal column v job) v job
+
+unfoldable pub snapshotOf : Ledger → Reply
+snapshotOf l = carried l (snapshotDecision l) 0 0
 
 -- the two that only read
 abbrev pub showOf : Ledger → List ℕ → ℕ → Outcome

@@ -15,13 +15,14 @@ use Rattle.ledger.specs.Steps.{
   preflightDecision,
   proposeDecision,
   showDecision,
+  snapshotDecision,
 }
 use Rattle.ledger.specs.declared.Column.{Column}
 use Rattle.ledger.specs.declared.Decision.{Decision}
 use Rattle.ledger.specs.declared.Ledger.{Ledger}
 use Rattle.ledger.specs.declared.Reply.{Reply}
 
--- kinds 1 to 6 and 8. "A draw neither reads nor changes what the engine keeps and stays out".
+-- kinds 1 to 6, 8 and 9. "A draw neither reads nor changes what the engine keeps and stays out".
 pub data Request : Type 0 where
   propose : List ℕ → Request
   preflight : ℕ → ℕ → Request
@@ -29,6 +30,7 @@ pub data Request : Type 0 where
   faultyVote : Column → ℕ → ℕ → Request
   show : ℕ → Request
   generations : ℕ → Request
+  snapshot : Request
 
 -- the vault and the job that a step names, 0 where it names none
 abbrev pub vaultIn : Request → ℕ
@@ -38,6 +40,7 @@ vaultIn (commit v job signers) = v
 vaultIn (faultyVote column v job) = v
 vaultIn (show job) = 0
 vaultIn (generations job) = 0
+vaultIn snapshot = 0
 
 abbrev pub jobIn : Request → ℕ
 jobIn (propose bytes) = 0
@@ -46,6 +49,7 @@ jobIn (commit v job signers) = job
 jobIn (faultyVote column v job) = job
 jobIn (show job) = job
 jobIn (generations job) = job
+jobIn snapshot = 0
 
 abbrev pub decisionOf : Ledger → List ℕ → Request → Decision
 decisionOf l journal (propose bytes) = proposeDecision l journal bytes
@@ -54,6 +58,7 @@ decisionOf l journal (commit v job signers) = commitDecision l journal v job sig
 decisionOf l journal (faultyVote column v job) = faultyVoteDecision l journal column v job
 decisionOf l journal (show job) = showDecision l journal job
 decisionOf l journal (generations job) = generationsDecision l journal job
+decisionOf l journal snapshot = snapshotDecision l
 
 -- every step is a decision carried out: the right sides are those of `proposeOf` to `generationsOf`, which the contracts cite
 abbrev pub stepOf : Ledger → List ℕ → Request → Reply
@@ -67,6 +72,7 @@ leftBy l journal (commit v job signers) = journal
 leftBy l journal (faultyVote column v job) = journal
 leftBy l journal (show job) = journal
 leftBy l journal (generations job) = journal
+leftBy l journal snapshot = journal
 
 -- "each step gets all that the engine keeps and the booked bytes as the step before left them"
 pub record World : Type 0 where

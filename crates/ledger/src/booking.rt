@@ -13,6 +13,7 @@ impl Change {
             Change::Sign(_) => false,
             Change::Hold(_) => false,
             Change::Record(_) => false,
+            Change::See(_) => false,
         }
     }
 
@@ -25,6 +26,7 @@ impl Change {
             Change::Sign(_) => false,
             Change::Hold(_) => false,
             Change::Record(_) => false,
+            Change::See(_) => false,
         }
     }
 }

@@ -16,6 +16,7 @@ use federation::Settings;
 use journal::CAPACITY;
 use outcome::Outcome;
 use outcome::Refusal;
+use sets::JobSet;
 
 fn is_arrival(order: &[u8], job: u8, i: usize) -> bool
     requires { ⌜ i < length (now order) ⌝ }
@@ -48,11 +49,14 @@ impl Ledger {
         };
         let votes = [none; 128];
         let order = [0u8; 128];
+        let seen = JobSet::empty();
         let vaults = [Vault::new(); 16];
         Ledger {
             settings,
             booked: 0,
             arrivals: 0,
+            next: 0,
+            seen,
             votes,
             order,
             vaults,
@@ -84,10 +88,13 @@ impl Ledger {
     {
         let settings = self.settings;
         if settings.is_lawful() {
-            if self.booked <= CAPACITY {
-                return self.arrivals <= CAPACITY;
+            if self.booked > CAPACITY {
+                return false;
             }
-            return false;
+            if self.arrivals > CAPACITY {
+                return false;
+            }
+            return self.next < settings.n;
         }
         false
     }
@@ -135,6 +142,12 @@ impl Ledger {
             }
             Change::Record(column) => {
                 self.votes[j] = votes.with(column, vault);
+                self
+            }
+            Change::See(seen) => {
+                let next = snapshot::following(self.settings.n, self.next);
+                self.seen = seen;
+                self.next = next;
                 self
             }
         }

@@ -24,6 +24,7 @@ ghost use Rattle.ledger.specs.Decisions.{
   proposal,
   settling,
   preflighting,
+  snapshotting,
 };
 ghost use Rattle.ledger.specs.Given.{Aged, Known, Searchable};
 ghost use Rattle.ledger.specs.Holders.{isHeld};
@@ -219,6 +220,17 @@ pub fn show(gate: Verdict, settings: Settings, votes: Votes) -> Decision
     match gate {
         Verdict::Pass => answer(status(settings, votes)),
         Verdict::Fail(why) => refuse(why),
+    }
+}
+
+// Kind 9: the snapshot's visit to the next vault, which holds `held`. The value is the number of jobs seen in this round.
+pub fn snapshot(settings: Settings, next: u8, seen: JobSet, held: JobSet) -> Decision
+    ensures { λ r. ⌜ r ≡ snapshotting settings next seen held ⌝ }
+{
+    let all = snapshot::seen_after(settings, next, seen, held);
+    Decision {
+        outcome: Outcome::Done(all.count()),
+        change: Change::See(all),
     }
 }
 

@@ -40,13 +40,15 @@ pub enum Column {
     Acknowledgements,
 }
 
-// What a step changes: a vault that signs or holds comes back in its new state; of a faulty vault only its vote is recorded.
+// What a step changes: a vault that signs or holds comes back in its new state; of a faulty vault only its vote is recorded; a snapshot's visit leaves the
+// jobs seen so far.
 pub enum Change {
     Nothing,
     Book,
     Sign(Vault),
     Hold(Vault),
     Record(Column),
+    See(JobSet),
 }
 
 pub struct Decision {
@@ -54,11 +56,14 @@ pub struct Decision {
     pub change: Change,
 }
 
-// Votes are kept for each job; order has the jobs in the order of their arrival.
+// Votes are kept for each job; order has the jobs in the order of their arrival; next is the vault that a snapshot visits next, and seen the jobs that its
+// round has seen.
 pub struct Ledger {
     pub settings: Settings,
     pub booked: usize,
     pub arrivals: usize,
+    pub next: u8,
+    pub seen: JobSet,
     pub votes: [Votes; 128],
     pub order: [u8; 128],
     pub vaults: [Vault; 16],

@@ -14,6 +14,7 @@ ghost use Rattle.ledger.specs.Steps.{
   preflightOf,
   proposeOf,
   showOf,
+  snapshotOf,
 };
 use ledger::Column;
 use ledger::Ledger;
@@ -144,4 +145,24 @@ pub fn generations(ledger: Ledger, journal: &[u8], job: u8) -> Outcome
         }
         Verdict::Fail(why) => Outcome::Refused(why),
     }
+}
+
+// Kind 9: a snapshot's visit to the next vault. The value is the number of jobs seen in this round; it needs no journal.
+pub fn snapshot(ledger: Ledger) -> Reply
+    ensures { λ r. ⌜ r ≡ snapshotOf ledger ⌝ }
+{
+    if ledger.is_sane() {
+        let settings = ledger.settings;
+        let next = ledger.next;
+        let v = next as usize;
+        let state = ledger.vaults[v];
+        let seen = ledger.seen;
+        return gates::carry(
+            ledger,
+            decisions::snapshot(settings, next, seen, state.held),
+            0,
+            0,
+        );
+    }
+    gates::turn_back(ledger, Refusal::Settings)
 }

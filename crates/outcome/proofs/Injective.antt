@@ -1,78 +1,55 @@
 -- No two cases have one number: the outcome is found again from its number and its value. So what is printed of a
 -- step, the two figures, tells its outcome, and a definition that speaks of a number speaks of one case.
-use mathlib.Core.Path.{_≡_, refl, sym, ap, ap₂, _∙_}
 use mathlib.Core.Bool.{cond}
+use mathlib.Core.List.{List, [], _∷_}
+use mathlib.Core.Path.{_≡_, refl, sym, ap, ap₂, _∙_}
 use Prim.Native.Nat.{ℕ}
 use lib.Dec.{eqb}
 use Rattle.outcome.specs.declared.Outcome.{Outcome}
 use Rattle.outcome.specs.declared.Outcome.the-variants.{Done, Refused}
 use Rattle.outcome.specs.declared.Refusal.{Refusal}
-use Rattle.outcome.specs.declared.Refusal.the-variants.{
-  Settings,
-  Unreadable,
-  NoVault,
-  NotBooked,
-  WrongVault,
-  Malformed,
-  Repeated,
-  Unsupported,
-  Unbalanced,
-  Full,
-  NotCreated,
-  Retired,
-  InputReserved,
-  OutputReserved,
-  NotSigned,
-  TooFewSigners,
-  TooManyAbsent,
-  NotHeld,
-}
 use Rattle.outcome.specs.Figures.{refusalNumber, refusalValue, numberOf, valueOf}
 
--- the refusal with these figures
-abbrev refusalAt : ℕ → ℕ → Refusal
-refusalAt number value =
-    cond (eqb number 1) Settings
-    (cond (eqb number 2) Unreadable
-    (cond (eqb number 3) NoVault
-    (cond (eqb number 4) NotBooked
-    (cond (eqb number 5) WrongVault
-    (cond (eqb number 6) Malformed
-    (cond (eqb number 7) (Repeated value)
-    (cond (eqb number 8) (Unsupported value)
-    (cond (eqb number 9) Unbalanced
-    (cond (eqb number 10) Full
-    (cond (eqb number 11) (NotCreated value)
-    (cond (eqb number 12) (Retired value)
-    (cond (eqb number 13) (InputReserved value)
-    (cond (eqb number 14) (OutputReserved value)
-    (cond (eqb number 15) NotSigned
-    (cond (eqb number 16) TooFewSigners
-    (cond (eqb number 17) TooManyAbsent NotHeld))))))))))))))))
+-- all refusals, with this value where one is carried
+abbrev table : ℕ → List Refusal
+table value =
+    Refusal.Settings ∷ Refusal.Unreadable ∷ Refusal.NoVault ∷ Refusal.NotBooked ∷ Refusal.WrongVault ∷ Refusal.Malformed
+    ∷ Refusal.Repeated value ∷ Refusal.Unsupported value ∷ Refusal.Unbalanced ∷ Refusal.Full
+    ∷ Refusal.NotCreated value ∷ Refusal.Retired value ∷ Refusal.InputReserved value ∷ Refusal.OutputReserved value
+    ∷ Refusal.NotSigned ∷ Refusal.TooFewSigners ∷ Refusal.TooManyAbsent ∷ Refusal.NotHeld
+    ∷ Refusal.Reversed value ∷ Refusal.NoneBalances ∷ Refusal.NoContest ∷ []
+
+-- the refusal among these that has this number; where none has, a step carried out
+abbrev numbered : ℕ → ℕ → List Refusal → Outcome
+numbered number value [] = Done value
+numbered number value (r ∷ l) = cond (eqb (refusalNumber r) number) (Refused r) (numbered number value l)
 
 -- the outcome with these figures
 abbrev pub outcomeAt : ℕ → ℕ → Outcome
-outcomeAt number value = cond (eqb number 0) (Done value) (Refused (refusalAt number value))
+outcomeAt number value = numbered number value (table value)
 
 refusal-back : (r : Refusal) → outcomeAt (refusalNumber r) (refusalValue r) ≡ Refused r
-refusal-back Settings = refl
-refusal-back Unreadable = refl
-refusal-back NoVault = refl
-refusal-back NotBooked = refl
-refusal-back WrongVault = refl
-refusal-back Malformed = refl
-refusal-back (Repeated e) = refl
-refusal-back (Unsupported e) = refl
-refusal-back Unbalanced = refl
-refusal-back Full = refl
-refusal-back (NotCreated e) = refl
-refusal-back (Retired e) = refl
-refusal-back (InputReserved e) = refl
-refusal-back (OutputReserved e) = refl
-refusal-back NotSigned = refl
-refusal-back TooFewSigners = refl
-refusal-back TooManyAbsent = refl
-refusal-back NotHeld = refl
+refusal-back Refusal.Settings = refl
+refusal-back Refusal.Unreadable = refl
+refusal-back Refusal.NoVault = refl
+refusal-back Refusal.NotBooked = refl
+refusal-back Refusal.WrongVault = refl
+refusal-back Refusal.Malformed = refl
+refusal-back (Refusal.Repeated e) = refl
+refusal-back (Refusal.Unsupported e) = refl
+refusal-back Refusal.Unbalanced = refl
+refusal-back Refusal.Full = refl
+refusal-back (Refusal.NotCreated e) = refl
+refusal-back (Refusal.Retired e) = refl
+refusal-back (Refusal.InputReserved e) = refl
+refusal-back (Refusal.OutputReserved e) = refl
+refusal-back Refusal.NotSigned = refl
+refusal-back Refusal.TooFewSigners = refl
+refusal-back Refusal.TooManyAbsent = refl
+refusal-back Refusal.NotHeld = refl
+refusal-back (Refusal.Reversed e) = refl
+refusal-back Refusal.NoneBalances = refl
+refusal-back Refusal.NoContest = refl
 
 pub outcome-back : (o : Outcome) → outcomeAt (numberOf o) (valueOf o) ≡ o
 outcome-back (Done v) = refl

@@ -3,68 +3,36 @@ use Prim.Native.Nat.{ℕ}
 use Rattle.outcome.specs.declared.Outcome.{Outcome}
 use Rattle.outcome.specs.declared.Outcome.the-variants.{Done, Refused}
 use Rattle.outcome.specs.declared.Refusal.{Refusal}
-use Rattle.outcome.specs.declared.Refusal.the-variants.{
-  Settings,
-  Unreadable,
-  NoVault,
-  NotBooked,
-  WrongVault,
-  Malformed,
-  Repeated,
-  Unsupported,
-  Unbalanced,
-  Full,
-  NotCreated,
-  Retired,
-  InputReserved,
-  OutputReserved,
-  NotSigned,
-  TooFewSigners,
-  TooManyAbsent,
-  NotHeld,
-}
 
--- a refusal's place in the table
+-- a refusal's place in the table, and the entry of refusals 7, 8 and 11 to 14, else 0; 24, with an entry, and 25 (M-110) and 26 (M-111) are document 02's
+abbrev figuresOf : Refusal → ℕ × ℕ
+figuresOf Refusal.Settings = (1, 0)
+figuresOf Refusal.Unreadable = (2, 0)
+figuresOf Refusal.NoVault = (3, 0)
+figuresOf Refusal.NotBooked = (4, 0)
+figuresOf Refusal.WrongVault = (5, 0)
+figuresOf Refusal.Malformed = (6, 0)
+figuresOf (Refusal.Repeated e) = (7, e)
+figuresOf (Refusal.Unsupported e) = (8, e)
+figuresOf Refusal.Unbalanced = (9, 0)
+figuresOf Refusal.Full = (10, 0)
+figuresOf (Refusal.NotCreated e) = (11, e)
+figuresOf (Refusal.Retired e) = (12, e)
+figuresOf (Refusal.InputReserved e) = (13, e)
+figuresOf (Refusal.OutputReserved e) = (14, e)
+figuresOf Refusal.NotSigned = (15, 0)
+figuresOf Refusal.TooFewSigners = (16, 0)
+figuresOf Refusal.TooManyAbsent = (17, 0)
+figuresOf Refusal.NotHeld = (18, 0)
+figuresOf (Refusal.Reversed e) = (24, e)
+figuresOf Refusal.NoneBalances = (25, 0)
+figuresOf Refusal.NoContest = (26, 0)
+
 abbrev pub refusalNumber : Refusal → ℕ
-refusalNumber Settings = 1
-refusalNumber Unreadable = 2
-refusalNumber NoVault = 3
-refusalNumber NotBooked = 4
-refusalNumber WrongVault = 5
-refusalNumber Malformed = 6
-refusalNumber (Repeated e) = 7
-refusalNumber (Unsupported e) = 8
-refusalNumber Unbalanced = 9
-refusalNumber Full = 10
-refusalNumber (NotCreated e) = 11
-refusalNumber (Retired e) = 12
-refusalNumber (InputReserved e) = 13
-refusalNumber (OutputReserved e) = 14
-refusalNumber NotSigned = 15
-refusalNumber TooFewSigners = 16
-refusalNumber TooManyAbsent = 17
-refusalNumber NotHeld = 18
+refusalNumber r = figuresOf r .0
 
--- the entry of refusals 7, 8 and 11 to 14, else 0
 abbrev pub refusalValue : Refusal → ℕ
-refusalValue Settings = 0
-refusalValue Unreadable = 0
-refusalValue NoVault = 0
-refusalValue NotBooked = 0
-refusalValue WrongVault = 0
-refusalValue Malformed = 0
-refusalValue (Repeated e) = e
-refusalValue (Unsupported e) = e
-refusalValue Unbalanced = 0
-refusalValue Full = 0
-refusalValue (NotCreated e) = e
-refusalValue (Retired e) = e
-refusalValue (InputReserved e) = e
-refusalValue (OutputReserved e) = e
-refusalValue NotSigned = 0
-refusalValue TooFewSigners = 0
-refusalValue TooManyAbsent = 0
-refusalValue NotHeld = 0
+refusalValue r = figuresOf r .1
 
 -- a step carried out is 0 with its value
 abbrev pub numberOf : Outcome → ℕ

@@ -2,7 +2,7 @@
 ghost use mathlib.Core.Path.{_≡_};
 ghost use Rattle.outcome.specs.Figures.{numberOf, valueOf, refusalNumber, refusalValue};
 
-// The refusals, in the order of document 01's table. Where the table says so, a case carries the first offending entry.
+// The refusals, in the order of document 01's table, then of document 02. Where they say so, a case carries the first offending entry.
 pub enum Refusal {
     // 1: header or settings wrong, or file too long
     Settings,
@@ -40,6 +40,12 @@ pub enum Refusal {
     TooManyAbsent,
     // 18: no correct vault holds the job
     NotHeld,
+    // 24: an entry's lowest count exceeds its highest
+    Reversed(u8),
+    // 25: no choice of counts within their ranges balances
+    NoneBalances,
+    // 26: no contest has these numbers
+    NoContest,
 }
 
 // Done carries the step's value.
@@ -54,57 +60,48 @@ pub enum Verdict {
     Fail(Refusal),
 }
 
+// A refusal's number in document 01's table or in document 02, and the entry that it carries, else 0.
+struct Figures(u8, u8);
+
 impl Refusal {
-    // Its number in document 01's table.
-    pub fn number(self) -> u8
-        ensures { λ r. ⌜ r ≡ refusalNumber self ⌝ }
+    fn figures(self) -> Figures
+        ensures { λ r. ⌜ (r .0 ≡ refusalNumber self) × (r .1 ≡ refusalValue self) ⌝ }
     {
         match self {
-            Refusal::Settings => 1,
-            Refusal::Unreadable => 2,
-            Refusal::NoVault => 3,
-            Refusal::NotBooked => 4,
-            Refusal::WrongVault => 5,
-            Refusal::Malformed => 6,
-            Refusal::Repeated(_) => 7,
-            Refusal::Unsupported(_) => 8,
-            Refusal::Unbalanced => 9,
-            Refusal::Full => 10,
-            Refusal::NotCreated(_) => 11,
-            Refusal::Retired(_) => 12,
-            Refusal::InputReserved(_) => 13,
-            Refusal::OutputReserved(_) => 14,
-            Refusal::NotSigned => 15,
-            Refusal::TooFewSigners => 16,
-            Refusal::TooManyAbsent => 17,
-            Refusal::NotHeld => 18,
+            Refusal::Settings => Figures(1, 0),
+            Refusal::Unreadable => Figures(2, 0),
+            Refusal::NoVault => Figures(3, 0),
+            Refusal::NotBooked => Figures(4, 0),
+            Refusal::WrongVault => Figures(5, 0),
+            Refusal::Malformed => Figures(6, 0),
+            Refusal::Repeated(entry) => Figures(7, entry),
+            Refusal::Unsupported(entry) => Figures(8, entry),
+            Refusal::Unbalanced => Figures(9, 0),
+            Refusal::Full => Figures(10, 0),
+            Refusal::NotCreated(entry) => Figures(11, entry),
+            Refusal::Retired(entry) => Figures(12, entry),
+            Refusal::InputReserved(entry) => Figures(13, entry),
+            Refusal::OutputReserved(entry) => Figures(14, entry),
+            Refusal::NotSigned => Figures(15, 0),
+            Refusal::TooFewSigners => Figures(16, 0),
+            Refusal::TooManyAbsent => Figures(17, 0),
+            Refusal::NotHeld => Figures(18, 0),
+            Refusal::Reversed(entry) => Figures(24, entry),
+            Refusal::NoneBalances => Figures(25, 0),
+            Refusal::NoContest => Figures(26, 0),
         }
     }
 
-    // The entry that it carries, else 0.
+    pub fn number(self) -> u8
+        ensures { λ r. ⌜ r ≡ refusalNumber self ⌝ }
+    {
+        self.figures().0
+    }
+
     pub fn value(self) -> u8
         ensures { λ r. ⌜ r ≡ refusalValue self ⌝ }
     {
-        match self {
-            Refusal::Settings => 0,
-            Refusal::Unreadable => 0,
-            Refusal::NoVault => 0,
-            Refusal::NotBooked => 0,
-            Refusal::WrongVault => 0,
-            Refusal::Malformed => 0,
-            Refusal::Repeated(entry) => entry,
-            Refusal::Unsupported(entry) => entry,
-            Refusal::Unbalanced => 0,
-            Refusal::Full => 0,
-            Refusal::NotCreated(entry) => entry,
-            Refusal::Retired(entry) => entry,
-            Refusal::InputReserved(entry) => entry,
-            Refusal::OutputReserved(entry) => entry,
-            Refusal::NotSigned => 0,
-            Refusal::TooFewSigners => 0,
-            Refusal::TooManyAbsent => 0,
-            Refusal::NotHeld => 0,
-        }
+        self.figures().1
     }
 }
 

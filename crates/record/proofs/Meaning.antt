@@ -1,19 +1,19 @@
 -- The tests of entries and labels decide what specs/Meaning.antt says: their connectives are read off one by one.
-use mathlib.Core.Bool.{Bool, cond, false, true, true≢false}
-use mathlib.Core.Logic.{inl, inr, ⊎-elim}
-use mathlib.Core.Path.{refl, sym}
+use mathlib.Core.Bool.{Bool, _&&_, cond, false, true, true≢false}
+use mathlib.Core.Logic.{_⊎_, inl, inr, ⊎-elim}
+use mathlib.Core.Path.{_≡_, refl, sym}
 use Prim.Native.Nat.{_-_, _<_, _≤_, ℕ}
 use native.Mathlib.Omega.{arith}
-use lib.Dec.{ltb}
-use borrow.Author.Tests.{lt-ltb}
+use lib.Dec.{eqb, ltb}
+use borrow.Author.Tests.{lt-ltb, ne-eqb}
 use Rattle.base.proofs.Reflect.{reflect-and, reflect-as, reflect-cond, reflect-eq, reflect-lt, reflect-or}
-use Rattle.base.proofs.Reflect.{refuted}
+use Rattle.base.proofs.Reflect.{by-cases, refuted}
 use Rattle.base.proofs.Search.{reflect-all}
 use Rattle.base.specs.Reflect.{Reflects}
 use Rattle.record.proofs.Ranges.{reflect-between}
 use Rattle.record.specs.Entries.{isUsed}
-use Rattle.record.specs.Labels.{charAt, isAlphanumeric, isLabel, media, mediumOf}
-use Rattle.record.specs.Meaning.{Alphanumeric, Label, Used}
+use Rattle.record.specs.Labels.{M8, charAt, isAlphanumeric, isBetween, isLabel, isM8, media, mediumOf, typeL}
+use Rattle.record.specs.Meaning.{Alphanumeric, EndsL, EndsM8, Label, Used}
 use Rattle.record.specs.declared.Job.{Job}
 
 pub reflect-used : (j : Job) (i : ℕ) → Reflects (isUsed j i) (Used j i)
@@ -30,9 +30,35 @@ reflect-alphanumeric : (c : ℕ) → Reflects (isAlphanumeric c) (Alphanumeric c
 unfolding isAlphanumeric
 reflect-alphanumeric c = reflect-or (reflect-between 48 57 c) (reflect-between 65 90 c)
 
-medium-by : {P : Type 0} (t : Bool) (d : ℕ) → Reflects t P → (P → d - 53 < media) → Reflects (ltb (cond t (d - 53) media) media) P
-medium-by true d r h = record { sound = λ e. r .sound refl; complete = λ p. lt-ltb _ _ (h p) }
-medium-by false d r h = record { sound = λ e. absurd (true≢false (sym e)); complete = λ p. absurd (refuted r refl p) }
+-- a choice of two media by a test
+medium-by : {P Q : Type 0} (t : Bool) (m n : ℕ) → Reflects t P → (P → m < media) → Reflects (ltb n media) Q
+    → Reflects (ltb (cond t m n) media) (P ⊎ Q)
+medium-by true m n r h q = record { sound = λ e. inl (r .sound refl); complete = λ p. lt-ltb _ _ (h (r .sound refl)) }
+medium-by false m n r h q = record { sound = λ e. inr (q .sound e); complete = ⊎-elim (λ p. absurd (refuted r refl p)) (q .complete) }
+
+-- `media` is no medium
+no-medium : Reflects (ltb media media) ⊥
+no-medium = record { sound = λ e. absurd (true≢false (sym e)); complete = λ p. absurd p }
+
+pub reflect-m8 : (l : ℕ) → Reflects (isM8 l) (EndsM8 l)
+reflect-m8 l = reflect-and (reflect-eq (charAt l 6) 77) (reflect-eq (charAt l 7) 56)
+
+reflect-l : (l : ℕ) → Reflects (eqb (charAt l 6) 76 && isBetween 53 57 (charAt l 7)) (EndsL l)
+reflect-l l = reflect-and (reflect-eq (charAt l 6) 76) (reflect-between 53 57 (charAt l 7))
+
+pub reflect-type-l : (l : ℕ) → Reflects (ltb (typeL l) media) (EndsL l)
+reflect-type-l l =
+    reflect-as
+    (medium-by _ (charAt l 7 - 53) media (reflect-l l) (λ p. omega (arith, p .1 .0, p .1 .1)) no-medium)
+    (⊎-elim (λ p. p) absurd)
+    inl
+
+-- `L` and a digit never name M8
+pub type-l-other : (l : ℕ) → eqb (typeL l) M8 ≡ false
+type-l-other l =
+    by-cases (λ t. eqb (cond t (charAt l 7 - 53) media) M8 ≡ false) _
+    (λ t. let d = reflect-l l .sound t in ne-eqb (charAt l 7 - 53) M8 (λ q. absurd (omega (arith, d .1 .0, d .1 .1, q))))
+    (λ t. refl)
 
 pub reflect-label : (l : ℕ) → Reflects (isLabel l) (Label l)
 unfolding isLabel mediumOf
@@ -40,6 +66,6 @@ reflect-label l =
     reflect-as
     (reflect-and
     (reflect-all 6 (λ i h. reflect-alphanumeric (charAt l i)))
-    (medium-by _ (charAt l 7) (reflect-and (reflect-eq (charAt l 6) 76) (reflect-between 53 57 (charAt l 7))) (λ p. omega (arith, p .1 .0, p .1 .1))))
-    (λ h. record { name = h .0; letter = h .1 .0; digit = h .1 .1 })
-    (λ h. (h .name, (h .letter, h .digit)))
+    (medium-by (isM8 l) M8 (typeL l) (reflect-m8 l) (λ p. omega arith) (reflect-type-l l)))
+    (λ h. record { name = h .0; ending = ⊎-elim inr inl (h .1) })
+    (λ h. (h .name, ⊎-elim inr inl (h .ending)))

@@ -1,12 +1,12 @@
--- The house table ("Records"): what each drive, 5 to 9, reads and writes.
+-- What each drive, 5 to 9, reads and writes: the house table ("Records"), and M8 (M-100).
 use mathlib.Core.Bool.{Bool, false, cond, _&&_, _||_}
 use mathlib.Core.List.{List, [], _∷_}
 use Prim.Native.Nat.{ℕ, _-_}
 use lib.Dec.{eqb}
 use lib.ListN.{getD}
-use Rattle.record.specs.Labels.{isBetween, L5, L6, L7, L8, L9}
+use Rattle.record.specs.Labels.{isBetween, L5, L6, L7, L8, L9, M8}
 
--- a row for each of drives 5 to 9
+-- document 01's table, a row for each of drives 5 to 9
 abbrev pub readRows : List (List ℕ)
 readRows =
     (L5 ∷ [])
@@ -32,6 +32,10 @@ isListed m (x ∷ xs) = eqb m x || isListed m xs
 unfoldable pub isDrive : ℕ → Bool
 isDrive d = isBetween 5 9 d
 
--- drive d writes, or reads, medium m
+-- document 01's table has it that drive d writes, or reads, medium m
+abbrev pub isInTable : Bool → ℕ → ℕ → Bool
+isInTable writing d m = isListed m (getD (cond writing writeRows readRows) (d - 5) [])
+
+-- drive d writes, or reads, medium m; of M8 "Drive 8, and no other, reads and writes them" (M-100)
 unfoldable pub supports : Bool → ℕ → ℕ → Bool
-supports writing d m = isDrive d && isListed m (getD (cond writing writeRows readRows) (d - 5) [])
+supports writing d m = isDrive d && (isInTable writing d m || (eqb d 8 && eqb m M8))

@@ -1,4 +1,4 @@
--- A label is six of A–Z or 0–9, then `L` and a digit 5 to 9, the medium ("Records").
+-- A label is six of A–Z or 0–9, then the medium ("Records"): `L` and a digit 5 to 9, or `M8` (M-100).
 use mathlib.Core.Bool.{Bool, cond, _&&_, _||_}
 use Prim.Native.Nat.{ℕ, _-_, _*_, _/_, _%_, _^_}
 use lib.Dec.{eqb, leb, ltb}
@@ -33,13 +33,25 @@ L8 = 3
 abbrev pub L9 : ℕ
 L9 = 4
 
+-- generation 7 formatted as Type M
+abbrev pub M8 : ℕ
+M8 = 5
+
 -- how many media there are
 abbrev pub media : ℕ
-media = 5
+media = 6
 
--- the medium that a label names by its last two characters, `L` and 5 to 9; else `media`, which is none
+-- the last two characters are `M8`
+abbrev pub isM8 : ℕ → Bool
+isM8 label = eqb (charAt label 6) 77 && eqb (charAt label 7) 56
+
+-- the medium that they name if they are `L` and 5 to 9; else `media`, which is none. Until M-100 this was the whole rule
+abbrev pub typeL : ℕ → ℕ
+typeL label = cond (eqb (charAt label 6) 76 && isBetween 53 57 (charAt label 7)) (charAt label 7 - 53) media
+
+-- the medium that a label names
 unfoldable pub mediumOf : ℕ → ℕ
-mediumOf label = cond (eqb (charAt label 6) 76 && isBetween 53 57 (charAt label 7)) (charAt label 7 - 53) media
+mediumOf label = cond (isM8 label) M8 (typeL label)
 
 unfoldable pub isLabel : ℕ → Bool
 isLabel label = allBelow 6 (λ i. isAlphanumeric (charAt label i)) && ltb (mediumOf label) media

@@ -13,8 +13,18 @@ Used j i = ((i < 4) × (i < j .inputs)) ⊎ ((4 ≤ i) × (i - 4 < j .outputs))
 abbrev pub Alphanumeric : ℕ → Type 0
 Alphanumeric c = ((48 ≤ c) × (c ≤ 57)) ⊎ ((65 ≤ c) × (c ≤ 90))
 
--- six of A–Z or 0–9, then `L` and a digit 5 to 9
-pub record Label (label : ℕ) : Type 0 where
+-- six of A–Z or 0–9, then two characters with this ending
+pub record Named (Ending : ℕ → Type 0) (label : ℕ) : Type 0 where
   pub name : Every 6 (λ i. Alphanumeric (charAt label i))
-  pub letter : charAt label 6 ≡ 76
-  pub digit : (53 ≤ charAt label 7) × (charAt label 7 ≤ 57)
+  pub ending : Ending label
+
+-- `L` and a digit 5 to 9
+abbrev pub EndsL : ℕ → Type 0
+EndsL label = (charAt label 6 ≡ 76) × ((53 ≤ charAt label 7) × (charAt label 7 ≤ 57))
+
+-- `M8`
+abbrev pub EndsM8 : ℕ → Type 0
+EndsM8 label = (charAt label 6 ≡ 77) × (charAt label 7 ≡ 56)
+
+abbrev pub Label : ℕ → Type 0
+Label label = Named (λ l. EndsL l ⊎ EndsM8 l) label

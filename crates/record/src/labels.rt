@@ -2,10 +2,12 @@
 ghost use mathlib.Core.Path.{_≡_};
 ghost use Prim.Native.Nat.{_<_};
 ghost use Rattle.base.specs.Search.{allBelow};
-ghost use Rattle.record.specs.Labels.{isBetween, charAt, isAlphanumeric, mediumOf, isLabel};
+ghost use Rattle.record.specs.Labels.{isBetween, charAt, isAlphanumeric, isM8, typeL, mediumOf, isLabel};
 
-// How many media there are: the columns of the drive table.
-pub const MEDIA: usize = 5;
+// How many media there are: the columns of the drive table, L5 to L9 and M8.
+pub const MEDIA: usize = 6;
+
+const M8: usize = 5;
 
 pub fn between(low: u8, high: u8, x: u8) -> bool
     ensures { λ r. ⌜ r ≡ isBetween low high x ⌝ }
@@ -36,9 +38,19 @@ fn alphanumeric_at(label: u64, i: u32) -> bool
     between(65, 90, c)
 }
 
-// The medium's column in the drive table, or MEDIA where the label names none.
-pub fn medium_of(label: u64) -> usize
-    ensures { λ r. ⌜ r ≡ mediumOf label ⌝ }
+// Whether the label ends in `M8`.
+fn is_m8(label: u64) -> bool
+    ensures { λ r. ⌜ r ≡ isM8 label ⌝ }
+{
+    if char_at(label, 6) == b'M' {
+        return char_at(label, 7) == b'8';
+    }
+    false
+}
+
+// The column of a label that ends in `L` and a digit 5 to 9, MEDIA of any other.
+fn type_l(label: u64) -> usize
+    ensures { λ r. ⌜ r ≡ typeL label ⌝ }
 {
     if char_at(label, 6) != b'L' {
         return MEDIA;
@@ -48,6 +60,16 @@ pub fn medium_of(label: u64) -> usize
         return (digit - 53) as usize;
     }
     MEDIA
+}
+
+// The medium's column in the drive table, or MEDIA where the label names none.
+pub fn medium_of(label: u64) -> usize
+    ensures { λ r. ⌜ r ≡ mediumOf label ⌝ }
+{
+    if is_m8(label) {
+        return M8;
+    }
+    type_l(label)
 }
 
 fn named(label: u64) -> bool

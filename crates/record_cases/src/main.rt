@@ -1,5 +1,6 @@
 // Examines a table of records and prints a line for each: the record, the byte that is off and by how much, and the two
-// figures of the answer. Document 01 decides what they must be; `stdout` holds them.
+// figures of the answer; then each cell of the drive table, by drive and label. Documents 01 and 02 decide what they
+// must be; `stdout` holds them.
 ghost use Prim.Native.Nat.{_<_};
 use libc::STDOUT_FILENO;
 use outcome::Outcome;
@@ -220,6 +221,90 @@ fn drives() {
     );
 }
 
+fn line(job: Job, name: &[u8], drive: u8, label: &[u8; 8]) {
+    let mut bytes = [0u8; 100];
+    codec::write(job, &mut bytes);
+    io::write_all(STDOUT_FILENO, name);
+    io::write_all(STDOUT_FILENO, b" ");
+    io::print_decimal(STDOUT_FILENO, drive as u64);
+    io::write_all(STDOUT_FILENO, b" ");
+    io::write_all(STDOUT_FILENO, label);
+    io::write_all(STDOUT_FILENO, b" ");
+    report(examined(&bytes));
+}
+
+fn taken_in(drive: u8, label: &[u8; 8]) {
+    line(accession_of(drive, tape(label, 5)), b"in", drive, label);
+}
+
+fn moved(drive: u8, from: &[u8; 8], to: &[u8; 8], name: &[u8], label: &[u8; 8]) {
+    line(
+        move_one(drive, tape(from, 5), tape(to, 5)),
+        name,
+        drive,
+        label,
+    );
+}
+
+// A tape of the medium taken in, migrated to the drive's own medium, and from it.
+fn cell(drive: u8, own: &[u8; 8], label: &[u8; 8]) {
+    taken_in(drive, label);
+    moved(drive, label, own, b"from", label);
+    moved(drive, own, label, b"to", label);
+}
+
+fn row(drive: u8, own: &[u8; 8]) {
+    cell(drive, own, b"VAA001L5");
+    cell(drive, own, b"VAA001L6");
+    cell(drive, own, b"VAA001L7");
+    cell(drive, own, b"VAA001L8");
+    cell(drive, own, b"VAA001L9");
+    cell(drive, own, b"VAA001M8");
+}
+
+fn table() {
+    row(5, b"VAB001L5");
+    row(6, b"VAB001L6");
+    row(7, b"VAB001L7");
+    row(8, b"VAB001L8");
+    row(9, b"VAB001L9");
+}
+
+fn accession_of_two(drive: u8, one: Entry, other: Entry) -> Job {
+    let z = none();
+    Job {
+        kind: 0,
+        drive,
+        inputs: 0,
+        outputs: 2,
+        entries: [z, z, z, z, one, other, z, z],
+    }
+}
+
+fn both(drive: u8, one: &[u8; 8], other: &[u8; 8], name: &[u8]) {
+    line(
+        accession_of_two(drive, tape(one, 5), tape(other, 5)),
+        name,
+        drive,
+        other,
+    );
+}
+
+// Labels that end in `M`: M8 is a medium of its own, and the only one.
+fn type_m() {
+    both(8, b"VAA001L8", b"VAA001M8", b"L8 and");
+    both(9, b"VAA001L8", b"VAA001M8", b"L8 and");
+    both(8, b"VAA001M8", b"VAA001M8", b"M8 and");
+    moved(8, b"VAA001M8", b"VAA001L8", b"M8 to", b"VAA001L8");
+    moved(8, b"VAA001L7", b"VAA001M8", b"L7 to", b"VAA001M8");
+    moved(8, b"VAA001L8", b"VAA001M8", b"L8 to", b"VAA001M8");
+    taken_in(8, b"VAA001M5");
+    taken_in(8, b"VAA001M6");
+    taken_in(8, b"VAA001M7");
+    taken_in(8, b"VAA001M9");
+    taken_in(8, b"VAA001N8");
+}
+
 // The first n of these bytes, too few or too many.
 fn first(bytes: &[u8], n: usize, name: &[u8]) {
     io::write_all(STDOUT_FILENO, name);
@@ -244,5 +329,7 @@ fn main() {
     sweep(full(), b"full");
     edges();
     drives();
+    table();
+    type_m();
     lengths();
 }

@@ -1,7 +1,5 @@
-pub mod Arms
+pub mod Commands
 pub mod Keeps
 pub mod OneBuffer
 pub mod Pieces
-pub mod Reading
-pub mod Storing
 pub mod Turning

@@ -1,11 +1,12 @@
 -- A start that says nothing and one piece after it fill one buffer.
 use mathlib.Core.List.{List, [], _++_, _∷_}
-use mathlib.Core.Logic.{_⊎_, inl, inr}
+use mathlib.Core.Logic.{inl, inr, ⊎-elim}
 use mathlib.Core.Path.{_∙_, _≡_, refl, subst}
 use Prim.Native.Nat.{_+_, _<_, _≤_, ℕ}
 use native.Mathlib.Omega.{arith}
 use lib.ListN.{length}
-use Rattle.run.specs.Pieces.{Advanced, Filled, Piece, Started, blank, longestText, runOf}
+use Rattle.run.specs.Pieces.{Advanced, Filled, Piece, Started, blank, runOf}
+use Rattle.steps.specs.Turned.{longestText}
 use Rattle.runfile.specs.Run.{journalSize, runText, textFrom}
 use Rattle.text.specs.Text.{Put}
 use Rattle.run.specs.declared.Progress.{Progress}
@@ -35,8 +36,9 @@ module _ (input before : List ℕ) where
 
     pub filled-on : p .pos < length input → (q : Progress) (journal numbers sets records memo after : List ℕ)
         → Advanced input p (blank journalSize) between q journal numbers sets records memo after → Filled input before after (q .written)
-    filled-on l q journal numbers sets records memo after a = record { rest = _; piece = after-silence (s .silent l) (s .piece) (a .piece); filled = by (a .filled) }
-      where
-        by : (length input ≤ q .pos) ⊎ (length between < q .written + longestText) → (textFrom input (runOf q journal) ≡ []) ⊎ (length before < q .written + longestText)
-        by (inl h) = inl (none-left input (runOf q journal) h)
-        by (inr h) = inr (subst (λ (o : List ℕ). length o < q .written + longestText) (same-start (s .silent l) (s .piece)) h)
+    filled-on l q journal numbers sets records memo after a = record {
+      rest = _;
+      piece = after-silence (s .silent l) (s .piece) (a .piece);
+      filled = ⊎-elim (λ h. inl (none-left input (runOf q journal) h))
+          (λ h. inr (subst (λ (o : List ℕ). length o < q .written + longestText) (same-start (s .silent l) (s .piece)) h)) (a .filled);
+    }

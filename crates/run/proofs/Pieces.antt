@@ -13,8 +13,8 @@ use Rattle.text.proofs.Writing.{made, then}
 pub nothing-yet : {text rest out : List ℕ} → text ≡ rest → Piece text out out 0 rest
 nothing-yet e = record { piece = []; cut = e; put = record { moved = refl; wrote = refl }; fits = omega arith }
 
-pub piece-more : {text before between after line rest rest′ : List ℕ} {at r : ℕ} → Piece text before between at rest → rest ≡ line ++ rest′ → Put between at line after r → r ≤ length before
-    → Piece text before after r rest′
+pub piece-more : {text before between after line rest rest′ : List ℕ} {at r : ℕ} → Piece text before between at rest → rest ≡ line ++ rest′
+    → Put between at line after r → r ≤ length before → Piece text before after r rest′
 piece-more {line = line} {rest′ = rest′} p e w f = record {
   piece = p .piece ++ line;
   cut = p .cut ∙ ap (λ (t : List ℕ). p .piece ++ t) e ∙ sym (append-assoc (p .piece) line rest′);

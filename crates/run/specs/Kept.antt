@@ -1,15 +1,12 @@
 -- What a run keeps beside its ledger: the journal, its index, and the generations found so far.
 use mathlib.Core.List.{List}
 use mathlib.Core.Path.{_≡_}
-use Prim.Native.Nat.{_+_, _<_, ℕ}
+use Prim.Native.Nat.{_<_, ℕ}
 use lib.ListN.{getD, length}
 use Rattle.journal.specs.Journal.{capacity, jobAt}
 use Rattle.index.specs.Index.{Indexed}
 use Rattle.generations.specs.Memo.{Memo}
 use Rattle.ledger.specs.Meaning.{Sane}
-use Rattle.ledger.specs.Steps.{journalWith}
-use Rattle.ledger.specs.declared.Change.{Change}
-use Rattle.ledger.specs.declared.Change.the-variants.{Book, Hold, Nothing, RecordAcknowledgement, RecordSignature, Sign}
 use Rattle.ledger.specs.declared.Ledger.{Ledger}
 use Rattle.runfile.specs.Run.{journalSize}
 
@@ -22,17 +19,3 @@ pub record Kept (l : Ledger) (journal numbers sets records memo : List ℕ) : Ty
   pub indexed : Indexed journal (l .booked) numbers sets records
   pub memo-size : length memo ≡ capacity
   pub right : Memo (jobAt journal (l .booked)) (l .order) (l .arrivals) memo
-
--- how many records are booked after a change
-abbrev pub bookedAfter : Change → ℕ → ℕ
-bookedAfter Nothing n = n
-bookedAfter Book n = n + 1
-bookedAfter (Sign state) n = n
-bookedAfter (Hold state) n = n
-bookedAfter RecordSignature n = n
-bookedAfter RecordAcknowledgement n = n
-
--- the journal and its index after a change
-pub record Stored (change : Change) (booked : ℕ) (journal bytes journal′ numbers′ sets′ records′ : List ℕ) : Type 0 where
-  pub written : journal′ ≡ journalWith change booked journal bytes
-  pub indexed : Indexed journal′ (bookedAfter change booked) numbers′ sets′ records′

@@ -7,15 +7,12 @@ use lib.ListN.{length, replicate, take}
 use Rattle.journal.specs.Journal.{capacity}
 use Rattle.index.specs.Places.{numbersSize, setsSize}
 use Rattle.index.specs.Records.{recordsSize}
-use Rattle.text.specs.Text.{Put, longestLine}
+use Rattle.text.specs.Text.{Put}
+use Rattle.steps.specs.Turned.{longestText}
 use Rattle.ledger.specs.declared.Ledger.{Ledger}
 use Rattle.runfile.specs.Run.{Run, begins, headerSize, journalSize, lastFrom, longest, runText, textFrom}
 use Rattle.run.specs.declared.Progress.{Progress}
 use Rattle.run.specs.Kept.{Kept}
-
--- a step's text is its line, as long as no kind of step lists more
-abbrev pub longestText : ℕ
-longestText = longestLine
 
 abbrev pub runAt : Ledger → ℕ → ℕ → List ℕ → Run
 runAt l pos count journal = record { pos = pos; count = count; ledger = l; journal = journal }
@@ -48,7 +45,8 @@ pub record Started (input before after : List ℕ) (p : Progress) : Type 0 where
   pub silent : p .pos < length input → p .written ≡ 0
   pub first : p .pos < length input → runOf p (blank journalSize) ≡ begins input
 
-pub record Advanced (input : List ℕ) (p : Progress) (journal before : List ℕ) (q : Progress) (journal′ numbers′ sets′ records′ memo′ after : List ℕ) : Type 0 where
+pub record Advanced (input : List ℕ) (p : Progress) (journal before : List ℕ) (q : Progress)
+    (journal′ numbers′ sets′ records′ memo′ after : List ℕ) : Type 0 where
   pub piece : Piece (textFrom input (runOf p journal)) before after (q .written) (textFrom input (runOf q journal′))
   pub going : Going input q journal′ numbers′ sets′ records′ memo′
   pub ends : lastFrom input (runOf p journal) ≡ lastFrom input (runOf q journal′)

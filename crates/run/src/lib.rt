@@ -1,11 +1,12 @@
 // A run file carried out, its text in pieces.
 mod buffers;
 mod header;
-mod steps;
 
+ghost use mathlib.Core.Path.{_≡_};
 ghost use Prim.Native.Nat.{_≤_};
 ghost use lib.ListN.{length};
-ghost use Rattle.run.specs.Pieces.{Advanced, Going, Started, longestText};
+ghost use Rattle.run.specs.Pieces.{Advanced, Going, Started};
+ghost use Rattle.steps.specs.Turned.{longestText};
 pub use buffers::INPUT;
 pub use buffers::JOURNAL;
 pub use buffers::PIECE;
@@ -14,6 +15,8 @@ pub use buffers::printed;
 use ledger::Ledger;
 use outcome::Outcome;
 use outcome::Refusal;
+use steps::Books;
+use steps::View;
 
 // How far a run has come: its ledger, where it reads, how many steps it has carried out, and how much of the buffer it wrote last.
 pub struct Progress {
@@ -50,6 +53,17 @@ pub fn start(input: &[u8], out: &mut [u8]) -> Progress
     }
 }
 
+fn standing(ledger: Ledger, pos: usize, count: u32, written: usize) -> Progress
+    ensures { λ r. ⌜ r ≡ record { ledger = ledger; pos = pos; count = count; written = written } ⌝ }
+{
+    Progress {
+        ledger,
+        pos,
+        count,
+        written,
+    }
+}
+
 // Carries out steps while there are more and `out` has room for the longest text of one.
 pub fn advance(
     progress: Progress,
@@ -62,7 +76,8 @@ pub fn advance(
     out: &mut [u8],
 ) -> Progress
     requires { ⌜ Going (now input) progress (now journal) (now numbers) (now sets) (now records) (now memo) ⌝ }
-    ensures { λ r. ⌜ Advanced (now (input .entry)) progress (now (journal .entry)) (now (out .entry)) r (now (journal .exit)) (now (numbers .exit)) (now (sets .exit)) (now (records .exit)) (now (memo .exit)) (now (out .exit)) ⌝ }
+    ensures { λ r. ⌜ Advanced (now (input .entry)) progress (now (journal .entry)) (now (out .entry)) r
+        (now (journal .exit)) (now (numbers .exit)) (now (sets .exit)) (now (records .exit)) (now (memo .exit)) (now (out .exit)) ⌝ }
 {
     let mut ledger = progress.ledger;
     let mut pos = progress.pos;
@@ -70,80 +85,42 @@ pub fn advance(
     let mut at: usize = 0;
     while pos < input.len() {
         if out.len() < at + text::LONGEST {
-            return Progress {
-                ledger,
-                pos,
-                count,
-                written: at,
-            };
+            return standing(ledger, pos, count, at);
         }
-        let step = steps::step_at(input, pos);
-        let kind = step.kind;
-        let vault = step.vault;
-        let job = step.job;
-        let start = pos + 1;
         count += 1;
+        let step = steps::step_at(input, pos, count);
         pos = step.end;
-        if steps::asks_age(kind) {
-            let settings = ledger.settings;
+        if step.wide {
+            let order = &ledger.order;
             let vaults = ledger.vaults;
-            let outcome = steps::age(
-                settings,
+            let books = Books {
+                settings: ledger.settings,
+                booked: ledger.booked,
+                arrivals: ledger.arrivals,
                 vaults,
-                &ledger.order,
-                ledger.arrivals,
-                &numbers[..],
-                &sets[..],
-                &journal[..],
-                ledger.booked,
-                memo,
-                job,
-            );
-            at = text::write_line(out, at, count, outcome);
+            };
+            at = steps::survey(step, books, order, numbers, sets, journal, memo, out, at);
             continue;
         }
-        let settings = ledger.settings;
-        let v = (vault % 16) as usize;
-        let j = (job % 128) as usize;
-        let state = ledger.vaults[v];
-        let decision = steps::decide(
-            kind,
-            settings,
-            ledger.booked,
-            state,
-            ledger.signatures[j],
-            ledger.acknowledgements[j],
-            &numbers[..],
-            &sets[..],
-            &records[..],
-            &journal[..],
-            input,
-            start,
-            vault,
-            job,
-        );
-        let change = decision.change;
-        let outcome = decision.outcome;
-        at = text::write_line(out, at, count, outcome);
+        let turn = ledger.vaults[(ledger.next % 16) as usize];
+        let seen = ledger.seen;
+        let shown = turn.held;
+        let view = View {
+            settings: ledger.settings,
+            booked: ledger.booked,
+            state: ledger.vaults[(step.vault % 16) as usize],
+            votes: ledger.votes[(step.job % 128) as usize],
+            next: ledger.next,
+            seen,
+            shown,
+        };
+        let told = steps::carry_out(step, view, numbers, sets, records, journal, input, out, at);
+        at = told.at;
+        let change = told.change;
         if change.is_nothing() {
             continue;
         }
-        steps::store(
-            change,
-            numbers,
-            sets,
-            records,
-            journal,
-            ledger.booked,
-            input,
-            start,
-        );
-        ledger = ledger.apply(change, vault, job);
+        ledger = ledger.apply(change, step.vault, step.job);
     }
-    Progress {
-        ledger,
-        pos,
-        count,
-        written: at,
-    }
+    standing(ledger, pos, count, at)
 }

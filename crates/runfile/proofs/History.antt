@@ -1,7 +1,7 @@
 -- A run is one of demand 3's lists. The journal of a run is lent whole: the booked bytes are its first and the rest of it follows them, and a
 -- step leaves it as long as it was. So a step of the run is a step of the list, its line tells that step's outcome, and demand 3 holds where
 -- the run ends.
-use mathlib.Core.Bool.{Bool, cond, false, true}
+use mathlib.Core.Bool.{cond, true}
 use mathlib.Core.List.{List, [], _++_, _∷_, append-nil}
 use mathlib.Core.Path.{_∙_, _≡_, ap, refl, subst, sym}
 use Prim.Native.Nat.{_*_, _+_, _-_, suc, zero, ℕ}
@@ -9,7 +9,7 @@ use native.Mathlib.Omega.{arith}
 use lib.Dec.{leb}
 use lib.ListN.{drop, drop-of-length-le, getD, length, length-take, take, take-append-drop}
 use lib.Seq.{take-length}
-use Rattle.base.proofs.Reflect.{and-true}
+use Rattle.base.proofs.Reflect.{and-true, by-cases}
 use Rattle.codec.specs.Codec.{recordSize}
 use Rattle.ledger.proofs.Demand3.{demand3}
 use Rattle.federation.proofs.Lawful.{reflect-lawful}
@@ -21,16 +21,19 @@ use Rattle.ledger.specs.Meaning.{Proposed, failed, full, insane, known, new}
 use Rattle.ledger.specs.Register.{feedAll, log, newRegister}
 use Rattle.ledger.specs.State.{newLedger}
 use Rattle.ledger.specs.Steps.{journalAfter, journalWith, proposeDecision}
-use Rattle.ledger.specs.Worlds.{Request, World, after as afterEvent, afterAll, commit, faultyVote, generations, leftBy, lend, lent, overlay, preflight, propose, show, start, stepOf}
+use Rattle.ledger.specs.Worlds.{Request, commit, faultyVote, generations, preflight, propose, show, snapshot}
+use Rattle.ledger.specs.Worlds.{World, after as afterEvent, afterAll, leftBy, lend, lent, overlay, start, stepOf}
 use Rattle.ledger.specs.declared.Decision.{Decision}
 use Rattle.ledger.specs.declared.Ledger.{Ledger}
 use Rattle.runfile.specs.History.{Item, RunKeeps, begun, eventOf, events, itemOf, itemsNext, steps, told, worldOf, worldWith}
 use Rattle.runfile.proofs.Turns.{runs-out}
-use Rattle.runfile.specs.Run.{Run, begins, commandOf, ended, isHeader, lastFrom, longest, opened, opens, runNext, runText, textFrom, textNext, textOf, turn}
+use Rattle.runfile.specs.Run.{Run, begins, commandOf, ended, isHeader, lastFrom, longest, opened, opens, runNext, turn}
+use Rattle.runfile.specs.Run.{runText, textFrom, textNext, textOf}
 use Rattle.runfile.specs.Steps.{Command, draw, journalBy, listed, replyOf, request, unreadable, wordAt}
 
 -- ---- a step leaves the journal as long as it was
-proposed-length : (l : Ledger) (journal bytes : List ℕ) (d : Decision) → Proposed l journal bytes d → length (journalWith (d .change) (l .booked) journal bytes) ≡ length journal
+proposed-length : (l : Ledger) (journal bytes : List ℕ) (d : Decision) → Proposed l journal bytes d
+    → length (journalWith (d .change) (l .booked) journal bytes) ≡ length journal
 proposed-length l journal bytes d (insane n) = refl
 proposed-length l journal bytes d (failed why s e) = refl
 proposed-length l journal bytes d (known k h) = refl
@@ -45,6 +48,7 @@ left-length l journal (commit v k signers) = refl
 left-length l journal (faultyVote c v k) = refl
 left-length l journal (show k) = refl
 left-length l journal (generations k) = refl
+left-length l journal snapshot = refl
 
 -- ---- what is lent, and what is booked afterwards
 lent-whole : (m : ℕ) (journal : List ℕ) → lend (take m journal) (length journal) (drop m journal) ≡ journal
@@ -53,7 +57,9 @@ lent-whole m journal = ap (take (length journal)) (take-append-drop m journal) �
 
 laid-over : (m : ℕ) (journal left : List ℕ) → length left ≡ length journal → overlay left (take m journal) ≡ left
 unfolding overlay
-laid-over m journal left e = ap (λ (t : List ℕ). left ++ t) (drop-of-length-le (take m journal) {i = length left} (omega (arith, e, length-take m journal))) ∙ append-nil left
+laid-over m journal left e =
+    let none = drop-of-length-le (take m journal) {i = length left} (omega (arith, e, length-take m journal)) in
+    ap (λ (t : List ℕ). left ++ t) none ∙ append-nil left
 
 -- ---- one step of the run is one of the list
 module _ (r : Run) where
@@ -76,7 +82,8 @@ module _ (r : Run) where
   step-world (draw u) items = refl
   step-world unreadable items = refl
 
-  step-told : (c : Command) (items : List Item) (k : ℕ) → told k (worldOf r) (itemOf r c ∷ items) ≡ textOf (k + 1) (r .ledger) (r .journal) c ++ told (k + 1) (worldBy c) items
+  step-told : (c : Command) (items : List Item) (k : ℕ)
+      → told k (worldOf r) (itemOf r c ∷ items) ≡ textOf (k + 1) (r .ledger) (r .journal) c ++ told (k + 1) (worldBy c) items
   unfolding listed
   step-told (request q) items k =
       ap (λ (j : List ℕ). textOf (k + 1) (r .ledger) j (request q) ++ told (k + 1) (afterEvent (worldOf r) (eventOf r q)) items) (whole q)
@@ -100,15 +107,15 @@ module _ (n : ℕ) (input : List ℕ) (r : Run) (f : Follows n input (turn input
   abbrev said : List ℕ
   said = textOf (r .count + 1) (r .ledger) (r .journal) command
 
-  by-end : (b : Bool) → (afterAll (worldOf r) (events (cond b [] (itemOf r command ∷ later))) ≡ worldOf (cond b r (runNext n input (turn input r))))
-      × (cond b [] (said ++ textNext n input (turn input r)) ≡ told (r .count) (worldOf r) (cond b [] (itemOf r command ∷ later)))
-  unfolding turn
-  by-end true = (refl, refl)
-  by-end false = (step-world r command later ∙ f .world, ap (λ (t : List ℕ). said ++ t) (f .text) ∙ sym (step-told r command later (r .count)))
-
   next : Follows (suc n) input r
-  unfolding itemsNext runNext textNext
-  next = let h = by-end (ended input r) in record { world = h .0; text = h .1 }
+  unfolding itemsNext runNext textNext turn
+  next = record {
+    world = by-cases (λ b. afterAll (worldOf r) (events (cond b [] (itemOf r command ∷ later))) ≡ worldOf (cond b r (runNext n input (turn input r))))
+        (ended input r) (λ e. refl) (λ e. step-world r command later ∙ f .world);
+    text = by-cases (λ b. cond b [] (said ++ textNext n input (turn input r)) ≡ told (r .count) (worldOf r) (cond b [] (itemOf r command ∷ later)))
+        (ended input r) (λ e. refl)
+        (λ e. ap (λ (t : List ℕ). said ++ t) (f .text) ∙ sym (step-told r command later (r .count)));
+  }
 
 follows : (n : ℕ) (input : List ℕ) (r : Run) → Follows n input r
 unfolding itemsNext runNext textNext

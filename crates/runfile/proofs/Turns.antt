@@ -7,16 +7,28 @@ use native.Mathlib.Omega.{arith}
 use lib.Dec.{leb}
 use lib.ListN.{length}
 use borrow.Author.Tests.{le-leb, leb-true, lt-leb}
-use Rattle.base.proofs.Reflect.{and-true}
+use Rattle.base.proofs.Reflect.{and-true, by-cases}
 use Rattle.federation.specs.Federation.{isLawful}
 use Rattle.outcome.specs.declared.Outcome.{Outcome}
 use Rattle.outcome.specs.declared.Outcome.the-variants.{Refused}
 use Rattle.outcome.specs.declared.Refusal.the-variants.{Settings as BadSettings}
 use Rattle.text.specs.Text.{lineFor}
-use Rattle.runfile.specs.Run.{Run, begins, commandOf, ended, headerSize, isHeader, lastFrom, longest, opened, opens, runNext, runText, textFrom, textNext, textOf, turn}
+use Rattle.runfile.specs.Run.{Run, begins, commandOf, ended, headerSize, isHeader, lastFrom, longest, opened, opens, runNext, turn}
+use Rattle.runfile.specs.Run.{runText, textFrom, textNext, textOf}
 use Rattle.runfile.specs.Steps.{endOf, kindAt, listed, replyOf}
 use Rattle.runfile.specs.declared.Kind.{Kind}
-use Rattle.runfile.specs.declared.Kind.the-variants.{Commit, Draw, FaultyAcknowledge, FaultySign, Generations, Preflight, Propose, Show, Unknown}
+use Rattle.runfile.specs.declared.Kind.the-variants.{
+  Commit,
+  Draw,
+  FaultyAcknowledge,
+  FaultySign,
+  Generations,
+  Preflight,
+  Propose,
+  Show,
+  Snapshot,
+  Unknown,
+}
 
 -- ---- the header
 pub header-long : (input : List ℕ) → isHeader input ≡ true → headerSize ≤ length input
@@ -59,7 +71,8 @@ none-after input r h = by (length input - r .count)
     by (suc n) = simp (le-leb _ _ h)
 
 -- the text of an input that check 1 turns back, before a run that has nothing left to read
-pub refused-run : (input : List ℕ) → opens input ≡ false → (r : Run) → length input ≤ r .pos → runText input ≡ lineFor 0 (Refused BadSettings) ++ textFrom input r
+pub refused-run : (input : List ℕ) → opens input ≡ false → (r : Run) → length input ≤ r .pos
+    → runText input ≡ lineFor 0 (Refused BadSettings) ++ textFrom input r
 unfolding runText
 refused-run input o r h = rw (o, none-left input r h) (sym (append-nil (lineFor 0 (Refused BadSettings))))
 
@@ -73,17 +86,15 @@ reads-on FaultyAcknowledge pos size n h = omega arith
 reads-on Show pos size n h = omega arith
 reads-on Draw pos size n h = omega arith
 reads-on Generations pos size n h = omega arith
+reads-on Snapshot pos size n h = omega arith
 reads-on Unknown pos size n h = omega arith
 
 pub runs-out : (n : ℕ) (input : List ℕ) (r : Run) → length input ≤ r .pos + n → ended input (runNext n input r) ≡ true
 unfolding runNext turn
 runs-out zero input r h = le-leb (length input) (r .pos) (omega (arith, h))
 runs-out (suc n) input r h =
-    by (ended input r) refl (runs-out n input (turn input r) (reads-on (kindAt input (r .pos)) (r .pos) (length input) n h))
-  where
-    by : (b : Bool) → ended input r ≡ b → ended input (runNext n input (turn input r)) ≡ true → ended input (cond b r (runNext n input (turn input r))) ≡ true
-    by true e later = e
-    by false e later = later
+    let later = runs-out n input (turn input r) (reads-on (kindAt input (r .pos)) (r .pos) (length input) n h) in
+    by-cases (λ b. ended input (cond b r (runNext n input (turn input r))) ≡ true) (ended input r) (λ e. e) (λ e. later)
 
 -- ---- a step
 -- the text of the next step comes first
@@ -107,9 +118,8 @@ pub step-text : (input : List ℕ) (r r′ : Run) (o : Outcome) → r .pos < len
     → textFrom input r ≡ lineFor (r .count + 1) o ++ textFrom input r′
 unfolding listed
 step-text input r r′ o h g e t =
-    next-text input r h g
-    ∙ ap (λ (x : List ℕ). x ++ textFrom input (turn input r)) (append-nil (lineFor (r .count + 1) (replyOf (r .ledger) (r .journal) (commandOf input r) .outcome)))
-    ∙ rw (e, t)
+    let line = lineFor (r .count + 1) (replyOf (r .ledger) (r .journal) (commandOf input r) .outcome) in
+    next-text input r h g ∙ ap (λ (x : List ℕ). x ++ textFrom input (turn input r)) (append-nil line) ∙ rw (e, t)
 
 pub step-last : (input : List ℕ) (r r′ : Run) → r .pos < length input → r .count < length input → r′ ≡ turn input r → lastFrom input r ≡ lastFrom input r′
 step-last input r r′ h g t = next-last input r h g ∙ ap (lastFrom input) (sym t)

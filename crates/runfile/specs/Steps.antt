@@ -10,14 +10,25 @@ use Rattle.outcome.specs.declared.Refusal.the-variants.{Unreadable}
 use Rattle.draw.specs.Draw.{drawOf}
 use Rattle.codec.specs.Codec.{recordSize}
 use Rattle.ledger.specs.declared.Column.the-variants.{Acknowledgements, Signatures}
-use Rattle.ledger.specs.Worlds.{Request, commit, faultyVote, generations, leftBy, preflight, propose, show, stepOf}
+use Rattle.ledger.specs.Worlds.{Request, commit, faultyVote, generations, leftBy, preflight, propose, show, snapshot, stepOf}
 use Rattle.ledger.specs.declared.Ledger.{Ledger}
 use Rattle.ledger.specs.declared.Reply.{Reply}
 use Rattle.runfile.specs.declared.Kind.{Kind}
-use Rattle.runfile.specs.declared.Kind.the-variants.{Commit, Draw, FaultyAcknowledge, FaultySign, Generations, Preflight, Propose, Show, Unknown}
+use Rattle.runfile.specs.declared.Kind.the-variants.{
+  Commit,
+  Draw,
+  FaultyAcknowledge,
+  FaultySign,
+  Generations,
+  Preflight,
+  Propose,
+  Show,
+  Snapshot,
+  Unknown,
+}
 
 -- "1 propose (record); 2 preflight (vault, job); 3 commit (vault, job, signers); 4 faulty signature (vault, job); 5 faulty acknowledgement
--- (vault, job); 6 show (job); 7 draw (u); 8 generations (job)"
+-- (vault, job); 6 show (job); 7 draw (u); 8 generations (job)"; and document 02's 9, a snapshot, "without a body"
 unfoldable pub kindOf : ℕ → Kind
 kindOf b =
     cond (eqb b 1) Propose
@@ -27,7 +38,8 @@ kindOf b =
     (cond (eqb b 5) FaultyAcknowledge
     (cond (eqb b 6) Show
     (cond (eqb b 7) Draw
-    (cond (eqb b 8) Generations Unknown)))))))
+    (cond (eqb b 8) Generations
+    (cond (eqb b 9) Snapshot Unknown))))))))
 
 -- how long the body is
 abbrev pub bodySize : Kind → ℕ
@@ -39,6 +51,7 @@ bodySize FaultyAcknowledge = 2
 bodySize Show = 1
 bodySize Draw = 1
 bodySize Generations = 1
+bodySize Snapshot = 0
 bodySize Unknown = 0
 
 -- 16 bits, the low byte first
@@ -61,6 +74,7 @@ commandIn FaultyAcknowledge input at = request (faultyVote Acknowledgements (get
 commandIn Show input at = request (show (getD input at 0))
 commandIn Draw input at = draw (getD input at 0)
 commandIn Generations input at = request (generations (getD input at 0))
+commandIn Snapshot input at = request snapshot
 commandIn Unknown input at = unreadable
 
 -- the kind of the step at pos, where its body is all there: "2: kind unknown or body cut short"
@@ -82,6 +96,7 @@ endOf FaultyAcknowledge pos size = pos + bodySize FaultyAcknowledge + 1
 endOf Show pos size = pos + bodySize Show + 1
 endOf Draw pos size = pos + bodySize Draw + 1
 endOf Generations pos size = pos + bodySize Generations + 1
+endOf Snapshot pos size = pos + bodySize Snapshot + 1
 endOf Unknown pos size = size
 
 abbrev pub nextAt : List ℕ → ℕ → ℕ

@@ -11,5 +11,6 @@ pub enum Kind {
     Show,
     Draw,
     Generations,
+    Snapshot,
     Unknown,
 }

@@ -40,66 +40,48 @@ const NONE: Entry = Entry {
     frames: 0,
 };
 
+fn job(kind: u8, inputs: u8, outputs: u8, entries: [Entry; 8]) -> Job
+    ensures { λ r. ⌜ r ≡ jobWith kind inputs outputs entries ⌝ }
+{
+    Job {
+        kind,
+        drive: 7,
+        inputs,
+        outputs,
+        entries,
+    }
+}
+
 pub fn accession(to: Entry) -> Job
     ensures { λ r. ⌜ r ≡ jobWith 0 0 1 (unused ∷ unused ∷ unused ∷ unused ∷ to ∷ unused ∷ unused ∷ unused ∷ []) ⌝ }
 {
-    Job {
-        kind: 0,
-        drive: 7,
-        inputs: 0,
-        outputs: 1,
-        entries: [NONE, NONE, NONE, NONE, to, NONE, NONE, NONE],
-    }
+    job(0, 0, 1, [NONE, NONE, NONE, NONE, to, NONE, NONE, NONE])
 }
 
 pub fn accession_two(to: Entry, second: Entry) -> Job
     ensures { λ r. ⌜ r ≡ jobWith 0 0 2 (unused ∷ unused ∷ unused ∷ unused ∷ to ∷ second ∷ unused ∷ unused ∷ []) ⌝ }
 {
-    Job {
-        kind: 0,
-        drive: 7,
-        inputs: 0,
-        outputs: 2,
-        entries: [NONE, NONE, NONE, NONE, to, second, NONE, NONE],
-    }
+    job(0, 0, 2, [NONE, NONE, NONE, NONE, to, second, NONE, NONE])
 }
 
 pub fn migration(from: Entry, to: Entry) -> Job
     ensures { λ r. ⌜ r ≡ jobWith 1 1 1 (from ∷ unused ∷ unused ∷ unused ∷ to ∷ unused ∷ unused ∷ unused ∷ []) ⌝ }
 {
-    Job {
-        kind: 1,
-        drive: 7,
-        inputs: 1,
-        outputs: 1,
-        entries: [from, NONE, NONE, NONE, to, NONE, NONE, NONE],
-    }
+    job(1, 1, 1, [from, NONE, NONE, NONE, to, NONE, NONE, NONE])
 }
 
 // Two tapes to one.
 pub fn merger(from: Entry, second: Entry, to: Entry) -> Job
     ensures { λ r. ⌜ r ≡ jobWith 1 2 1 (from ∷ second ∷ unused ∷ unused ∷ to ∷ unused ∷ unused ∷ unused ∷ []) ⌝ }
 {
-    Job {
-        kind: 1,
-        drive: 7,
-        inputs: 2,
-        outputs: 1,
-        entries: [from, second, NONE, NONE, to, NONE, NONE, NONE],
-    }
+    job(1, 2, 1, [from, second, NONE, NONE, to, NONE, NONE, NONE])
 }
 
 // One tape to two.
 pub fn split(from: Entry, to: Entry, second: Entry) -> Job
     ensures { λ r. ⌜ r ≡ jobWith 1 1 2 (from ∷ unused ∷ unused ∷ unused ∷ to ∷ second ∷ unused ∷ unused ∷ []) ⌝ }
 {
-    Job {
-        kind: 1,
-        drive: 7,
-        inputs: 1,
-        outputs: 2,
-        entries: [from, NONE, NONE, NONE, to, second, NONE, NONE],
-    }
+    job(1, 1, 2, [from, NONE, NONE, NONE, to, second, NONE, NONE])
 }
 
 // The two jobs of document 01's run.

@@ -15,7 +15,7 @@ use lib.Count.{ones, ones-ones, ones-step}
 use lib.Dec.{eqb, lit<, ltb}
 use lib.Pow.{low, pow-lt, pow-mono, pow-pos, shl-exact}
 use borrow.Author.Tests.{eq-eqb, eqb-false, eqb-true, le-ltb, lt-ltb, ltb-false, ltb-true, not-false, not-true}
-use Rattle.base.proofs.Reflect.{not-false-true}
+use Rattle.base.proofs.Reflect.{by-cases, by-test, not-false-true}
 use Rattle.base.proofs.Search.{any-elim, any-none, sum-from, sum-same}
 use Rattle.base.specs.Reflect.{Reflects}
 use Rattle.base.specs.Search.{Every, Some, anyBelow, sumFrom}
@@ -105,11 +105,7 @@ unfolding hasBit
 absent-of-bit s i e = ap (λ (m : ℕ). eqb m 1) e
 
 pub bit-of-has : (s i : ℕ) → bit s i ≡ cond (hasBit s i) 1 0
-bit-of-has s i = go (hasBit s i) refl
-  where
-    go : (t : Bool) → hasBit s i ≡ t → bit s i ≡ cond t 1 0
-    go true e = reflect-has s i .sound e
-    go false e = bit-absent s i e
+bit-of-has s i = by-cases (λ t. bit s i ≡ cond t 1 0) (hasBit s i) (reflect-has s i .sound) (bit-absent s i)
 
 pub has-suc : (s i : ℕ) → hasBit s (suc i) ≡ hasBit (s / 2) i
 has-suc s i = has-of-bit s (s / 2) (suc i) i (bit-suc s i)
@@ -125,12 +121,9 @@ has-beyond k s i hs l =
     absent-of-bit s i (omega (arith, div-eq-of-lt small))
 
 pub has-below : (k s i : ℕ) → s < 2 ^ k → hasBit s i ≡ true → i < k
-has-below k s i hs h = go (ltb i k) refl
-  where
-    go : (t : Bool) → ltb i k ≡ t → i < k
-    go true e = ltb-true i k e
-    go false e =
-        absurd (omega (arith, reflect-has s i .sound h, bit-absent s i (has-beyond k s i hs (ltb-false i k e))))
+has-below k s i hs h =
+    by-test (ltb i k) (ltb-true i k)
+    (λ e. absurd (omega (arith, reflect-has s i .sound h, bit-absent s i (has-beyond k s i hs (ltb-false i k e)))))
 
 -- sets of k bits with the same members are equal
 pub members-same : (k a b : ℕ) → a < 2 ^ k → b < 2 ^ k → Every k (λ i. hasBit a i ≡ hasBit b i) → a ≡ b
@@ -185,11 +178,10 @@ member-beyond w s i h = simp (le-ltb i w h)
 
 -- so what holds of both holds of it
 member-cases : (P : ℕ → Type 0) (w s i : ℕ) → (i < w → P (withBit s i)) → (w ≤ i → P s) → P (withMember w s i)
-member-cases P w s i inside outside = go (ltb i w) refl
-  where
-    go : (t : Bool) → ltb i w ≡ t → P (withMember w s i)
-    go true e = rw (member-below w s i (ltb-true i w e)) (inside (ltb-true i w e))
-    go false e = rw (member-beyond w s i (ltb-false i w e)) (outside (ltb-false i w e))
+member-cases P w s i inside outside =
+    by-test (ltb i w)
+    (λ e. rw (member-below w s i (ltb-true i w e)) (inside (ltb-true i w e)))
+    (λ e. rw (member-beyond w s i (ltb-false i w e)) (outside (ltb-false i w e)))
 
 pub has-member-same : (w s i : ℕ) → i < w → hasBit (withMember w s i) i ≡ true
 has-member-same w s i h = rw (member-below w s i h) (has-with-same s i)
@@ -258,37 +250,29 @@ without-lt k s i hs = omega arith
 -- ---- union
 
 pub has-union : (a b i : ℕ) → hasBit (bitOr a b) i ≡ (hasBit a i || hasBit b i)
-has-union a b i = go (hasBit a i) (hasBit b i) refl refl
-  where
-    go : (t u : Bool) → hasBit a i ≡ t → hasBit b i ≡ u → hasBit (bitOr a b) i ≡ (t || u)
-    go true u p q =
-        reflect-has (bitOr a b) i .complete (omega (arith, bit-or a b i, reflect-has a i .sound p, bit-lt b i))
-    go false u p q =
-        has-of-bit (bitOr a b) b i i (omega (arith, bit-or a b i, bit-absent a i p)) ∙ q
+has-union a b i =
+    by-cases (λ t. hasBit (bitOr a b) i ≡ (t || hasBit b i)) (hasBit a i)
+    (λ h. reflect-has (bitOr a b) i .complete (omega (arith, bit-or a b i, reflect-has a i .sound h, bit-lt b i)))
+    (λ h. has-of-bit (bitOr a b) b i i (omega (arith, bit-or a b i, bit-absent a i h)))
 
 -- ---- common members
 
 pub has-common : (a b i : ℕ) → hasBit (bitAnd a b) i ≡ (hasBit a i && hasBit b i)
-has-common a b i = go (hasBit a i) (hasBit b i) refl refl
-  where
-    go : (t u : Bool) → hasBit a i ≡ t → hasBit b i ≡ u → hasBit (bitAnd a b) i ≡ (t && u)
-    go true u p q = has-of-bit (bitAnd a b) b i i (omega (arith, bit-and a b i, reflect-has a i .sound p, bit-lt b i)) ∙ q
-    go false u p q = absent-of-bit (bitAnd a b) i (omega (arith, bit-and a b i, bit-absent a i p))
+has-common a b i =
+    by-cases (λ t. hasBit (bitAnd a b) i ≡ (t && hasBit b i)) (hasBit a i)
+    (λ h. has-of-bit (bitAnd a b) b i i (omega (arith, bit-and a b i, reflect-has a i .sound h, bit-lt b i)))
+    (λ h. absent-of-bit (bitAnd a b) i (omega (arith, bit-and a b i, bit-absent a i h)))
 
 -- a set of k bits that is not 0 has a member
 pub reflect-some : (k s : ℕ) → s < 2 ^ k → Reflects (not (eqb s 0)) (Some k (λ i. hasBit s i ≡ true))
 reflect-some k s hs = record {
-  sound = λ e. by (anyBelow k (hasBit s)) refl e;
+  sound = λ e. by-test (anyBelow k (hasBit s)) (any-elim (hasBit s) k)
+      (λ none. absurd (eqb-false s 0 (not-true (eqb s 0) e) (members-same k s 0 hs (pow-pos k) (λ i l. any-none (hasBit s) k none i l ∙ sym (has-none i)))));
   complete = λ m. not-false-true (not (eqb s 0)) (λ e. true≢false (sym (m .has) ∙ ap (λ (t : ℕ). hasBit t (m .which)) (zero e) ∙ has-none (m .which)));
 }
   where
     zero : not (eqb s 0) ≡ false → s ≡ 0
     zero e = eqb-true s 0 (not-false (eqb s 0) e)
-
-    by : (t : Bool) → anyBelow k (hasBit s) ≡ t → not (eqb s 0) ≡ true → Some k (λ i. hasBit s i ≡ true)
-    by true a e = any-elim (hasBit s) k a
-    by false a e =
-        absurd (eqb-false s 0 (not-true (eqb s 0) e) (members-same k s 0 hs (pow-pos k) (λ i l. any-none (hasBit s) k a i l ∙ sym (has-none i))))
 
 -- ---- subsets
 
@@ -304,12 +288,11 @@ pub reflect-subset : (k a b : ℕ) → a < 2 ^ k → Reflects (subsetOf a b) (Ev
 unfolding subsetOf
 reflect-subset k a b ha = record { sound = λ e i l. subset-has a b i e; complete = λ h. eq-eqb (bitAnd a b) a (common h) }
   where
-    go : (i : ℕ) → (hasBit a i ≡ true → hasBit b i ≡ true) → (t : Bool) → hasBit a i ≡ t → bit (bitAnd a b) i ≡ bit a i
-    go i h true e = omega (arith, bit-and a b i, reflect-has a i .sound e, reflect-has b i .sound (h e))
-    go i h false e = omega (arith, bit-and a b i, bit-absent a i e)
-
     common : Every k (λ i. hasBit a i ≡ true → hasBit b i ≡ true) → bitAnd a b ≡ a
-    common h = bits-same k (bitAnd a b) a (omega (arith, and-le-l a b)) ha (λ i l. go i (h i l) (hasBit a i) refl)
+    common h = bits-same k (bitAnd a b) a (omega (arith, and-le-l a b)) ha (λ i l.
+        by-test (hasBit a i)
+        (λ e. omega (arith, bit-and a b i, reflect-has a i .sound e, reflect-has b i .sound (h i l e)))
+        (λ e. omega (arith, bit-and a b i, bit-absent a i e)))
 
 -- ---- all members below n
 
@@ -322,11 +305,10 @@ top-clear (suc k) s hs h =
 
 members-lt : (k s n : ℕ) → s < 2 ^ k → Every k (λ i. hasBit s i ≡ true → i < n) → s < 2 ^ n
 members-lt zero s n hs h = omega (arith, pow-pos n)
-members-lt (suc k) s n hs h = go (hasBit s k) refl (λ l. members-lt k s n l (λ i m. h i (omega arith)))
-  where
-    go : (t : Bool) → hasBit s k ≡ t → (s < 2 ^ k → s < 2 ^ n) → s < 2 ^ n
-    go true e ih = omega (arith, pow-mono (h k (le-refl (suc k)) e))
-    go false e ih = ih (top-clear k s hs e)
+members-lt (suc k) s n hs h =
+    by-test (hasBit s k)
+    (λ e. omega (arith, pow-mono (h k (le-refl (suc k)) e)))
+    (λ e. members-lt k s n (top-clear k s hs e) (λ i m. h i (omega arith)))
 
 pub reflect-within : (k s n : ℕ) → s < 2 ^ k → Reflects (ltb s (2 ^ n)) (Every k (λ i. hasBit s i ≡ true → i < n))
 reflect-within k s n hs = record {

@@ -9,7 +9,7 @@ use lib.Bits.{and-le-r, bitAnd, or-lt}
 use lib.Count.{ones}
 use lib.Dec.{eqb, ltb}
 use borrow.Author.Tests.{eqb-false, eqb-true, le-ltb, lt-ltb, ltb-false, ltb-true}
-use Rattle.base.proofs.Reflect.{reflect-as, reflect-or, reflect-true, reflects-same}
+use Rattle.base.proofs.Reflect.{by-test, reflect-as, reflect-or, reflect-true, reflects-same}
 use Rattle.base.proofs.Search.{reflect-any, sum-append, sum-from, sum-same}
 use Rattle.base.specs.Reflect.{Reflects}
 use Rattle.base.specs.Search.{Every, Some, anyBelow, sumFrom}
@@ -37,13 +37,27 @@ unfolding jobHas
 job-beyond s i h = simp (le-ltb i 64 (omega arith), le-ltb i 128 h)
 
 pub job-below : (s : JobSet) (i : ℕ) → jobHas s i ≡ true → i < 128
-job-below s i h = go (ltb i 128) refl
-  where
-    go : (t : Bool) → ltb i 128 ≡ t → i < 128
-    go true e = ltb-true i 128 e
-    go false e = absurd (true≢false (sym h ∙ job-beyond s i (ltb-false i 128 e)))
+job-below s i h = by-test (ltb i 128) (ltb-true i 128) (λ e. absurd (true≢false (sym h ∙ job-beyond s i (ltb-false i 128 e))))
+
+-- it is in the low word, in the high one, or in none
+word-cases : {P : Type 0} (i : ℕ)
+    → (ltb i 64 ≡ true → P) → (ltb i 64 ≡ false → ltb i 128 ≡ true → P) → (ltb i 64 ≡ false → ltb i 128 ≡ false → P) → P
+word-cases i low high none = by-test (ltb i 64) low (λ a. by-test (ltb i 128) (high a) (none a))
 
 -- ---- a change of one bit
+
+-- the ways through it: one word is changed, the other is as it was
+module _ (change : ℕ → ℕ → ℕ) (s : JobSet) (i x : ℕ) where
+  pub change-low : i < 64 → x ≡ change (s .low) i → record { low = x; high = s .high } ≡ changeAt change s i
+  change-low h e = simp (lt-ltb i 64 h, e)
+
+  pub change-high : 64 ≤ i → i < 128 → x ≡ change (s .high) (i - 64) → record { low = s .low; high = x } ≡ changeAt change s i
+  change-high l h e = simp (le-ltb i 64 l, lt-ltb i 128 h, e)
+
+  pub change-none : 64 ≤ i → 128 ≤ i → s ≡ changeAt change s i
+  change-none l h = simp (le-ltb i 64 l, le-ltb i 128 h)
+
+pub ruleset changes = (change-low, change-high, change-none)
 
 -- a change that leaves the other bits of a word leaves the other jobs
 change-other : (change : ℕ → ℕ → ℕ) → ((s i j : ℕ) → j ≢ i → hasBit (change s i) j ≡ hasBit s j)
@@ -63,34 +77,23 @@ change-other change other s i j ne = go (ltb i 64) (ltb i 128) (ltb j 64) refl r
 -- a change that keeps a word within 64 bits keeps both
 change-words : (change : ℕ → ℕ → ℕ) → ((s i : ℕ) → s < 2 ^ 64 → i < 64 → change s i < 2 ^ 64)
     → (s : JobSet) (i : ℕ) → InWords s → InWords (changeAt change s i)
-change-words change fits s i w = go (ltb i 64) (ltb i 128) refl refl
-  where
-    go : (a b : Bool) → ltb i 64 ≡ a → ltb i 128 ≡ b → InWords (changeAt change s i)
-    go true b ea eb =
-        simp ea (record { low-fits = fits (s .low) i (w .low-fits) (ltb-true i 64 ea); high-fits = w .high-fits })
-    go false true ea eb =
-        let l : i - 64 < 64 = omega (arith, ltb-false i 64 ea, ltb-true i 128 eb) in
-        simp (ea, eb) (record { low-fits = w .low-fits; high-fits = fits (s .high) (i - 64) (w .high-fits) l })
-    go false false ea eb = simp (ea, eb) w
+change-words change fits s i w =
+    word-cases i
+    (λ a. simp a (record { low-fits = fits (s .low) i (w .low-fits) (ltb-true i 64 a); high-fits = w .high-fits }))
+    (λ a b.
+    let l : i - 64 < 64 = omega (arith, ltb-false i 64 a, ltb-true i 128 b) in
+    simp (a, b) (record { low-fits = w .low-fits; high-fits = fits (s .high) (i - 64) (w .high-fits) l }))
+    (λ a b. simp (a, b) w)
 
 -- ---- members
 
 pub has-no-jobs : (i : ℕ) → jobHas noJobs i ≡ false
 unfolding jobHas noJobs
-has-no-jobs i = go (ltb i 64) (ltb i 128) refl refl
-  where
-    go : (a b : Bool) → ltb i 64 ≡ a → ltb i 128 ≡ b → jobHas noJobs i ≡ false
-    go true b ea eb = simp (ea, has-none)
-    go false true ea eb = simp (ea, eb, has-none)
-    go false false ea eb = simp (ea, eb)
+has-no-jobs i = word-cases i (λ a. simp (a, has-none)) (λ a b. simp (a, b, has-none)) (λ a b. simp (a, b))
 
 pub job-with-same : (s : JobSet) (i : ℕ) → i < 128 → jobHas (jobWith s i) i ≡ true
 unfolding jobHas jobWith
-job-with-same s i h = go (ltb i 64) refl
-  where
-    go : (a : Bool) → ltb i 64 ≡ a → jobHas (jobWith s i) i ≡ true
-    go true e = simp (e, has-with-same)
-    go false e = simp (e, lt-ltb i 128 h, has-with-same)
+job-with-same s i h = by-test (ltb i 64) (λ a. simp (a, has-with-same)) (λ a. simp (a, lt-ltb i 128 h, has-with-same))
 
 pub job-with-other : (s : JobSet) (i j : ℕ) → j ≢ i → jobHas (jobWith s i) j ≡ jobHas s j
 unfolding jobWith
@@ -98,12 +101,7 @@ job-with-other = change-other withBit has-with-other
 
 pub job-without-same : (s : JobSet) (i : ℕ) → jobHas (jobWithout s i) i ≡ false
 unfolding jobHas jobWithout
-job-without-same s i = go (ltb i 64) (ltb i 128) refl refl
-  where
-    go : (a b : Bool) → ltb i 64 ≡ a → ltb i 128 ≡ b → jobHas (jobWithout s i) i ≡ false
-    go true b ea eb = simp (ea, has-without-same)
-    go false true ea eb = simp (ea, eb, has-without-same)
-    go false false ea eb = simp (ea, eb)
+job-without-same s i = word-cases i (λ a. simp (a, has-without-same)) (λ a b. simp (a, b, has-without-same)) (λ a b. simp (a, b))
 
 pub job-without-other : (s : JobSet) (i j : ℕ) → j ≢ i → jobHas (jobWithout s i) j ≡ jobHas s j
 unfolding jobWithout
@@ -112,24 +110,20 @@ job-without-other = change-other withoutBit has-without-other
 -- a job that is no member is not taken away
 pub job-without-absent : (s : JobSet) (i : ℕ) → jobHas s i ≡ false → jobWithout s i ≡ s
 unfolding jobHas jobWithout
-job-without-absent s i h = go (ltb i 64) (ltb i 128) refl refl h
-  where
-    go : (a b : Bool) → ltb i 64 ≡ a → ltb i 128 ≡ b → cond a (hasBit (s .low) i) (cond b (hasBit (s .high) (i - 64)) false) ≡ false
-        → changeAt withoutBit s i ≡ s
-    go true b ea eb e = simp (ea, without-absent (s .low) i e)
-    go false true ea eb e = simp (ea, eb, without-absent (s .high) (i - 64) e)
-    go false false ea eb e = simp (ea, eb)
+job-without-absent s i h =
+    word-cases i
+    (λ a. simp (a, without-absent (s .low) i (simp a at h)))
+    (λ a b. simp (a, b, without-absent (s .high) (i - 64) (simp (a, b) at h)))
+    (λ a b. simp (a, b))
 
 pub job-union-has : (a b : JobSet) (i : ℕ) → jobHas (jobUnion a b) i ≡ (jobHas a i || jobHas b i)
 unfolding jobHas jobUnion
-job-union-has a b i = go (ltb i 64) (ltb i 128) refl refl
-  where
-    go : (t u : Bool) → ltb i 64 ≡ t → ltb i 128 ≡ u → jobHas (jobUnion a b) i ≡ (jobHas a i || jobHas b i)
-    go true u et eu = simp (et, has-union)
-    go false true et eu = simp (et, eu, has-union)
-    go false false et eu = simp (et, eu)
+job-union-has a b i = word-cases i (λ l. simp (l, has-union)) (λ l h. simp (l, h, has-union)) (λ l h. simp (l, h))
 
--- to add a member changes nothing
+-- words have a bit in common
+abbrev Common : ℕ → ℕ → Type 0
+Common x y = Some 64 (λ i. hasBit (bitAnd x y) i ≡ true)
+
 -- the words have a bit in common where the sets have a member in common
 pub meets-any : (a b : JobSet) → InWords b → jobsMeet a b ≡ anyBelow 128 (λ i. jobHas a i && jobHas b i)
 unfolding jobsMeet
@@ -137,7 +131,7 @@ meets-any a b w =
     reflects-same (reflect-or (word (a .low) (b .low) (w .low-fits)) (word (a .high) (b .high) (w .high-fits)))
     (reflect-as (reflect-any 128 (λ i l. reflect-true (jobHas a i && jobHas b i))) into out)
   where
-    word : (x y : ℕ) → y < 2 ^ 64 → Reflects (not (eqb (bitAnd x y) 0)) (Some 64 (λ i. hasBit (bitAnd x y) i ≡ true))
+    word : (x y : ℕ) → y < 2 ^ 64 → Reflects (not (eqb (bitAnd x y) 0)) (Common x y)
     word x y h = reflect-some 64 (bitAnd x y) (omega (arith, and-le-r x y))
 
     low : (i : ℕ) → i < 64 → (jobHas a i && jobHas b i) ≡ hasBit (bitAnd (a .low) (b .low)) i
@@ -146,52 +140,47 @@ meets-any a b w =
     high : (i : ℕ) → i < 64 → (jobHas a (64 + i) && jobHas b (64 + i)) ≡ hasBit (bitAnd (a .high) (b .high)) i
     high i h = rw (in-high a i h, in-high b i h) (sym (has-common (a .high) (b .high) i))
 
-    into : Some 128 (λ i. (jobHas a i && jobHas b i) ≡ true)
-        → Some 64 (λ i. hasBit (bitAnd (a .low) (b .low)) i ≡ true) ⊎ Some 64 (λ i. hasBit (bitAnd (a .high) (b .high)) i ≡ true)
-    into m = by (ltb (m .which) 64) refl
-      where
-        by : (t : Bool) → ltb (m .which) 64 ≡ t
-            → Some 64 (λ i. hasBit (bitAnd (a .low) (b .low)) i ≡ true) ⊎ Some 64 (λ i. hasBit (bitAnd (a .high) (b .high)) i ≡ true)
-        by true e = let h = ltb-true (m .which) 64 e in inl (record { which = m .which; below = h; has = sym (low (m .which) h) ∙ m .has })
-        by false e =
-            let h : m .which - 64 < 64 = omega (arith, ltb-false (m .which) 64 e, m .below) in
-            let q : 64 + (m .which - 64) ≡ m .which = omega (arith, ltb-false (m .which) 64 e) in
-            inr (record { which = m .which - 64; below = h; has = sym (high (m .which - 64) h) ∙ rw q (m .has) })
+    into : Some 128 (λ i. (jobHas a i && jobHas b i) ≡ true) → Common (a .low) (b .low) ⊎ Common (a .high) (b .high)
+    into m =
+        by-test (ltb (m .which) 64)
+        (λ e. let h = ltb-true (m .which) 64 e in inl (record { which = m .which; below = h; has = sym (low (m .which) h) ∙ m .has }))
+        (λ e.
+        let h : m .which - 64 < 64 = omega (arith, ltb-false (m .which) 64 e, m .below) in
+        let q : 64 + (m .which - 64) ≡ m .which = omega (arith, ltb-false (m .which) 64 e) in
+        inr (record { which = m .which - 64; below = h; has = sym (high (m .which - 64) h) ∙ rw q (m .has) }))
 
-    out : Some 64 (λ i. hasBit (bitAnd (a .low) (b .low)) i ≡ true) ⊎ Some 64 (λ i. hasBit (bitAnd (a .high) (b .high)) i ≡ true)
-        → Some 128 (λ i. (jobHas a i && jobHas b i) ≡ true)
+    out : Common (a .low) (b .low) ⊎ Common (a .high) (b .high) → Some 128 (λ i. (jobHas a i && jobHas b i) ≡ true)
     out m = ⊎-elim
         (λ s. record { which = s .which; below = omega (arith, s .below); has = low (s .which) (s .below) ∙ s .has })
         (λ s. record { which = 64 + s .which; below = omega (arith, s .below); has = high (s .which) (s .below) ∙ s .has })
         m
 
+-- to add a member changes nothing
 pub job-with-again : (s : JobSet) (i : ℕ) → jobHas s i ≡ true → jobWith s i ≡ s
 unfolding jobHas jobWith
-job-with-again s i h = go (ltb i 64) (ltb i 128) refl refl
-  where
-    go : (a b : Bool) → ltb i 64 ≡ a → ltb i 128 ≡ b → jobWith s i ≡ s
-    go true b ea eb = simp (ea, with-again (s .low) i (simp ea at h))
-    go false true ea eb = simp (ea, eb, with-again (s .high) (i - 64) (simp (ea, eb) at h))
-    go false false ea eb = simp (ea, eb)
+job-with-again s i h =
+    word-cases i
+    (λ a. simp (a, with-again (s .low) i (simp a at h)))
+    (λ a b. simp (a, b, with-again (s .high) (i - 64) (simp (a, b) at h)))
+    (λ a b. simp (a, b))
 
 -- members stay
 pub job-with-keeps : (s : JobSet) (i j : ℕ) → jobHas s j ≡ true → jobHas (jobWith s i) j ≡ true
-job-with-keeps s i j h = go (eqb j i) refl
-  where
-    go : (t : Bool) → eqb j i ≡ t → jobHas (jobWith s i) j ≡ true
-    go true e = ap (λ (k : ℕ). jobHas (jobWith s k) j) (sym (eqb-true j i e)) ∙ job-with-same s j (job-below s j h)
-    go false e = job-with-other s i j (eqb-false j i e) ∙ h
+job-with-keeps s i j h =
+    by-test (eqb j i)
+    (λ e. ap (λ (k : ℕ). jobHas (jobWith s k) j) (sym (eqb-true j i e)) ∙ job-with-same s j (job-below s j h))
+    (λ e. job-with-other s i j (eqb-false j i e) ∙ h)
 
 -- ---- how many
 
 -- a new job is one more
 pub job-count-with : (s : JobSet) (i : ℕ) → i < 128 → jobHas s i ≡ false → jobCount (jobWith s i) ≡ suc (jobCount s)
 unfolding jobHas jobWith jobCount
-job-count-with s i l h = go (ltb i 64) refl
-  where
-    go : (a : Bool) → ltb i 64 ≡ a → jobCount (jobWith s i) ≡ suc (jobCount s)
-    go true e = simp (e, ones-with (s .low) i (simp e at h)) (omega arith)
-    go false e = simp (e, lt-ltb i 128 l, ones-with (s .high) (i - 64) (simp (e, lt-ltb i 128 l) at h)) (omega arith)
+job-count-with s i l h =
+    let b = lt-ltb i 128 l in
+    by-test (ltb i 64)
+    (λ a. simp (a, ones-with (s .low) i (simp a at h)) (omega arith))
+    (λ a. simp (a, b, ones-with (s .high) (i - 64) (simp (a, b) at h)) (omega arith))
 
 -- ---- the words
 

@@ -1,6 +1,6 @@
 -- A set has at least m members exactly where `ones` counts as many. Those that it has can be listed; and a list of different members is
 -- itself a set, of as many members as the list is long, within the whole.
-use mathlib.Core.Bool.{Bool, cond, false, true, true≢false}
+use mathlib.Core.Bool.{cond, true, true≢false}
 use mathlib.Core.List.{List, [], _∷_}
 use mathlib.Core.Logic.{inl, inr}
 use mathlib.Core.Path.{_∙_, _≡_, ap, refl, sym}
@@ -12,7 +12,7 @@ use lib.ListN.{length}
 use lib.Pow.{pow-pos}
 use borrow.Author.Tests.{eqb-false, eqb-true}
 use Rattle.base.proofs.Members.{distinct-keep, keep-in}
-use Rattle.base.proofs.Reflect.{not-true-false, reflect-as, reflect-le}
+use Rattle.base.proofs.Reflect.{by-cases, by-test, not-true-false, reflect-as, reflect-le}
 use Rattle.base.specs.Lists.{Distinct, In, keepIf}
 use Rattle.base.specs.Reflect.{Reflects}
 use Rattle.base.specs.Search.{sumFrom}
@@ -44,12 +44,10 @@ numbers-once a (suc k) = ((λ m. let h = numbers-from (suc a) k a m in omega (ar
 counted : (s a k : ℕ) → length (keepIf (hasBit s) (numbers a k)) ≡ sumFrom (λ i. bit s i) a k
 unfolding numbers sumFrom
 counted s a zero = refl
-counted s a (suc k) = by (hasBit s a) (bit-of-has s a) (counted s (suc a) k)
-  where
-    by : (b : Bool) → bit s a ≡ cond b 1 0 → length (keepIf (hasBit s) (numbers (suc a) k)) ≡ sumFrom (λ i. bit s i) (suc a) k
-        → length (cond b (a ∷ keepIf (hasBit s) (numbers (suc a) k)) (keepIf (hasBit s) (numbers (suc a) k))) ≡ bit s a + sumFrom (λ i. bit s i) (suc a) k
-    by true e h = omega (arith, e, h)
-    by false e h = omega (arith, e, h)
+counted s a (suc k) =
+    let rest = keepIf (hasBit s) (numbers (suc a) k) in
+    by-cases (λ b. bit s a ≡ cond b 1 0 → length (cond b (a ∷ rest) rest) ≡ bit s a + sumFrom (λ i. bit s i) (suc a) k) (hasBit s a)
+    (λ _ e. omega (arith, e, counted s (suc a) k)) (λ _ e. omega (arith, e, counted s (suc a) k)) (bit-of-has s a)
 
 listed : (s : ℕ) → AtLeast (ones s) s
 listed s = record {
@@ -67,11 +65,8 @@ setOf (i ∷ l) = withBit (setOf l) i
 set-in : (l : List ℕ) (i : ℕ) → hasBit (setOf l) i ≡ true → In i l
 unfolding setOf
 set-in [] i h = absurd (true≢false (sym h ∙ has-none i))
-set-in (x ∷ l) i h = by (eqb i x) refl (set-in l i)
-  where
-    by : (b : Bool) → eqb i x ≡ b → (hasBit (setOf l) i ≡ true → In i l) → In i (x ∷ l)
-    by true e f = inl (eqb-true i x e)
-    by false e f = inr (f (sym (has-with-other (setOf l) x i (eqb-false i x e)) ∙ h))
+set-in (x ∷ l) i h =
+    by-test (eqb i x) (λ e. inl (eqb-true i x e)) (λ e. inr (set-in l i (sym (has-with-other (setOf l) x i (eqb-false i x e)) ∙ h)))
 
 set-ones : (l : List ℕ) → Distinct l → ones (setOf l) ≡ length l
 unfolding setOf

@@ -1,5 +1,4 @@
 -- Texts written one after another are written whole, and a number's last digit follows the rest of it.
-use mathlib.Core.Bool.{Bool, false, true}
 use mathlib.Core.List.{List, [], _++_, _∷_, append-assoc}
 use mathlib.Core.Path.{_∙_, _≡_, ap, refl, sym}
 use Prim.Native.Nat.{_%_, _+_, _/_, _<_, _≤_, suc, zero, ℕ}
@@ -9,6 +8,7 @@ use lib.Dec.{ltb}
 use lib.ListN.{drop, length, length-append, set, take}
 use lib.Seq.{sets, sets-eq, take-at}
 use borrow.Author.Tests.{le-ltb, lt-ltb, ltb-false, ltb-true}
+use Rattle.base.proofs.Reflect.{by-cases}
 use Rattle.outcome.specs.Figures.{numberOf, valueOf}
 use Rattle.outcome.specs.declared.Outcome.{Outcome}
 use Rattle.text.specs.Text.{Put, decimal, digits, lineFor, lineOf, twoDigits}
@@ -32,11 +32,7 @@ unfolding digits
 more k n h = simp (le-ltb n 10 h)
 
 by-ten : {P : Type 0} (n : ℕ) → (n < 10 → P) → (10 ≤ n → P) → P
-by-ten {P} n below above = by (ltb n 10) refl
-  where
-    by : (b : Bool) → ltb n 10 ≡ b → P
-    by true e = below (ltb-true n 10 e)
-    by false e = above (ltb-false n 10 e)
+by-ten {P} n below above = by-cases (λ b. P) (ltb n 10) (λ e. below (ltb-true n 10 e)) (λ e. above (ltb-false n 10 e))
 
 -- more places than there are digits change nothing
 enough : (k n : ℕ) → n ≤ k → (j : ℕ) → n ≤ j → digits k n ≡ digits j n
@@ -74,12 +70,26 @@ module _ {o p : List ℕ} {i r n : ℕ} where
   two-digits h g w = rw (decimal-two n h g) w
 
   -- the hundreds, and two digits more
-  pub hundreds : 100 ≤ n → {q : List ℕ} {j : ℕ} → Put o i (decimal (n / 100)) q j → Put q j (twoDigits (n % 100)) p r → Put o i (decimal n) p r
-  hundreds h v w = rw (decimal-hundreds n h) (then v w)
+  pub hundreds : (m : ℕ) → m ≤ n → 100 ≤ m → {q : List ℕ} {j : ℕ} → Put o i (decimal (n / 100)) q j → Put q j (twoDigits (n % 100)) p r
+      → Put o i (decimal n) p r
+  hundreds m g h v w = rw (decimal-hundreds n (omega arith)) (then v w)
+
+-- three numbers, with what stands between them
+pub figures : (step number value : ℕ) {at : ℕ} {o p : List ℕ} {r : ℕ} {o₁ o₂ o₃ o₄ o₅ : List ℕ} {r₁ r₂ r₃ r₄ r₅ : ℕ}
+    → Put o at (decimal step) o₁ r₁ → Put o₁ r₁ (32 ∷ []) o₂ r₂ → Put o₂ r₂ (decimal number) o₃ r₃ → Put o₃ r₃ (32 ∷ []) o₄ r₄
+    → Put o₄ r₄ (decimal value) o₅ r₅ → Put o₅ r₅ (10 ∷ []) p r → Put o at (lineOf step number value) p r
+unfolding lineOf
+figures step number value a b c d e f = then a (then b (then c (then d (then e f))))
 
 -- a line of an outcome's figures
-pub line-told : {o p : List ℕ} {at r a b : ℕ} (step : ℕ) (x : Outcome) → a ≡ numberOf x → b ≡ valueOf x → Put o at (lineOf step a b) p r → Put o at (lineFor step x) p r
+pub line-told : {o p : List ℕ} {at r a b : ℕ} (step : ℕ) (x : Outcome) → a ≡ numberOf x → b ≡ valueOf x → Put o at (lineOf step a b) p r
+    → Put o at (lineFor step x) p r
 line-told step x f g w = rw (f, g) at w
+
+pub widened : {x a b : ℕ} → a ≡ b → b ≡ x → a ≡ x
+widened e f = e ∙ f
+
+pub ruleset writing = (one-digit, two-digits, hundreds, line-told, widened)
 
 -- a text made at the start of a buffer with room for it is what the buffer's first bytes are
 pub made : {o p t : List ℕ} {r : ℕ} → r ≤ length o → Put o 0 t p r → take r p ≡ t

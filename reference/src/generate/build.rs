@@ -2,7 +2,7 @@
 
 use crate::engine::Engine;
 use crate::random::Random;
-use crate::record::{Bytes, Label, Tape};
+use crate::record::{Bytes, Label, Medium, Tape};
 use crate::refusal::Answer;
 use crate::settings::{Settings, MOST_VAULTS};
 use crate::step::Step;
@@ -150,7 +150,7 @@ impl Builder {
     }
 
     /// A label that no earlier call gave.
-    pub fn fresh_label(&mut self, medium: u8) -> Label {
+    pub fn fresh_label(&mut self, medium: Medium) -> Label {
         const LETTERS: &[u8; 36] = b"ABCDEFGHIJKLMNOPQRSTUVWXYZ0123456789";
         let mut label = *b"AAAAAAL5";
         let mut rest = self.labels;
@@ -159,7 +159,7 @@ impl Builder {
             rest /= 36;
         }
         label[0] = *self.random.pick(LETTERS);
-        label[7] = b'0' + medium;
+        label[6..].copy_from_slice(&medium);
         self.labels += 1;
         label
     }

@@ -35,7 +35,7 @@ pub fn chains(builder: &mut Builder) {
 
 /// An accession to start from.
 fn begin(builder: &mut Builder) -> Tape {
-    let label = builder.fresh_label(7);
+    let label = builder.fresh_label(*b"L7");
     let tape = Tape {
         label,
         frames: 1_000_000,
@@ -48,13 +48,13 @@ fn begin(builder: &mut Builder) -> Tape {
 fn link(builder: &mut Builder, inputs: &[Tape]) -> Option<(Tape, Tape)> {
     let total: u64 = inputs.iter().map(|tape| tape.frames).sum();
     let drive = drive_for(&mut builder.random, inputs)?;
-    // Medium 7 can be read by drives 7 and 8, which both write it.
+    // L7 can be read by drives 7 and 8, which both write it.
     let big = Tape {
-        label: builder.fresh_label(7),
+        label: builder.fresh_label(*b"L7"),
         frames: total - 1,
     };
     let small = Tape {
-        label: builder.fresh_label(7),
+        label: builder.fresh_label(*b"L7"),
         frames: 1,
     };
     let outputs = if builder.random.chance(50) {

@@ -6,7 +6,7 @@ use super::traffic::{action, look_at_all};
 use super::FAMILIES;
 use crate::random::Random;
 use crate::record::{
-    entry_start, Bytes, Tape, FIRST_OUTPUT, HEAD_BYTES, LABEL_BYTES, RECORD_BYTES,
+    entry_start, Bytes, Medium, Tape, FIRST_OUTPUT, HEAD_BYTES, LABEL_BYTES, MEDIA, RECORD_BYTES,
 };
 use crate::settings::HEADER_BYTES;
 use crate::write::migration;
@@ -63,11 +63,11 @@ fn right_record(builder: &mut Builder) -> Bytes {
     }
     let mut inputs = Vec::new();
     for _ in 0..builder.random.between(1, 4) {
-        let label = builder.fresh_label(7);
+        let label = builder.fresh_label(*b"L7");
         let frames = frames(&mut builder.random);
         inputs.push(Tape { label, frames });
     }
-    new_migration(builder, &inputs).expect("drives 7 and 8 read medium 7")
+    new_migration(builder, &inputs).expect("drives 7 and 8 read L7")
 }
 
 /// Five inputs, none, one too few or one too many.
@@ -101,13 +101,23 @@ fn wrong_frames(random: &mut Random, record: &mut Bytes) {
     record[at..at + 4].copy_from_slice(&wrong.to_le_bytes());
 }
 
-/// A byte just outside (or just inside) what a label may have there.
+/// Endings that are nearly a medium.
+const NO_MEDIA: [Medium; 8] = [
+    *b"M5", *b"M6", *b"M7", *b"M9", *b"m8", *b"N8", *b"L4", *b"8M",
+];
+
+/// An ending that is no medium, or a byte just outside (or just inside) what a label may have there.
 fn wrong_label(random: &mut Random, record: &mut Bytes) {
     let entry = *random.pick(&used(record));
+    if random.chance(25) {
+        let end = entry_start(entry) + LABEL_BYTES;
+        record[end - 2..end].copy_from_slice(&random.pick(&NO_MEDIA)[..]);
+        return;
+    }
     let byte = random.below(LABEL_BYTES as u64) as usize;
     let near: &[u8] = match byte {
-        6 => b"KMl1",
-        7 => b"4:L\x055",
+        6 => b"KLMNlm1",
+        7 => b"456789:LM\x05",
         _ => b"/09:@AZ[az \x00\xff",
     };
     record[entry_start(entry) + byte] = *random.pick(near);
@@ -125,8 +135,8 @@ fn equal_labels(random: &mut Random, record: &mut Bytes) {
 /// One or more used entries get another medium.
 fn other_media(random: &mut Random, record: &mut Bytes) {
     for _ in 0..random.between(1, 3) {
-        let at = entry_start(*random.pick(&used(record))) + LABEL_BYTES - 1;
-        record[at] = *random.pick(b"56789");
+        let end = entry_start(*random.pick(&used(record))) + LABEL_BYTES;
+        record[end - 2..end].copy_from_slice(&random.pick(&MEDIA)[..]);
     }
 }
 
@@ -135,7 +145,7 @@ fn other_media(random: &mut Random, record: &mut Bytes) {
 fn wide_sums(builder: &mut Builder) -> Bytes {
     let mut tapes = Vec::new();
     for _ in 0..8 {
-        let label = builder.fresh_label(7);
+        let label = builder.fresh_label(*b"L7");
         tapes.push(Tape {
             label,
             frames: u64::from(u32::MAX),

@@ -2,7 +2,7 @@
 
 use super::build::Builder;
 use crate::random::Random;
-use crate::record::{medium, reads, writes, Bytes, Label, Tape};
+use crate::record::{medium, reads, writes, Bytes, Label, Medium, Tape, MEDIA};
 use crate::write::{accession, migration};
 
 const MOST: u64 = u32::MAX as u64;
@@ -18,12 +18,12 @@ pub fn frames(random: &mut Random) -> u64 {
     }
 }
 
-pub fn media_read(drive: u8) -> Vec<u8> {
-    (5..=9).filter(|m| reads(drive, *m)).collect()
+pub fn media_read(drive: u8) -> Vec<Medium> {
+    MEDIA.into_iter().filter(|m| reads(drive, *m)).collect()
 }
 
-pub fn media_written(drive: u8) -> Vec<u8> {
-    (5..=9).filter(|m| writes(drive, *m)).collect()
+pub fn media_written(drive: u8) -> Vec<Medium> {
+    MEDIA.into_iter().filter(|m| writes(drive, *m)).collect()
 }
 
 /// A drive that reads all these tapes, if there is one.

@@ -3,7 +3,9 @@
 use super::build::Builder;
 use super::records::{new_accession, new_migration, some_tapes};
 use crate::settings::MOST_VAULTS;
-use crate::write::{draw, faulty_acknowledgement, faulty_signature, generations, preflight, show};
+use crate::write::{
+    draw, faulty_acknowledgement, faulty_signature, generations, preflight, show, snapshot,
+};
 
 pub fn traffic(builder: &mut Builder) {
     let actions = builder.random.between(5, 60);
@@ -14,7 +16,7 @@ pub fn traffic(builder: &mut Builder) {
 
 pub fn action(builder: &mut Builder) {
     let job = recent_job(builder);
-    match builder.random.below(24) {
+    match builder.random.below(26) {
         0..=2 => {
             let record = new_accession(builder);
             builder.push(record);
@@ -37,6 +39,7 @@ pub fn action(builder: &mut Builder) {
         14 | 15 => odd_commit(builder, job),
         16 => repeat(builder, job),
         17 => misplaced(builder, job),
+        18 | 19 => visit(builder),
         _ => look(builder, job),
     }
 }
@@ -136,6 +139,14 @@ pub fn misplaced(builder: &mut Builder, job: u8) {
     if builder.random.chance(30) {
         let _ = builder.step(show(job));
         let _ = builder.step(generations(job));
+    }
+}
+
+/// Some visits of the snapshot: a few, or a round and more.
+pub fn visit(builder: &mut Builder) {
+    let most = *builder.random.pick(&[1, 2, builder.engine.settings.n + 1]);
+    for _ in 0..builder.random.between(1, most) {
+        let _ = builder.step(snapshot());
     }
 }
 

@@ -45,7 +45,8 @@ pub fn tame(builder: &mut Builder) {
     }
 }
 
-/// A step of any kind but 1; its bytes are mostly near what is in use.
+/// A step of any kind but 1; its bytes are mostly near what is in use, and
+/// those that it does not have are left over.
 fn any_step(builder: &mut Builder) -> Step {
     let (kind, _) = *builder.random.pick(&KINDS[1..]);
     let n = builder.engine.settings.n;

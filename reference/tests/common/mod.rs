@@ -1,16 +1,17 @@
 //! Short words for writing run files.
 #![allow(dead_code)]
 
-use reference::record::Bytes;
+use reference::record::{medium, reads, Bytes};
 use reference::step::Step;
 pub use reference::write::*;
 
 /// An accession of one tape, with a drive that reads its medium.
 pub fn accession(label: &[u8; 8], frames: u32) -> Bytes {
-    record(0, label[7] - b'0', &[], &[(label, frames)])
+    let drive = (5..=9).find(|drive| reads(*drive, medium(label)));
+    record(0, drive.unwrap(), &[], &[(label, frames)])
 }
 
-/// A migration of one tape to another, both of medium 7.
+/// A migration of one tape to another, both L7.
 pub fn migration(from: &[u8; 8], to: &[u8; 8], frames: u32) -> Bytes {
     record(1, 7, &[(from, frames)], &[(to, frames)])
 }

@@ -1,27 +1,13 @@
 -- The loop's invariant: no number before the present one passes, so it returns at the first that does.
-use mathlib.Core.Bool.{false}
-use mathlib.Core.Path.{_≡_}
-use Prim.Native.Nat.{_-_, _≤_}
-use borrow.Author.Needs.{needs}
-use Rattle.base.proofs.Search.{searches}
-use Rattle.base.specs.Search.{anyBelow}
+use Prim.Native.Nat.{_-_}
+use Rattle.base.proofs.Search.{NoneBefore, loops}
 use Rattle.checks.proofs.first_repeated.Statement.{statement}
 use Rattle.checks.specs.Checks.{repeatedAt}
 use Rattle.checks.proofs.first_repeated.Tie as tie
 
-ruleset by = (searches, needs)
-
 pub first-repeated-spec : {M : Type 1} → statement M
 first-repeated-spec =
     tie.close
-    (tie.spec
-    (λ job i₀ i. (i ≤ 8) × (anyBelow i (repeatedAt job) ≡ false))
-    (λ job i₀ i. 8 - i)
-    (λ c. search by depth 8)
-    (λ c. search by depth 8)
-    (λ c κs. search by depth 8)
-    (λ c. search by depth 8)
-    (λ c. search by depth 8)
-    (λ c. search by depth 8)
-    (λ c. search by depth 8)
-    (λ c. search by depth 8))
+    (tie.spec (λ job i₀ i. NoneBefore 8 (repeatedAt job) i) (λ job i₀ i. 8 - i) (λ c. search loops depth 8) (λ c. search loops depth 8)
+    (λ c κs. search loops depth 8) (λ c. search loops depth 8) (λ c. search loops depth 8) (λ c. search loops depth 8)
+    (λ c. search loops depth 8) (λ c. search loops depth 8))

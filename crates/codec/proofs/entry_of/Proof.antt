@@ -12,6 +12,4 @@ returns-2 : tie.Need-returns-2
 returns-2 c = no-entry _ _ (c .if1 .left)
 
 pub entry-of-spec : {M : Type 1} → statement M
-entry-of-spec =
-    tie.close
-    (tie.spec (λ c. search needs) (λ c. search needs) (λ c κs. search needs) returns returns-2)
+entry-of-spec = tie.close (tie.spec (λ c. search needs) (λ c. search needs) (λ c κs. search needs) returns returns-2)

@@ -4,9 +4,6 @@ use Rattle.codec.proofs.inputs_of.Statement.{statement}
 use Rattle.codec.specs.Codec.{jobOf}
 use Rattle.codec.proofs.inputs_of.Tie as tie
 
-returns : tie.Need-returns
-unfolding jobOf
-returns c = c .byte-at .ensures
-
 pub inputs-of-spec : {M : Type 1} → statement M
-inputs-of-spec = tie.close (tie.spec (λ c κs. search needs) returns)
+unfolding jobOf
+inputs-of-spec = tie.close (tie.spec (λ c κs. search needs) (λ c. search needs))

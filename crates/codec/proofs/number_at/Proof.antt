@@ -53,16 +53,5 @@ returns c =
 pub number-at-spec : {M : Type 1} → statement M
 number-at-spec =
     tie.close
-    (tie.spec
-    Inv-loop
-    μ-loop
-    loop-holds
-    (λ c. search needs)
-    mul-acc
-    (λ c. search needs)
-    (λ c κs. search needs)
-    (λ c. search needs)
-    add-acc
-    (λ c. search needs)
-    loop-again
-    returns)
+    (tie.spec Inv-loop μ-loop loop-holds (λ c. search needs) mul-acc (λ c. search needs) (λ c κs. search needs) (λ c. search needs) add-acc
+    (λ c. search needs) loop-again returns)

@@ -15,11 +15,4 @@ returns c =
     c .read .ensures ∙ same-job (s .args .job) _ _ (record { eight = n; fit = fits }) refl (c .before .before .before .write .ensures .1)
 
 pub reread-spec : {M : Type 1} → statement M
-reread-spec =
-    tie.close
-    (tie.spec
-    (λ c. search needs)
-    (λ c κs. search needs)
-    (λ c. search needs)
-    (λ c κs. search needs)
-    returns)
+reread-spec = tie.close (tie.spec (λ c. search needs) (λ c κs. search needs) (λ c. search needs) (λ c κs. search needs) returns)

@@ -21,14 +21,7 @@ returns-2 c =
 pub age-spec : {M : Type 1} → statement M
 age-spec =
     tie.close
-    (tie.spec
-    (λ c κs. search needs)
-    (λ c. search needs)
-    (λ c. search needs)
-    (λ c. search needs)
-    returns
+    (tie.spec (λ c κs. search needs) (λ c. search needs) (λ c. search needs) (λ c. search needs) returns
     (λ c. taken-length _ _ _ _ _ _ _ (c .before .before .before .before .before .before .before .before .before .pre))
     (λ c κs. ready-taken _ _ _ _ _ _ _ (c .before .before .before .before .before .before .before .before .before .before .pre))
-    (λ c. search needs)
-    (λ c. search needs)
-    returns-2)
+    (λ c. search needs) (λ c. search needs) returns-2)

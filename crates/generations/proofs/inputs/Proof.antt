@@ -5,16 +5,25 @@ use Rattle.generations.specs.Memo.{inputsOf}
 use Rattle.index.proofs.Inside.{part-job}
 use Rattle.record.specs.declared.Job.{Job}
 use borrow.Author.Needs.{needs}
-use mathlib.Core.Path.{_∙_, ap}
+use mathlib.Core.List.{List}
+use mathlib.Core.Path.{_∙_, _≡_, ap}
+use Prim.Native.Nat.{ℕ}
+use Rattle.codec.specs.Codec.{jobOf}
+use Rattle.index.specs.Places.{slotJob}
+use Rattle.journal.specs.Journal.{slotAt}
 use native.Mathlib.Omega.{arith}
+
+-- by the record that stands there
+counted : (journal part : List ℕ) (k count : ℕ) → part ≡ slotAt journal k → count ≡ jobOf part .inputs → count ≡ slotJob journal k .inputs
+counted journal part k count p e = e ∙ ap (λ (x : Job). x .inputs) (part-job journal part k p)
 
 returns : tie.Need-returns
 unfolding inputsOf
-returns c = omega (arith, c .before .wide .ensures .0, c .before .before .inputs-of .ensures ∙ ap (λ (x : Job). x .inputs) (part-job _ _ _ (c .before .before .before .slot .ensures)))
+returns c = let r = c .before .before in omega (arith, c .before .wide .ensures .0, counted _ _ _ _ (r .before .slot .ensures) (r .inputs-of .ensures))
 
 returns-2 : tie.Need-returns-2
 unfolding inputsOf
-returns-2 c = omega (arith, c .before .wide .ensures .0, c .before .before .inputs-of .ensures ∙ ap (λ (x : Job). x .inputs) (part-job _ _ _ (c .before .before .before .slot .ensures)))
+returns-2 c = let r = c .before .before in omega (arith, c .before .wide .ensures .0, counted _ _ _ _ (r .before .slot .ensures) (r .inputs-of .ensures))
 
 pub inputs-spec : {M : Type 1} → statement M
 inputs-spec = tie.close (tie.spec (λ c κs. search needs) (λ c κs. search needs) (λ c κs. search needs) returns returns-2)

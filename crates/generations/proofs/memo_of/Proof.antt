@@ -9,7 +9,4 @@ use Rattle.generations.proofs.memo_of.Tie as tie
 pub memo-of-spec : {M : Type 1} → statement M
 memo-of-spec =
     tie.close
-    (tie.spec
-    (λ c. search needs)
-    (λ c. search needs)
-    (λ c. sym (List·getD-eq-default (now (c .before .args .memo)) 0 (c .if1 .left))))
+    (tie.spec (λ c. search needs) (λ c. search needs) (λ c. sym (List·getD-eq-default (now (c .before .args .memo)) 0 (c .if1 .left))))

@@ -5,11 +5,9 @@ use Rattle.journal.proofs.slot.Statement.{statement}
 use Rattle.journal.specs.Journal.{slotAt}
 use Rattle.journal.proofs.slot.Tie as tie
 
-returns : tie.Need-returns
-unfolding slotAt
-returns c = search add-sub-cancel-left
-
 pub slot-spec : {M : Type 1} → statement M
+unfolding slotAt
 slot-spec =
     tie.close
-    (tie.spec (λ c. search needs) (λ c. search needs) (λ c. search needs) (λ c. search needs) (λ c. search needs) returns)
+    (tie.spec (λ c. search needs) (λ c. search needs) (λ c. search needs) (λ c. search needs) (λ c. search needs)
+    (λ c. search add-sub-cancel-left))

@@ -8,7 +8,8 @@ use borrow.Author.Needs.{needs}
 use mathlib.Core.Path.{_∙_, ap, refl, sym}
 use native.Mathlib.Nat.{le-refl, lt-irrefl}
 use native.Mathlib.Omega.{arith}
-use mathlib.Core.Bool.{Bool, false, true}
+use mathlib.Core.Bool.{true}
+use Rattle.base.proofs.Reflect.{by-cases}
 use mathlib.Core.List.{List}
 use mathlib.Core.Path.{_≡_}
 use Prim.Native.Nat.{ℕ}
@@ -29,14 +30,9 @@ use Rattle.run.specs.Pieces.{blank, runAt}
 -- the new ledger has the header's settings
 began : (input : List ℕ) (s : Settings) → s ≡ opened input .settings → (r : Reply) → r ≡ newOf (s .n) (s .b) (s .faulty) → r .ledger ≡ opened input
 unfolding opened newOf newLedger
-began input s e r q = by (isLawful (record { n = s .n; b = s .b; faulty = s .faulty })) refl
-  where
-    made : Ledger
-    made = newLedger (s .n) (s .b) (s .faulty)
-
-    by : (b : Bool) → isLawful (made .settings) ≡ b → r .ledger ≡ opened input
-    by true t = ap (λ (x : Reply). x .ledger) q ∙ simp t (rw e)
-    by false t = ap (λ (x : Reply). x .ledger) q ∙ simp t (rw e)
+began input s e r q =
+    by-cases (λ b. r .ledger ≡ opened input) (isLawful (record { n = s .n; b = s .b; faulty = s .faulty }))
+    (λ t. ap (λ (x : Reply). x .ledger) q ∙ simp t (rw e)) (λ t. ap (λ (x : Reply). x .ledger) q ∙ simp t (rw e))
 
 begins-at : (input : List ℕ) (l : Ledger) → l ≡ opened input → runAt l headerSize 0 (blank journalSize) ≡ begins input
 begins-at input l e = rw e
@@ -62,7 +58,26 @@ returns c =
     }
 
 returns-2 : tie.Need-returns-2
-returns-2 c = let w = c .before .before .before .before .write-line .ensures in record { piece = piece-more (nothing-yet refl) (refused-run _ (sym (c .before .before .before .before .before .before .before .opens .ensures) ∙ c .before .before .before .before .before .before .if1 .left) _ (le-refl _)) (w .0) (omega arith); going = λ l. absurd (lt-irrefl _ l); silent = λ l. absurd (lt-irrefl _ l); first = λ l. absurd (lt-irrefl _ l) }
+returns-2 c =
+    let w = c .before .before .before .before in
+    let shut = w .before .before in
+    let text = refused-run _ (sym (shut .before .opens .ensures) ∙ shut .if1 .left) _ (le-refl _) in
+    record {
+      piece = piece-more (nothing-yet refl) text (w .write-line .ensures .0) (omega arith);
+      going = λ l. absurd (lt-irrefl _ l);
+      silent = λ l. absurd (lt-irrefl _ l);
+      first = λ l. absurd (lt-irrefl _ l);
+    }
 
 pub start-spec : {M : Type 1} → statement M
-start-spec = tie.close (tie.spec (λ c κs. search needs) settings-in-requires (λ c κs. search needs) returns (λ c κs. search needs) (λ c κs. search needs) (λ c. search needs) returns-2)
+start-spec =
+    tie.close
+    (tie.spec
+    (λ c κs. search needs)
+    settings-in-requires
+    (λ c κs. search needs)
+    returns
+    (λ c κs. search needs)
+    (λ c κs. search needs)
+    (λ c. search needs)
+    returns-2)

@@ -16,11 +16,4 @@ returns c = simp (← c .before .number .ensures .0) (c .set-at .ensures)
 
 pub set-of-spec : {M : Type 1} → statement M
 set-of-spec =
-    tie.close
-    (tie.spec
-    (λ c κs. search needs)
-    (λ c. search needs)
-    (λ c. search needs)
-    (λ c. search needs)
-    set-at-requires
-    returns)
+    tie.close (tie.spec (λ c κs. search needs) (λ c. search needs) (λ c. search needs) (λ c. search needs) set-at-requires returns)

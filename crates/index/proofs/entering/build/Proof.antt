@@ -32,17 +32,5 @@ same-length-3 c = indexed-lengths _ _ _ _ _ (c .before .loop .inv .1) _ _ _ (c .
 pub build-spec : {M : Type 1} → statement M
 build-spec =
     tie.close
-    (tie.spec
-    Inv-loop
-    μ-loop
-    (λ c. search by)
-    (λ c κs. search needs)
-    (λ c κs. search needs)
-    enter-requires
-    (λ c. search needs)
-    (λ c. search needs)
-    (λ c. search needs)
-    same-length
-    same-length-2
-    same-length-3
-    (λ c. search by))
+    (tie.spec Inv-loop μ-loop (λ c. search by) (λ c κs. search needs) (λ c κs. search needs) enter-requires (λ c. search needs)
+    (λ c. search needs) (λ c. search needs) same-length same-length-2 same-length-3 (λ c. search by))

@@ -16,12 +16,4 @@ returns c =
     indexed-next _ _ _ _ _ (p .2) _ _ _ _ (p .0) (p .1) (d .enter-entries .ensures) (c .before .before .file .ensures)
 
 pub enter-spec : {M : Type 1} → statement M
-enter-spec =
-    tie.close
-    (tie.spec
-    (λ c κs. search needs)
-    file-requires
-    (λ c. search needs)
-    (λ c. search needs)
-    (λ c. search needs)
-    returns)
+enter-spec = tie.close (tie.spec (λ c κs. search needs) file-requires (λ c. search needs) (λ c. search needs) (λ c. search needs) returns)

@@ -30,14 +30,5 @@ same-length-2 c =
 pub enter-entries-spec : {M : Type 1} → statement M
 enter-entries-spec =
     tie.close
-    (tie.spec
-    Inv-loop
-    μ-loop
-    (λ c. search by)
-    (λ c κs. search by)
-    (λ c. search needs)
-    (λ c. search needs)
-    (λ c. search by)
-    same-length
-    same-length-2
-    (λ c. search by))
+    (tie.spec Inv-loop μ-loop (λ c. search by) (λ c κs. search by) (λ c. search needs) (λ c. search needs) (λ c. search by) same-length
+    same-length-2 (λ c. search by))

@@ -9,14 +9,5 @@ ruleset by = (used-entry, unused-entry, needs)
 pub enter-entry-spec : {M : Type 1} → statement M
 enter-entry-spec =
     tie.close
-    (tie.spec
-    (λ c κs. search needs)
-    (λ c. search needs)
-    (λ c. search needs)
-    (λ c κs. search needs)
-    (λ c κs. search needs)
-    (λ c κs. search by)
-    (λ c. search needs)
-    (λ c. search needs)
-    (λ c. search needs)
-    (λ c. search by))
+    (tie.spec (λ c κs. search needs) (λ c. search needs) (λ c. search needs) (λ c κs. search needs) (λ c κs. search needs)
+    (λ c κs. search by) (λ c. search needs) (λ c. search needs) (λ c. search needs) (λ c. search by))

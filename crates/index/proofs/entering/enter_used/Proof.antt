@@ -27,11 +27,4 @@ returns c =
 pub enter-used-spec : {M : Type 1} → statement M
 enter-used-spec =
     tie.close
-    (tie.spec
-    numbers-of-requires
-    mark-requires
-    (λ c κs. search needs)
-    put-requires
-    (λ c. search needs)
-    (λ c. search needs)
-    returns)
+    (tie.spec numbers-of-requires mark-requires (λ c κs. search needs) put-requires (λ c. search needs) (λ c. search needs) returns)

@@ -11,6 +11,4 @@ returns-2 : tie.Need-returns-2
 returns-2 c = simp (ne-eqb _ _ (c .before .if1 .left)) (c .number .ensures .0)
 
 pub label-number-spec : {M : Type 1} → statement M
-label-number-spec =
-    tie.close
-    (tie.spec returns (λ c. search needs) (λ c κs. search needs) returns-2)
+label-number-spec = tie.close (tie.spec returns (λ c. search needs) (λ c κs. search needs) returns-2)

@@ -1,6 +1,6 @@
 use Rattle.ledger.proofs.Ledger.apply.Statement.{statement}
 use Rattle.ledger.proofs.Ledger.apply.Tie as tie
-use Rattle.ledger.specs.State.{applied, booking, voted, withVault}
+use Rattle.ledger.specs.State.{applied, booking, visited, voted, withVault}
 use borrow.Author.Needs.{needs}
 
 returns : tie.Need-returns
@@ -22,6 +22,10 @@ returns-4 c = simp (c .before .before .before .change2 .given .1, c .arrive .ens
 returns-5 : tie.Need-returns-5
 unfolding applied voted
 returns-5 c = simp (c .before .before .change3 .given .1, c .with3 .ensures)
+
+returns-6 : tie.Need-returns-6
+unfolding applied visited
+returns-6 c = simp (c .before .before .change4 .given .1, c .following .ensures)
 
 pub apply-spec : {M : Type 1} → statement M
 apply-spec =
@@ -49,8 +53,11 @@ apply-spec =
     (λ c κs. search needs)
     (λ c. search needs)
     (λ c. search needs)
+    (λ c. search needs)
+    (λ c κs. search (needs))
     returns
     returns-2
     returns-3
     returns-4
-    returns-5)
+    returns-5
+    returns-6)

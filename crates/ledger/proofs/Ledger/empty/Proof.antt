@@ -1,16 +1,11 @@
--- `empty` is what `newLedger` says.
--- Assumes nothing.
-use borrow.Author.Needs.{needs}
 use Rattle.ledger.proofs.Ledger.empty.Statement.{statement}
-use Rattle.ledger.specs.State.{newLedger}
 use Rattle.ledger.proofs.Ledger.empty.Tie as tie
-
-new-requires : tie.Need-new-requires
-new-requires c κs = search needs
+use Rattle.ledger.specs.State.{newLedger}
+use borrow.Author.Needs.{needs}
 
 returns : tie.Need-returns
 unfolding newLedger
-returns c = simp (c .new .ensures)
+returns c = simp (c .new .ensures, c .before .empty .ensures)
 
 pub empty-spec : {M : Type 1} → statement M
-empty-spec = tie.close (tie.spec new-requires returns)
+empty-spec = tie.close (tie.spec (λ c κs. search needs) (λ c κs. search needs) returns)

@@ -1,6 +1,5 @@
--- Each return is one way through the tests of `labelOf`.
-use mathlib.Core.Path.{_≡_, ap, refl}
-use lib.ListN.{length}
+-- An entry past the eighth holds nothing.
+use mathlib.Core.Path.{ap, refl}
 use borrow.Author.Needs.{needs}
 use Rattle.record.proofs.Eight.{entry-past, length-mapped}
 use Rattle.record.proofs.entries.label.Statement.{statement}
@@ -8,15 +7,10 @@ use Rattle.record.specs.Entries.{labelOf}
 use Rattle.record.specs.declared.Entry.{Entry}
 use Rattle.record.proofs.entries.label.Tie as tie
 
-returns : tie.Need-returns
+past : tie.Need-returns-2
 unfolding labelOf
-returns c = refl
-
-returns-2 : tie.Need-returns-2
-unfolding labelOf
-returns-2 c =
-    let n : length (c .before .args .t1 .entries) ≡ 8 = search length-mapped in
-    ap (λ (e : Entry). e .label) (entry-past (c .before .args .t1) (c .before .args .i) n (c .if1 .left))
+past c = let s = c .before .args in ap (λ (e : Entry). e .label) (entry-past (s .t1) (s .i) (search length-mapped) (c .if1 .left))
 
 pub label-spec : {M : Type 1} → statement M
-label-spec = tie.close (tie.spec (λ c. search needs) (λ c. search needs) returns returns-2)
+unfolding labelOf
+label-spec = tie.close (tie.spec (λ c. search needs) (λ c. search needs) (λ c. refl) past)

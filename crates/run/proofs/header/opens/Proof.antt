@@ -11,9 +11,6 @@ returns : tie.Need-returns
 unfolding opens
 returns c = simp (lt-leb _ _ (c .if1 .taken))
 
-is-header-requires : tie.Need-is-header-requires
-is-header-requires c κs = search needs
-
 returns-2 : tie.Need-returns-2
 unfolding opens
 returns-2 c = simp (le-leb _ _ (c .before .before .if1 .left), sym (c .before .is-header .ensures) ∙ not-true _ (c .if2 .taken))
@@ -21,20 +18,25 @@ returns-2 c = simp (le-leb _ _ (c .before .before .if1 .left), sym (c .before .i
 settings-in-requires : tie.Need-settings-in-requires
 settings-in-requires c κs = header-long _ (sym (c .before .is-header .ensures) ∙ not-false _ (c .if2 .left))
 
-is-lawful-requires : tie.Need-is-lawful-requires
-is-lawful-requires c κs = search needs
-
 returns-3 : tie.Need-returns-3
 unfolding opens
-returns-3 c = simp (le-leb _ _ (c .before .before .before .before .if1 .left), sym (c .before .before .before .is-header .ensures) ∙ not-false _ (c .before .before .if2 .left), ← c .before .settings-in .ensures, c .is-lawful .ensures)
+returns-3 c =
+    let h = c .before .before in
+    simp (
+      le-leb _ _ (h .before .before .if1 .left),
+      sym (h .before .is-header .ensures)
+          ∙ not-false _ (h .if2 .left),
+      ← c .before .settings-in .ensures,
+      c .is-lawful .ensures,
+    )
 
 pub opens-spec : {M : Type 1} → statement M
 opens-spec =
     tie.close
     (tie.spec
     returns
-    is-header-requires
+    (λ c κs. search needs)
     returns-2
     settings-in-requires
-    is-lawful-requires
+    (λ c κs. search needs)
     returns-3)

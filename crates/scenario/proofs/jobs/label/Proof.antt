@@ -48,13 +48,5 @@ returns c = let l = c .before .loop in leAt-all _ 0 (l .k) 8 _ (c .loop-test .le
 pub label-spec : {M : Type 1} → statement M
 label-spec =
     tie.close
-    (tie.spec Inv-loop μ-loop
-    loop-holds
-    (λ c. search needs)
-    mul-sum
-    (λ c. search needs)
-    (λ c κs. search needs)
-    add-sum
-    (λ c. search needs)
-    loop-again
-    returns)
+    (tie.spec Inv-loop μ-loop loop-holds (λ c. search needs) mul-sum (λ c. search needs) (λ c κs. search needs) add-sum (λ c. search needs)
+    loop-again returns)

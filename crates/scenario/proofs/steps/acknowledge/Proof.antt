@@ -9,4 +9,6 @@ returns : tie.Need-returns
 returns c = c .report .ensures ∙ ap (λ (x : Reply). x .ledger) (c .before .faulty-vote .ensures)
 
 pub acknowledge-spec : {M : Type 1} → statement M
-acknowledge-spec = tie.close (tie.spec (λ c. search needs) (λ c κs. search needs) (λ c. search needs) (λ c κs. search needs) (λ c κs. search needs) returns)
+acknowledge-spec =
+    tie.close
+    (tie.spec (λ c. search needs) (λ c κs. search needs) (λ c. search needs) (λ c κs. search needs) (λ c κs. search needs) returns)

@@ -9,4 +9,6 @@ returns : tie.Need-returns
 returns c = c .report .ensures ∙ ap (λ (x : Reply). x .ledger) (c .before .preflight .ensures)
 
 pub preflight-spec : {M : Type 1} → statement M
-preflight-spec = tie.close (tie.spec (λ c. search needs) (λ c κs. search needs) (λ c. search needs) (λ c κs. search needs) (λ c κs. search needs) returns)
+preflight-spec =
+    tie.close
+    (tie.spec (λ c. search needs) (λ c κs. search needs) (λ c. search needs) (λ c κs. search needs) (λ c κs. search needs) returns)

@@ -7,12 +7,9 @@ use Rattle.sets.proofs.Bits.{has-beyond}
 use Rattle.sets.proofs.vaults.has.Statement.{statement}
 use Rattle.sets.proofs.vaults.has.Tie as tie
 
-returns : tie.Need-returns
-unfolding hasBit
-returns c = search needs
-
 returns-2 : tie.Need-returns-2
 returns-2 c = sym (has-beyond 16 (c .before .args .set) (c .before .args .vault) (omega arith) (c .if1 .left))
 
 pub has-spec : {M : Type 1} → statement M
-has-spec = tie.close (tie.spec (λ c. search needs) returns returns-2)
+unfolding hasBit
+has-spec = tie.close (tie.spec (λ c. search needs) (λ c. search needs) returns-2)

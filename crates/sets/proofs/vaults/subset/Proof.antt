@@ -4,9 +4,6 @@ use Rattle.sets.specs.Bits.{subsetOf}
 use Rattle.sets.proofs.vaults.subset.Statement.{statement}
 use Rattle.sets.proofs.vaults.subset.Tie as tie
 
-returns : tie.Need-returns
-unfolding subsetOf
-returns c = search needs
-
 pub subset-spec : {M : Type 1} → statement M
-subset-spec = tie.close (tie.spec returns)
+unfolding subsetOf
+subset-spec = tie.close (tie.spec (λ c. search needs))

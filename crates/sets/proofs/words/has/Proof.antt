@@ -4,9 +4,6 @@ use Rattle.sets.specs.Bits.{hasBit}
 use Rattle.sets.proofs.words.has.Statement.{statement}
 use Rattle.sets.proofs.words.has.Tie as tie
 
-returns : tie.Need-returns
-unfolding hasBit
-returns c = search needs
-
 pub has-spec : {M : Type 1} → statement M
-has-spec = tie.close (tie.spec (λ c. search needs) returns)
+unfolding hasBit
+has-spec = tie.close (tie.spec (λ c. search needs) (λ c. search needs))

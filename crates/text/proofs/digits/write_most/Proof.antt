@@ -1,11 +1,18 @@
-use Rattle.text.proofs.Writing.{hundreds}
+use Rattle.text.proofs.Writing.{writing}
 use Rattle.text.proofs.digits.write_most.Statement.{statement}
 use Rattle.text.proofs.digits.write_most.Tie as tie
 use borrow.Author.Needs.{needs}
-use native.Mathlib.Omega.{arith}
 
-returns-2 : tie.Need-returns-2
-returns-2 c = (hundreds (omega (arith, c .before .before .before .before .before .before .before .before .if1 .left)) (c .before .before .before .before .before .before .write-many .ensures .0) (c .before .before .write-two .ensures .0), omega arith)
+ruleset by = (writing, needs)
 
 pub write-most-spec : {M : Type 1} → statement M
-write-most-spec = tie.close (tie.spec (λ c κs. search needs) (λ c. search needs) (λ c. search needs) (λ c κs. search needs) (λ c κs. search needs) (λ c. search needs) returns-2)
+write-most-spec =
+    tie.close
+    (tie.spec
+    (λ c κs. search by)
+    (λ c. search by)
+    (λ c. search by)
+    (λ c κs. search by)
+    (λ c κs. search by)
+    (λ c. search by)
+    (λ c. search by))

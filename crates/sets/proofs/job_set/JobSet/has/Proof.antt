@@ -1,21 +1,12 @@
--- The two tests choose the word, whose own function gives the rest.
-use borrow.Author.Tests.{lt-ltb, le-ltb}
+-- Two tests choose the word, whose own function gives the rest.
 use borrow.Author.Needs.{needs}
+use Rattle.base.proofs.Tests.{chain}
 use Rattle.sets.specs.Jobs.{jobHas}
 use Rattle.sets.proofs.job_set.JobSet.has.Statement.{statement}
 use Rattle.sets.proofs.job_set.JobSet.has.Tie as tie
 
-returns : tie.Need-returns
-unfolding jobHas
-returns c = simp (c .has .ensures, lt-ltb _ _ (c .before .if1 .taken))
-
-returns-2 : tie.Need-returns-2
-unfolding jobHas
-returns-2 c = simp (c .has2 .ensures, le-ltb _ _ (c .before .before .if1 .left), lt-ltb _ _ (c .before .if2 .taken))
-
-returns-3 : tie.Need-returns-3
-unfolding jobHas
-returns-3 c = simp (le-ltb _ _ (c .before .if1 .left), le-ltb _ _ (c .if2 .left))
+ruleset by = (chain, needs)
 
 pub has-spec : {M : Type 1} → statement M
-has-spec = tie.close (tie.spec (λ c κs. search needs) returns (λ c κs. search needs) returns-2 returns-3)
+unfolding jobHas
+has-spec = tie.close (tie.spec (λ c κs. search by) (λ c. search by) (λ c κs. search by) (λ c. search by) (λ c. search by))

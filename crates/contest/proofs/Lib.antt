@@ -1,0 +1,10 @@
+pub mod Lawful
+pub mod Counts
+pub mod Tallies
+pub mod Greedy
+pub mod Ends
+pub mod Rivals
+pub mod Winning
+pub mod Both
+pub mod Meaning
+pub mod Worked

@@ -1,0 +1,4 @@
+pub mod Contest
+pub mod Game
+pub mod Meaning
+pub mod Plans

@@ -1,0 +1,5 @@
+pub mod Ranges
+pub mod Form
+pub mod Tighten
+pub mod Spans
+pub mod Meaning

@@ -1,0 +1,50 @@
+-- A round of the snapshot (document 02, "Stock-take while jobs go on"): each vault is visited once, and other steps may come between. "At the end of a round
+-- the jobs seen include all that sound vaults held when it began, and none that no sound vault holds when it ends."
+use mathlib.Core.Bool.{Bool, cond, false, true}
+use mathlib.Core.List.{List, [], _++_, _∷_}
+use mathlib.Core.Path.{_≡_}
+use Prim.Native.Nat.{suc, ℕ}
+use Rattle.outcome.specs.declared.Outcome.{Outcome}
+use Rattle.outcome.specs.declared.Outcome.the-variants.{Done}
+use Rattle.sets.specs.Jobs.{jobCount, jobHas}
+use Rattle.federation.specs.Federation.{Lawful}
+use Rattle.ledger.specs.Demand3.{Held}
+use Rattle.ledger.specs.Worlds.{Event, Request, World, afterAll, commit, faultyVote, generations, preflight, propose, replyTo, show, snapshot, start}
+
+abbrev pub isSnapshot : Request → Bool
+isSnapshot (propose bytes) = false
+isSnapshot (preflight v job) = false
+isSnapshot (commit v job signers) = false
+isSnapshot (faultyVote column v job) = false
+isSnapshot (show job) = false
+isSnapshot (generations job) = false
+isSnapshot snapshot = true
+
+-- how many events are of kind 9
+abbrev pub visits : List Event → ℕ
+visits [] = 0
+visits (e ∷ es) = cond (isSnapshot (e .request)) (suc (visits es)) (visits es)
+
+-- n visits, the last of them the last event. Events before the first visit may be among them: the claim is then about what was held before those.
+pub record Round (n : ℕ) (es : List Event) : Type 0 where
+  pub before : List Event
+  pub last : Event
+  pub split : es ≡ before ++ (last ∷ [])
+  pub closes : last .request ≡ snapshot
+  pub count : visits es ≡ n
+
+-- of the worlds before and after, and of the last answer
+pub record Counted (w w′ : World) (answer : Outcome) : Type 0 where
+  pub included : (k : ℕ) → Held (w .ledger) k → jobHas (w′ .ledger .seen) k ≡ true
+  pub genuine : (k : ℕ) → jobHas (w′ .ledger .seen) k ≡ true → Held (w′ .ledger) k
+  pub value : answer ≡ Done (jobCount (w′ .ledger .seen))
+  -- the following visit begins anew
+  pub anew : w′ .ledger .next ≡ 0
+
+-- wherever a list of steps has led and a round is about to begin
+abbrev pub Rounds : Type 0
+Rounds =
+    (n b faulty : ℕ) → Lawful (record { n = n; b = b; faulty = faulty }) → (es : List Event)
+    → afterAll (start n b faulty) es .ledger .next ≡ 0 → (rs : List Event) (r : Round n rs)
+    → Counted (afterAll (start n b faulty) es) (afterAll (afterAll (start n b faulty) es) rs)
+    (replyTo (afterAll (afterAll (start n b faulty) es) (r .before)) (r .last) .outcome)

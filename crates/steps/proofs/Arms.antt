@@ -1,0 +1,123 @@
+-- Each arm of the decision is its command's: the vault and the job that were read are those that the command names.
+use mathlib.Core.Bool.{Bool, Bool·beq, false, true}
+use mathlib.Core.List.{List}
+use mathlib.Core.Path.{_∙_, _≡_, ap, refl, subst, sym}
+use Prim.Native.Nat.{_+_, _-_, _≤_, ℕ}
+use native.Mathlib.Nat.{add-sub-cancel-left}
+use native.Mathlib.Omega.{arith}
+use lib.Dec.{ltb}
+use lib.ListN.{drop, length, take}
+use Rattle.federation.specs.declared.Settings.{Settings}
+use Rattle.outcome.specs.declared.Outcome.{Outcome}
+use Rattle.outcome.specs.declared.Outcome.the-variants.{Refused}
+use Rattle.outcome.specs.declared.Refusal.the-variants.{NoVault, NotBooked, WrongVault}
+use Rattle.outcome.specs.declared.Verdict.{Verdict}
+use Rattle.outcome.specs.declared.Verdict.the-variants.{Pass}
+use Rattle.sets.specs.Bits.{hasBit}
+use Rattle.codec.specs.Codec.{recordSize}
+use Rattle.journal.proofs.Booked.{reflect-booked}
+use Rattle.journal.specs.Journal.{capacity, insideOf, isBooked, jobAt}
+use Rattle.generations.specs.Memo.{Memo}
+use Rattle.index.proofs.Tables.{records-part}
+use Rattle.index.specs.Index.{Indexed, IndexedRecords}
+use Rattle.ledger.proofs.Gates.{passed-rest, passed-test}
+use Rattle.ledger.specs.Decisions.{committing, gated}
+use Rattle.ledger.specs.Given.{Aged, Known, Searchable}
+use Rattle.ledger.specs.Steps.{gateOf}
+use Rattle.ledger.specs.declared.Column.the-variants.{Acknowledgements, Signatures}
+use Rattle.ledger.specs.declared.Votes.{Votes}
+use Rattle.ledger.specs.Worlds.{commit, faultyVote, generations, preflight, propose, show, snapshot}
+use Rattle.ledger.specs.declared.Change.the-variants.{Nothing}
+use Rattle.ledger.specs.declared.Decision.{Decision}
+use Rattle.ledger.specs.declared.Vault.{Vault}
+use Rattle.runfile.specs.Steps.{Command, commandIn, draw, request, unreadable, wordAt}
+use Rattle.runfile.specs.declared.Kind.{Kind}
+use Rattle.runfile.specs.declared.Kind.the-variants.{Commit, Draw, FaultyAcknowledge, FaultySign, Generations, Preflight, Propose, Show, Snapshot, Unknown}
+use Rattle.steps.specs.Decided.{Answered, bookedOr, decidedBy, gateBy, jobOf, vaultOf}
+use Rattle.steps.specs.Reading.{Asked}
+use Rattle.steps.specs.declared.Books.{Books}
+use Rattle.steps.specs.declared.Step.{Step}
+use Rattle.steps.specs.declared.View.{View}
+
+-- all booked records lie inside a run's journal
+pub searched : (journal : List ℕ) (booked : ℕ) (numbers sets records : List ℕ) → Indexed journal booked numbers sets records
+    → Searchable journal booked records
+unfolding insideOf
+searched journal booked numbers sets records i =
+    let e : booked ≡ insideOf journal booked = omega (arith, i .inside) in
+    record { few = i .few; indexed = subst (λ (n : ℕ). IndexedRecords journal n records) e (records-part journal booked numbers sets records i) }
+
+-- a job whose gate passes is booked
+pub known-behind : (w : View) (journal : List ℕ) (v : ℕ) (faulty : Bool) (job : ℕ) (g : Verdict) → g ≡ gateBy w journal v faulty job
+    → Known g (w .booked) job
+unfolding gateOf
+known-behind w journal v faulty job g h = record {
+  below = λ p.
+      let vault = passed-rest (ltb v (w .settings .n)) _ NoVault (sym h ∙ p) in
+      let kind = passed-rest (Bool·beq (hasBit (w .settings .faulty) v) faulty) _ WrongVault vault in
+      reflect-booked journal (w .booked) job .sound (passed-test (isBooked journal (w .booked) job) Pass NotBooked kind) .below;
+}
+
+-- the command of a kind with this vault and this job
+abbrev again : Kind → ℕ → ℕ → List ℕ → ℕ → Command
+again Propose v job input at = request (propose (take (at + 100 - at) (drop at input)))
+again Preflight v job input at = request (preflight v job)
+again Commit v job input at = request (commit v job (wordAt input (at + 2)))
+again FaultySign v job input at = request (faultyVote Signatures v job)
+again FaultyAcknowledge v job input at = request (faultyVote Acknowledgements v job)
+again Show v job input at = request (show job)
+again Draw v job input at = draw job
+again Generations v job input at = request (generations job)
+again Snapshot v job input at = request snapshot
+again Unknown v job input at = unreadable
+
+module _ (input : List ℕ) (at : ℕ) where
+  same-command : (k : Kind) → again k (vaultOf (commandIn k input at)) (jobOf (commandIn k input at)) input at ≡ commandIn k input at
+  same-command Propose = simp add-sub-cancel-left
+  same-command Preflight = refl
+  same-command Commit = refl
+  same-command FaultySign = refl
+  same-command FaultyAcknowledge = refl
+  same-command Show = refl
+  same-command Draw = refl
+  same-command Generations = refl
+  same-command Snapshot = refl
+  same-command Unknown = refl
+
+module _ (w : View) (journal input : List ℕ) (s : Step) (a : Asked input s) where
+  pub told : (k : Kind) → s .kind ≡ k → (r : Decision) → r ≡ decidedBy w journal (again k (s .vault) (s .job) input (s .at))
+      → r ≡ decidedBy w journal (commandIn (s .kind) input (s .at))
+  told k e r h =
+      let same : again (s .kind) (s .vault) (s .job) input (s .at) ≡ commandIn (s .kind) input (s .at) =
+      rw (a .vault-is, a .job-is) (same-command input (s .at) (s .kind)) in
+      h ∙ ap (decidedBy w journal) (ap (λ (x : Kind). again x (s .vault) (s .job) input (s .at)) (sym e) ∙ same)
+
+  -- of a proposal the record is all there
+  pub record-whole : s .kind ≡ Propose → s .at + recordSize ≤ length input
+  record-whole e = a .whole e
+
+-- behind a gate that was found
+pub regated : (g g′ : Verdict) (d r : Decision) → g ≡ g′ → r ≡ gated g d → r ≡ gated g′ d
+regated g g′ d r e h = rw e at h
+
+-- with the signers that were read
+pub with-signers : (g : Verdict) (s : Settings) (state : Vault) (votes : Votes) (v job x y : ℕ) (r : Decision) → x ≡ y
+    → r ≡ gated g (committing s state votes v job x) → r ≡ gated g (committing s state votes v job y)
+with-signers g s state votes v job x y r e h = rw e at h
+
+pub drawn : (o o′ : Outcome) → o ≡ o′ → _≡_ {A = Decision} (record { outcome = o; change = Nothing }) (record { outcome = o′; change = Nothing })
+drawn o o′ e = rw e
+
+pub ruleset arms = (searched, known-behind, told, record-whole, regated, with-signers, drawn)
+
+-- ---- generations
+module _ (a : Books) (order journal memo : List ℕ) (job : ℕ) (b : Bool) (e : b ≡ isBooked journal (a .booked) job) where
+  pub aged : (d : Decision) → b ≡ true → Aged (a .settings) (a .vaults) order (a .arrivals) journal (a .booked) memo job d
+      → Answered a order journal memo job (d .outcome)
+  unfolding bookedOr
+  aged d t h = record { outcome = simp (sym e ∙ t) (ap (λ (d : Decision). d .outcome) (h .decision)); right = h .right; size = h .size }
+
+  pub unbooked : b ≡ false → Memo (jobAt journal (a .booked)) order (a .arrivals) memo → length memo ≡ capacity
+      → Answered a order journal memo job (Refused NotBooked)
+  unfolding bookedOr
+  unbooked f m z = record { outcome = simp (sym e ∙ f); right = m; size = z }

@@ -1,0 +1,5 @@
+pub mod Arms
+pub mod Quiet
+pub mod Records
+pub mod Rows
+pub mod Turns

@@ -1,0 +1,87 @@
+-- What is not a proposal books nothing; so a new record is the one that was proposed, and there is room for it.
+use mathlib.Core.Bool.{Bool, cond, false, true, true≢false}
+use mathlib.Core.List.{List}
+use mathlib.Core.Logic.{_⊎_, inl, inr, ⊎-elim}
+use mathlib.Core.Path.{_∙_, _≡_, ap, refl, subst, sym}
+use Prim.Native.Nat.{_+_, ℕ}
+use lib.Count.{ones}
+use lib.ListN.{drop, getD, take}
+use Rattle.base.proofs.Reflect.{by-cases}
+use Rattle.codec.specs.Codec.{recordSize}
+use Rattle.outcome.specs.declared.Verdict.{Verdict}
+use Rattle.outcome.specs.declared.Verdict.the-variants.{Fail, Pass}
+use Rattle.sets.specs.Jobs.{jobHas}
+use Rattle.ledger.proofs.Writes.{writes}
+use Rattle.ledger.specs.Decisions.{answering, committing, consent, consenting, gated, isBook, preflighting, proposal, receiving, snapshotting, voting}
+use Rattle.ledger.specs.Given.{Writable}
+use Rattle.ledger.specs.Vaults.{admissionAt, holding, vaultPreflight}
+use Rattle.ledger.specs.declared.Change.{Change}
+use Rattle.ledger.specs.declared.Change.the-variants.{Book, Hold}
+use Rattle.ledger.specs.declared.Consent.{Consent}
+use Rattle.ledger.specs.declared.Consent.the-variants.{Already, Denied, Fresh}
+use Rattle.ledger.specs.declared.Decision.{Decision}
+use Rattle.ledger.specs.declared.Vault.{Vault}
+use Rattle.runfile.specs.Steps.{commandIn}
+use Rattle.runfile.specs.declared.Kind.{Kind}
+use Rattle.runfile.specs.declared.Kind.the-variants.{Commit, Draw, FaultyAcknowledge, FaultySign, Generations, Preflight, Propose, Show, Snapshot, Unknown}
+use Rattle.steps.specs.Decided.{decidedBy}
+use Rattle.steps.specs.declared.View.{View}
+
+pub record Bookless (d : Decision) : Type 0 where
+  pub none : isBook (d .change) ≡ false
+
+behind : (g : Verdict) (d : Decision) → Bookless d → Bookless (gated g d)
+behind Pass d b = b
+behind (Fail why) d b = record { none = refl }
+
+consented : (c : Consent) (next : Vault) (signers v : ℕ) → Bookless (consenting c next signers v)
+consented Already next signers v = record { none = refl }
+consented Fresh next signers v = record { none = refl }
+consented (Denied why) next signers v = record { none = refl }
+
+signed : (state : Vault) (journal : List ℕ) (booked signers v job : ℕ) → Bookless (preflighting state journal booked signers v job)
+unfolding preflighting consent
+signed state journal booked signers v job =
+    let answer = vaultPreflight state (admissionAt state journal booked job) job in
+    consented (answer .consent) (answer .vault) signers v
+
+received : (state : Vault) (acknowledgers v job : ℕ) → Bookless (receiving state acknowledgers v job)
+unfolding receiving
+received state acknowledgers v job =
+    by-cases (λ b. Bookless (cond b (answering (ones acknowledgers)) (voting acknowledgers v (Hold (holding state job)))))
+    (jobHas (state .held) job) (λ e. record { none = refl }) (λ e. record { none = refl })
+
+ruleset quiet = (behind, signed, received)
+
+module _ (w : View) (journal input : List ℕ) (at : ℕ) where
+  abbrev decided : Kind → Decision
+  decided k = decidedBy w journal (commandIn k input at)
+
+  abbrev bytes : List ℕ
+  bytes = take recordSize (drop at input)
+
+  pub books : (k : Kind) → (k ≡ Propose) ⊎ Bookless (decided k)
+  unfolding committing snapshotting
+  books Propose = inl refl
+  books Preflight = inr (search quiet)
+  books Commit = inr (search quiet)
+  books FaultySign = inr (search quiet)
+  books FaultyAcknowledge = inr (search quiet)
+  books Show = inr (search quiet)
+  books Draw = inr (search quiet)
+  books Generations = inr (search quiet)
+  books Snapshot = inr (search quiet)
+  books Unknown = inr (search quiet)
+
+  unbooked : (d : Decision) → Bookless d → Writable (d .change) (w .booked) journal bytes
+  unbooked d b =
+      let no : d .change ≡ Book → ⊥ = λ e. true≢false (sym (ap isBook e) ∙ b .none) in
+      record { few = λ e. absurd (no e); room = λ e. absurd (no e); size = λ e. absurd (no e) }
+
+  pub writable : (k : Kind) (d : Decision) → d ≡ decided k → Writable (d .change) (w .booked) journal bytes
+  writable k d e =
+      subst (λ (x : Decision). Writable (x .change) (w .booked) journal bytes) (sym e)
+      (⊎-elim
+      (λ p. subst (λ (x : Kind). Writable (decided x .change) (w .booked) journal bytes) (sym p)
+      (writes journal (w .booked) bytes (proposal journal (w .booked) bytes) refl))
+      (unbooked (decided k)) (books k))

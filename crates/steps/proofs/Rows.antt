@@ -1,0 +1,112 @@
+-- A step as it is read is the step that stands there.
+use mathlib.Core.List.{List, []}
+use mathlib.Core.Path.{_∙_, _≡_, ap, refl, subst, sym}
+use Prim.Native.Nat.{_+_, _<_, _≤_, ℕ}
+use native.Mathlib.Omega.{arith}
+use lib.ListN.{getD, length}
+use borrow.Author.Tests.{le-ltb, lt-ltb, ne-eqb}
+use Rattle.codec.specs.Codec.{recordSize}
+use Rattle.runfile.specs.Run.{longest}
+use Rattle.runfile.specs.Steps.{bodySize, commandIn, endOf, kindAt, kindOf}
+use Rattle.runfile.specs.declared.Kind.{Kind}
+use Rattle.runfile.specs.declared.Kind.the-variants.{Commit, Draw, FaultyAcknowledge, FaultySign, Generations, Preflight, Propose, Show, Snapshot, Unknown}
+use Rattle.steps.specs.Decided.{jobOf, vaultOf}
+use Rattle.steps.specs.Reading.{Read, formOf, formed, isWide, operationOf, rowOf, unread}
+use Rattle.steps.specs.declared.Operation.{Operation}
+use Rattle.steps.specs.declared.Step.{Step}
+
+-- a byte that the table does not have
+pub unknown-row : (b : ℕ) (r : Operation) → (b ≡ 1 → ⊥) → (b ≡ 2 → ⊥) → (b ≡ 3 → ⊥) → (b ≡ 4 → ⊥) → (b ≡ 5 → ⊥) → (b ≡ 6 → ⊥) → (b ≡ 7 → ⊥)
+    → (b ≡ 8 → ⊥) → (b ≡ 9 → ⊥) → r ≡ rowOf Unknown → r ≡ operationOf b
+unfolding operationOf kindOf
+unknown-row b r a c d e f g h i j q =
+    q ∙ simp (ne-eqb b 1 a, ne-eqb b 2 c, ne-eqb b 3 d, ne-eqb b 4 e, ne-eqb b 5 f, ne-eqb b 6 g, ne-eqb b 7 h, ne-eqb b 8 i, ne-eqb b 9 j)
+
+-- ---- the table of kinds
+module _ (input : List ℕ) (pos number : ℕ) where
+  -- the step of a kind, by the form of its body
+  abbrev named : Kind → Step
+  named k = formed (formOf k) (rowOf k) input number (pos + 1) (pos + 1 + bodySize k)
+
+  -- what the table says of a kind
+  record Row (k : Kind) : Type 0 where
+    number-is : named k .number ≡ number
+    kind : named k .kind ≡ k
+    wide : named k .wide ≡ isWide k
+    at : named k .at ≡ pos + 1
+    vault : named k .vault ≡ vaultOf (commandIn k input (pos + 1))
+    job : named k .job ≡ jobOf (commandIn k input (pos + 1))
+    end : named k .end ≡ endOf k pos (length input)
+    small : bodySize k ≤ recordSize
+    onward : pos + bodySize k < length input → pos < endOf k pos (length input)
+    inside : pos + bodySize k < length input → endOf k pos (length input) ≤ length input
+
+  row : (k : Kind) → Row k
+  row Propose = search arith
+  row Preflight = search arith
+  row Commit = search arith
+  row FaultySign = search arith
+  row FaultyAcknowledge = search arith
+  row Show = search arith
+  row Draw = search arith
+  row Generations = search arith
+  row Snapshot = search arith
+  row Unknown = search arith
+
+  -- a step of a kind whose body is all there
+  whole : (k : Kind) → length input ≤ longest → kindAt input pos ≡ k → pos + bodySize k < length input → Read input pos number (named k)
+  whole k few e h =
+      let r = row k in
+      record {
+        number-is = r .number-is;
+        kind-is = r .kind ∙ sym e;
+        wide-is = r .wide ∙ ap isWide (sym (r .kind));
+        at-is = r .at;
+        asked = record {
+          few = omega (arith, r .at);
+          vault-is = rw (r .kind, r .at) (r .vault);
+          job-is = rw (r .kind, r .at) (r .job);
+          whole = λ p. omega (arith, r .at, ap bodySize (sym (r .kind) ∙ p));
+        };
+        end-is = r .end ∙ ap (λ (x : Kind). endOf x pos (length input)) (sym e);
+        onward = omega (arith, r .end, r .onward h);
+        inside = omega (arith, r .end, r .inside h);
+      }
+
+  -- nothing that can be read
+  cut : length input ≤ longest → kindAt input pos ≡ Unknown → pos < length input → Read input pos number (unread input number (pos + 1))
+  cut few u h = record {
+    number-is = refl;
+    kind-is = sym u;
+    wide-is = refl;
+    at-is = refl;
+    asked = record { few = omega arith; vault-is = refl; job-is = refl; whole = λ p. omega (arith, ap bodySize p) };
+    end-is = simp u;
+    onward = h;
+    inside = omega arith;
+  }
+
+-- ---- what was read
+pub size-small : (b : ℕ) (o : Operation) → o ≡ operationOf b → o .size ≤ recordSize
+unfolding operationOf
+size-small b o e = rw e (row [] 0 0 (kindOf b) .small)
+
+module _ (input : List ℕ) (pos number : ℕ) (o : Operation) (s : Step) where
+  pub read-whole : length input ≤ longest → o ≡ operationOf (getD input pos 0) → pos + 1 + o .size ≤ length input
+      → s ≡ formed (o .form) o input number (pos + 1) (pos + 1 + o .size) → Read input pos number s
+  unfolding operationOf kindAt
+  read-whole few e h q =
+      let k = kindOf (getD input pos 0) in
+      let g : pos + bodySize k < length input = omega (arith, ap (λ (x : Operation). x .size) e) in
+      subst (Read input pos number) (sym (q ∙ ap (λ (x : Operation). formed (x .form) x input number (pos + 1) (pos + 1 + x .size)) e))
+      (whole input pos number k few (simp (lt-ltb (pos + bodySize k) (length input) g)) g)
+
+  pub read-cut : length input ≤ longest → pos < length input → o ≡ operationOf (getD input pos 0) → length input < pos + 1 + o .size
+      → s ≡ unread input number (pos + 1) → Read input pos number s
+  unfolding operationOf kindAt
+  read-cut few i e h q =
+      let k = kindOf (getD input pos 0) in
+      let g : length input ≤ pos + bodySize k = omega (arith, ap (λ (x : Operation). x .size) e) in
+      subst (Read input pos number) (sym q) (cut input pos number few (simp (le-ltb (pos + bodySize k) (length input) g)) i)
+
+pub ruleset rows = (size-small, read-whole, read-cut)

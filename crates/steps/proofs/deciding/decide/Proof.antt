@@ -1,0 +1,53 @@
+use Rattle.steps.proofs.Arms.{arms}
+use Rattle.steps.proofs.deciding.decide.Statement.{statement}
+use Rattle.steps.proofs.deciding.decide.Tie as tie
+use borrow.Author.Needs.{needs}
+
+ruleset by = (arms, needs)
+
+pub decide-spec : {M : Type 1} → statement M
+decide-spec =
+    tie.close
+    (tie.spec
+    (λ c. search by)
+    (λ c. search by)
+    (λ c. search by)
+    (λ c. search by)
+    (λ c. search by)
+    (λ c. search by)
+    (λ c κs. search by)
+    (λ c. search by)
+    (λ c κs. search by)
+    (λ c κs. search by)
+    (λ c. search by)
+    (λ c κs. search by)
+    (λ c. search by)
+    (λ c κs. search by)
+    (λ c κs. search by)
+    (λ c. search by)
+    (λ c κs. search by)
+    (λ c κs. search by)
+    (λ c. search by)
+    (λ c κs. search by)
+    (λ c κs. search by)
+    (λ c. search by)
+    (λ c κs. search by)
+    (λ c κs. search by)
+    (λ c. search by)
+    (λ c κs. search by)
+    (λ c. search by)
+    (λ c κs. search by)
+    (λ c. search by)
+    (λ c κs. search by)
+    (λ c. search by)
+    (λ c κs. search by)
+    (λ c. search by)
+    (λ c. search by)
+    (λ c. search by)
+    (λ c. search by)
+    (λ c. search by)
+    (λ c. search by)
+    (λ c. search by)
+    (λ c. search by)
+    (λ c. search by)
+    (λ c. search by))

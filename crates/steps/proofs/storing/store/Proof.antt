@@ -1,0 +1,25 @@
+use Rattle.steps.proofs.Records.{records-laws}
+use Rattle.steps.proofs.storing.store.Statement.{statement}
+use Rattle.steps.proofs.storing.store.Tie as tie
+use borrow.Author.Needs.{needs}
+
+ruleset by = (records-laws, needs)
+
+pub store-spec : {M : Type 1} → statement M
+store-spec =
+    tie.close
+    (tie.spec
+    (λ c κs. search by)
+    (λ c. search by)
+    (λ c. search by)
+    (λ c. search by)
+    (λ c. search by)
+    (λ c κs. search by)
+    (λ c κs. search by)
+    (λ c κs. search by)
+    (λ c. search by)
+    (λ c. search by)
+    (λ c. search by)
+    (λ c. search by)
+    (λ c. search by)
+    (λ c. search by))

@@ -1,0 +1,73 @@
+-- A command decided from what it looks at: the settings, how many records are booked, a vault, and the votes on a job.
+use mathlib.Core.Bool.{Bool, cond, false, true}
+use mathlib.Core.List.{List}
+use mathlib.Core.Path.{_≡_}
+use Prim.Native.Nat.{ℕ}
+use lib.ListN.{length}
+use Rattle.outcome.specs.declared.Outcome.{Outcome}
+use Rattle.outcome.specs.declared.Refusal.the-variants.{NotBooked, NotHeld, Unreadable}
+use Rattle.outcome.specs.declared.Verdict.{Verdict}
+use Rattle.outcome.specs.declared.Verdict.the-variants.{Fail, Pass}
+use Rattle.journal.specs.Journal.{capacity, isBooked, jobAt}
+use Rattle.generations.specs.Generations.{ageIn}
+use Rattle.generations.specs.Memo.{Memo}
+use Rattle.draw.specs.Draw.{drawOf}
+use Rattle.ledger.specs.Decisions.{ageing, answering, committing, gated, preflighting, proposal, refusing, snapshotting, statusOf, voting}
+use Rattle.ledger.specs.Holders.{isHeld}
+use Rattle.ledger.specs.Steps.{gateOf}
+use Rattle.ledger.specs.Votes.{columnOf}
+use Rattle.ledger.specs.Worlds.{Request, commit, faultyVote, generations, jobIn, preflight, propose, show, snapshot, vaultIn}
+use Rattle.ledger.specs.declared.Change.the-variants.{Nothing, Record}
+use Rattle.ledger.specs.declared.Decision.{Decision}
+use Rattle.runfile.specs.Steps.{Command, draw, request, unreadable}
+use Rattle.steps.specs.declared.Books.{Books}
+use Rattle.steps.specs.declared.View.{View}
+
+-- the vault and the job that a command names
+abbrev pub vaultOf : Command → ℕ
+vaultOf (request q) = vaultIn q
+vaultOf (draw u) = 0
+vaultOf unreadable = 0
+
+abbrev pub jobOf : Command → ℕ
+jobOf (request q) = jobIn q
+jobOf (draw u) = u
+jobOf unreadable = 0
+
+-- check 4 alone
+unfoldable pub bookedOr : Bool → Verdict
+bookedOr booked = cond booked Pass (Fail NotBooked)
+
+-- checks 3, 5 and 4, of a step that is for faulty vaults or for correct ones
+abbrev pub gateBy : View → List ℕ → ℕ → Bool → ℕ → Verdict
+gateBy w journal v faulty job = gateOf (w .settings) v faulty (isBooked journal (w .booked) job)
+
+-- generations look at more, and are decided apart
+abbrev pub requested : View → List ℕ → Request → Decision
+requested w journal (propose bytes) = proposal journal (w .booked) bytes
+requested w journal (preflight v job) =
+    gated (gateBy w journal v false job) (preflighting (w .state) journal (w .booked) (w .votes .signatures) v job)
+requested w journal (commit v job named) =
+    gated (gateBy w journal v false job) (committing (w .settings) (w .state) (w .votes) v job named)
+requested w journal (faultyVote column v job) = gated (gateBy w journal v true job) (voting (columnOf column (w .votes)) v (Record column))
+requested w journal (show job) =
+    gated (bookedOr (isBooked journal (w .booked) job)) (answering (statusOf (w .settings) (w .votes)))
+requested w journal (generations job) = refusing NotHeld
+requested w journal snapshot = snapshotting (w .settings) (w .next) (w .seen) (w .shown)
+
+abbrev pub decidedBy : View → List ℕ → Command → Decision
+decidedBy w journal (request q) = requested w journal q
+decidedBy w journal (draw u) = record { outcome = drawOf (w .settings) u; change = Nothing }
+decidedBy w journal unreadable = refusing Unreadable
+
+-- kind 8, which looks at all vaults
+abbrev pub surveyed : Books → List ℕ → List ℕ → ℕ → Decision
+surveyed a order journal job =
+    gated (bookedOr (isBooked journal (a .booked) job))
+    (ageing (isHeld (a .settings) (a .vaults) job) (ageIn (jobAt journal (a .booked)) order (a .arrivals) job))
+
+-- its answer, and a memo that stays right
+pub record Answered (a : Books) (order journal memo : List ℕ) (job : ℕ) (o : Outcome) : Type 0 where
+  pub outcome : o ≡ surveyed a order journal job .outcome
+  pub right : Memo (jobAt journal (a .booked)) order (a .arrivals) memo
+  pub size : length memo ≡ capacity

@@ -1,0 +1,4 @@
+pub mod Decided
+pub mod Reading
+pub mod Stored
+pub mod Turned

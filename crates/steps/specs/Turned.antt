@@ -1,0 +1,46 @@
+-- A step carried out, but for what it changes in the ledger: its text is written, and a new record is stored.
+use mathlib.Core.List.{List}
+use mathlib.Core.Path.{_≡_}
+use Prim.Native.Nat.{_+_, _≤_, ℕ}
+use lib.ListN.{drop, length, take}
+use Rattle.codec.specs.Codec.{recordSize}
+use Rattle.generations.specs.Memo.{Memo}
+use Rattle.journal.specs.Journal.{capacity, jobAt}
+use Rattle.ledger.specs.declared.Decision.{Decision}
+use Rattle.runfile.specs.Steps.{commandIn}
+use Rattle.text.specs.Text.{Put, lineFor, longestLine}
+use Rattle.steps.specs.Decided.{decidedBy, surveyed}
+use Rattle.steps.specs.Stored.{Stored}
+use Rattle.steps.specs.declared.Books.{Books}
+use Rattle.steps.specs.declared.Step.{Step}
+use Rattle.steps.specs.declared.Told.{Told}
+use Rattle.steps.specs.declared.View.{View}
+
+-- a step's text is its line, as long as no kind of step lists more
+abbrev pub longestText : ℕ
+longestText = longestLine
+
+-- the step's text stands at the cursor, which moves on to r
+pub record Said (number : ℕ) (d : Decision) (out : List ℕ) (at : ℕ) (out′ : List ℕ) (r : ℕ) : Type 0 where
+  pub text : Put out at (lineFor number (d .outcome)) out′ r
+  pub short : r ≤ at + longestText
+
+-- what a step decides that was read
+abbrev pub decisionAt : View → List ℕ → List ℕ → Step → Decision
+decisionAt w journal input s = decidedBy w journal (commandIn (s .kind) input (s .at))
+
+-- the record that follows its kind
+abbrev pub recordIn : List ℕ → Step → List ℕ
+recordIn input s = take recordSize (drop (s .at) input)
+
+pub record CarriedOut (input : List ℕ) (s : Step) (w : View) (at : ℕ) (journal out : List ℕ) (r : Told)
+    (journal′ numbers′ sets′ records′ out′ : List ℕ) : Type 0 where
+  pub change-is : r .change ≡ decisionAt w journal input s .change
+  pub said : Said (s .number) (decisionAt w journal input s) out at out′ (r .at)
+  pub stored : Stored (r .change) (w .booked) journal (recordIn input s) journal′ numbers′ sets′ records′
+
+-- a step that looks at all vaults: nothing changes but the memo, which stays right
+pub record Surveyed (a : Books) (s : Step) (at : ℕ) (order journal out memo′ out′ : List ℕ) (r : ℕ) : Type 0 where
+  pub said : Said (s .number) (surveyed a order journal (s .job)) out at out′ r
+  pub right : Memo (jobAt journal (a .booked)) order (a .arrivals) memo′
+  pub size : length memo′ ≡ capacity

@@ -1,0 +1,41 @@
+// A new record is put after the booked ones and entered in the index; no other change touches either.
+ghost use Prim.Native.Nat.{_≤_};
+ghost use lib.ListN.{drop, take};
+ghost use Rattle.codec.specs.Codec.{recordSize};
+ghost use Rattle.index.specs.Index.{Indexed};
+ghost use Rattle.ledger.specs.Given.{Writable};
+ghost use Rattle.runfile.specs.Run.{longest};
+ghost use Rattle.steps.specs.Stored.{Stored};
+use codec::RECORD;
+use ledger::Change;
+
+pub(crate) fn store(
+    change: Change,
+    numbers: &mut [u16],
+    sets: &mut [u64],
+    records: &mut [u16],
+    journal: &mut [u8],
+    booked: usize,
+    input: &[u8],
+    at: usize,
+)
+    requires { ⌜ Writable change booked (now journal) (take recordSize (drop at (now input)))
+        × Indexed (now journal) booked (now numbers) (now sets) (now records)
+        × (at ≤ longest) ⌝ }
+    ensures { λ _. ⌜ Stored change booked (now (journal .entry)) (take recordSize (drop at (now (input .entry))))
+        (now (journal .exit)) (now (numbers .exit)) (now (sets .exit)) (now (records .exit)) ⌝ }
+{
+    if change.is_book() {
+        let bytes = &input[at..at + RECORD];
+        journal::put_at(journal, booked, bytes);
+        index::enter(
+            numbers,
+            sets,
+            records,
+            &journal[..],
+            codec::read(bytes),
+            booked,
+        );
+        return;
+    }
+}

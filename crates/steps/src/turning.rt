@@ -1,0 +1,80 @@
+// The parts of a turn of the run: a step is decided, its text written, and its record stored. The ledger's own change is left to the run.
+ghost use Prim.Native.Nat.{_+_, _<_, _≤_};
+ghost use lib.ListN.{length};
+ghost use Rattle.index.specs.Index.{Indexed};
+ghost use Rattle.generations.specs.Memo.{Ready};
+ghost use Rattle.steps.specs.Reading.{Asked};
+ghost use Rattle.steps.specs.Turned.{CarriedOut, Surveyed, longestText};
+use crate::Books;
+use crate::Step;
+use crate::Told;
+use crate::View;
+use crate::deciding;
+use crate::storing;
+
+// A step that looks at one vault.
+pub fn carry_out(
+    step: Step,
+    view: View,
+    numbers: &mut [u16],
+    sets: &mut [u64],
+    records: &mut [u16],
+    journal: &mut [u8],
+    input: &[u8],
+    out: &mut [u8],
+    at: usize,
+) -> Told
+    requires { ⌜ Asked (now input) step
+        × Indexed (now journal) (view .booked) (now numbers) (now sets) (now records)
+        × (step .number < 1000000)
+        × (at + longestText ≤ length (now out)) ⌝ }
+    ensures { λ r. ⌜ CarriedOut (now (input .entry)) step view at (now (journal .entry)) (now (out .entry)) r
+        (now (journal .exit)) (now (numbers .exit)) (now (sets .exit)) (now (records .exit)) (now (out .exit)) ⌝ }
+{
+    let decision = deciding::decide(
+        step,
+        view,
+        &numbers[..],
+        &sets[..],
+        &records[..],
+        &journal[..],
+        input,
+    );
+    let change = decision.change;
+    let outcome = decision.outcome;
+    let end = text::write_line(out, at, step.number, outcome);
+    storing::store(
+        change,
+        numbers,
+        sets,
+        records,
+        journal,
+        view.booked,
+        input,
+        step.at,
+    );
+    Told { change, at: end }
+}
+
+// A step that looks at all vaults.
+pub fn survey(
+    step: Step,
+    books: Books,
+    order: &[u8],
+    numbers: &[u16],
+    sets: &[u64],
+    journal: &[u8],
+    memo: &mut [u8],
+    out: &mut [u8],
+    at: usize,
+) -> usize
+    requires { ⌜ (books .settings .n ≤ 16)
+        × Ready (now journal) (books .booked) (now numbers) (now sets) (now order) (books .arrivals) (now memo)
+        × (step .number < 1000000)
+        × (at + longestText ≤ length (now out)) ⌝ }
+    ensures { λ r. ⌜ Surveyed books step at (now (order .entry)) (now (journal .entry)) (now (out .entry))
+        (now (memo .exit)) (now (out .exit)) r ⌝ }
+{
+    let outcome = deciding::age(books, order, numbers, sets, journal, memo, step.job);
+    text::write_line(out, at, step.number, outcome)
+}
