@@ -16,6 +16,7 @@ use Rattle.federation.specs.declared.Settings.{Settings}
 use Rattle.generations.specs.Generations.{ageIn}
 use Rattle.journal.proofs.Putting.{put-length, slot-before, slot-put}
 use Rattle.journal.specs.Journal.{insideOf, isBooked, jobAt, putAt, slotAt, slots}
+use Rattle.snapshot.proofs.Visits.{stays-below}
 use Rattle.ledger.proofs.Gates.{reflect-sane}
 use Rattle.ledger.proofs.Places.{means}
 use Rattle.ledger.proofs.Views.{arrives}
@@ -31,12 +32,13 @@ use Rattle.ledger.specs.Decisions.{
   preflighting,
   receiving,
   refusing,
+  snapshotting,
   statusOf,
   voting,
 }
 use Rattle.ledger.specs.Holders.{isHeld}
 use Rattle.ledger.specs.Meaning.{NewAt, Sane, new}
-use Rattle.ledger.specs.State.{applied, booking, signersOf, vaultAt, voted, votesAt, votesIn, withVault}
+use Rattle.ledger.specs.State.{applied, booking, signersOf, vaultAt, visited, voted, votesAt, votesIn, withVault}
 use Rattle.ledger.specs.Steps.{
   bookedGate,
   commitDecision,
@@ -46,13 +48,15 @@ use Rattle.ledger.specs.Steps.{
   journalAfter,
   preflightDecision,
   proposeDecision,
+  saneGate,
   showDecision,
+  snapshotDecision,
   vaultGate,
 }
 use Rattle.ledger.specs.Vaults.{admissionAt, holding, vaultPreflight}
-use Rattle.ledger.specs.Worlds.{Request, commit, decisionOf, faultyVote, generations, leftBy, preflight, propose, show, stepOf}
+use Rattle.ledger.specs.Worlds.{Request, commit, decisionOf, faultyVote, generations, leftBy, preflight, propose, show, snapshot, stepOf}
 use Rattle.ledger.specs.declared.Change.{Change}
-use Rattle.ledger.specs.declared.Change.the-variants.{Book, Hold, Nothing, Record, Sign}
+use Rattle.ledger.specs.declared.Change.the-variants.{Book, Hold, Nothing, Record, See, Sign}
 use Rattle.ledger.specs.declared.Column.the-variants.{Acknowledgements}
 use Rattle.ledger.specs.declared.Consent.{Consent}
 use Rattle.ledger.specs.declared.Consent.the-variants.{Already, Denied, Fresh}
@@ -95,9 +99,11 @@ Other (commit v j signers) = Unit {0}
 Other (faultyVote column v j) = Unit {0}
 Other (show j) = Unit {0}
 Other (generations j) = Unit {0}
+Other snapshot = Unit {0}
 
 other-calm : (l : Ledger) (journal : List ℕ) (q : Request) → Other q → Calm (decisionOf l journal q)
 unfolding preflightDecision preflighting consent commitDecision committing receiving faultyVoteDecision showDecision generationsDecision ageing
+    snapshotDecision snapshotting
 other-calm l journal (propose bytes) h = absurd h
 other-calm l journal (preflight v j) h =
     let a = vaultPreflight (vaultAt l v) (admissionAt (vaultAt l v) journal (l .booked) j) j in
@@ -115,27 +121,31 @@ other-calm l journal (generations j) h =
     let age = ageIn (jobAt journal (l .booked)) (l .order) (l .arrivals) j in
     let held = isHeld (l .settings) (l .vaults) j in
     gated-calm (bookedGate l journal j) (cond held (answering age) (refusing NotHeld)) (if-calm held (answering age) (refusing NotHeld) refl refl)
+other-calm l journal snapshot h = gated-calm (saneGate l) (snapshotting (l .settings) (l .next) (l .seen) (vaultAt l (l .next) .held)) refl
 
 record Same (l m : Ledger) : Type 0 where
   settings : m .settings ≡ l .settings
   booked : m .booked ≡ l .booked
+  next : 0 < l .settings .n → l .next < l .settings .n → m .next < l .settings .n
   arrivals : l .arrivals ≤ 128 → m .arrivals ≤ 128
 
 calm-same : (l : Ledger) (change : Change) (v j : ℕ) → isBook change ≡ false → Same l (applied l change v j)
-unfolding applied voted withVault
-calm-same l Nothing v j h = record { settings = refl; booked = refl; arrivals = λ a. a }
+unfolding applied visited voted withVault
+calm-same l Nothing v j h = record { settings = refl; booked = refl; next = λ _ b. b; arrivals = λ a. a }
 calm-same l Book v j h = absurd (true≢false h)
-calm-same l (Sign state) v j h = record { settings = refl; booked = refl; arrivals = λ a. a }
-calm-same l (Record column) v j h = record { settings = refl; booked = refl; arrivals = λ a. a }
+calm-same l (Sign state) v j h = record { settings = refl; booked = refl; next = λ _ b. b; arrivals = λ a. a }
+calm-same l (Record column) v j h = record { settings = refl; booked = refl; next = λ _ b. b; arrivals = λ a. a }
+calm-same l (See seen) v j h = record { settings = refl; booked = refl; next = λ p _. stays-below (l .settings .n) (l .next) p; arrivals = λ a. a }
 calm-same l (Hold state) v j h =
     let a = arrives (voted (withVault l v state) Acknowledgements v j) j in
-    record { settings = a .settings; booked = a .booked; arrivals = a .arrivals }
+    record { settings = a .settings; booked = a .booked; next = λ _ b. rw (a .next) b; arrivals = a .arrivals }
 
 -- ---- what a load has booked so far: its first k records
 pub record Standing (first : ℕ) (s : Settings) (k : ℕ) (l : Ledger) (journal : List ℕ) : Type 0 where
   pub settings : l .settings ≡ s
   pub booked : l .booked ≡ k
   pub arrivals : l .arrivals ≤ 128
+  pub next : l .next < s .n
   pub size : length journal ≡ 12800
   pub records : (m : ℕ) → m < k → slotAt journal m ≡ bytesOf (jobFor first m)
 
@@ -146,22 +156,25 @@ other-left l journal (commit v j signers) h = refl
 other-left l journal (faultyVote column v j) h = refl
 other-left l journal (show j) h = refl
 other-left l journal (generations j) h = refl
+other-left l journal snapshot h = refl
 
 module _ (first : ℕ) (s : Settings) (k : ℕ) (l : Ledger) (journal : List ℕ) (h : Standing first s k l journal) where
   pub other-standing : (q : Request) → Other q → Standing first s k (stepOf l journal q .ledger) (leftBy l journal q)
   other-standing q o =
+      let vaults : l .settings .n ≡ s .n = ap (λ (x : Settings). x .n) (h .settings) in
       let m = calm-same l (decisionOf l journal q .change) _ _ (other-calm l journal q o) in
       subst (Standing first s k (stepOf l journal q .ledger)) (sym (other-left l journal q o))
       (record {
         settings = m .settings ∙ h .settings;
         booked = m .booked ∙ h .booked;
         arrivals = m .arrivals (h .arrivals);
+        next = omega (arith, vaults, m .next (omega (arith, vaults, h .next)) (omega (arith, vaults, h .next)));
         size = h .size;
         records = h .records;
       })
 
   sane : Lawful s → k ≤ 128 → Sane l
-  sane w b = record { lawful = subst Lawful (sym (h .settings)) w; booked = omega (arith, h .booked); arrivals = h .arrivals }
+  sane w b = record { lawful = subst Lawful (sym (h .settings)) w; booked = omega (arith, h .booked); arrivals = h .arrivals; next = rw (h .settings) (h .next) }
 
   -- ---- a preflight passes checks 1, 3, 5 and 4
   pub passes-gate : Lawful s → k ≤ 128 → (v j : ℕ) → v < s .n → hasBit (s .faulty) v ≡ false → j < k → vaultGate l journal v j false ≡ Pass
@@ -208,6 +221,7 @@ module _ (first : ℕ) (s : Settings) (k : ℕ) (l : Ledger) (journal : List ℕ
           settings = h .settings;
           booked = omega (arith, h .booked);
           arrivals = h .arrivals;
+          next = h .next;
           size = put-length (l .booked) journal bytes n room ∙ h .size;
           records = λ m g. by-cases (λ b. slotAt (putAt journal (l .booked) bytes) m ≡ bytesOf (jobFor first m)) (ltb m k)
               (λ e. slot-before (l .booked) journal bytes n room m (omega (arith, h .booked, ltb-true m k e)) ∙ h .records m (ltb-true m k e))

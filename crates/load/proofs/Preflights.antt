@@ -210,6 +210,7 @@ module _ (seed n b : ℕ) (vaults : n ≤ 16) (few : 3 * b < n) where
     settings = ap (λ (f : ℕ). record { n = n; b = b; faulty = f }) (faulty-word seed n b vaults few);
     booked = refl;
     arrivals = omega arith;
+    next = omega (arith, few);
     size = length-replicate {A = ℕ} 12800 0;
     records = λ m h. absurd (omega arith);
   }
