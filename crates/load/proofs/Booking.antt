@@ -174,7 +174,12 @@ module _ (first : ℕ) (s : Settings) (k : ℕ) (l : Ledger) (journal : List ℕ
       })
 
   sane : Lawful s → k ≤ 128 → Sane l
-  sane w b = record { lawful = subst Lawful (sym (h .settings)) w; booked = omega (arith, h .booked); arrivals = h .arrivals; next = rw (h .settings) (h .next) }
+  sane w b = record {
+    lawful = subst Lawful (sym (h .settings)) w;
+    booked = omega (arith, h .booked);
+    arrivals = h .arrivals;
+    next = rw (h .settings) (h .next);
+  }
 
   -- ---- a preflight passes checks 1, 3, 5 and 4
   pub passes-gate : Lawful s → k ≤ 128 → (v j : ℕ) → v < s .n → hasBit (s .faulty) v ≡ false → j < k → vaultGate l journal v j false ≡ Pass
