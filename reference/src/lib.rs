@@ -9,6 +9,7 @@ pub mod engine;
 pub mod estimates;
 #[cfg(feature = "generator")]
 pub mod generate;
+pub mod loads;
 pub mod random;
 pub mod record;
 pub mod refusal;

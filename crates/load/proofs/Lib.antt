@@ -1,0 +1,10 @@
+pub mod Booking
+pub mod Checked
+pub mod Different
+pub mod Preflights
+pub mod Promises
+pub mod Reading
+pub mod Requests
+pub mod Vaults
+pub mod Whole
+pub mod Writes
