@@ -4,7 +4,7 @@
 use Rattle.sets.specs.declared.job_set.JobSet.{JobSet}
 use mathlib.Core.Bool.{Bool, _&&_, cond, false, true, true≢false}
 use mathlib.Core.List.{List, [], _++_, _∷_}
-use mathlib.Core.Logic.{inr, ⊎-elim}
+use mathlib.Core.Logic.{inl, inr, ⊎-elim}
 use mathlib.Core.Path.{_∙_, _≡_, ap, refl, subst, sym}
 use Prim.Native.Nat.{_<_, _≤_, ℕ}
 use native.Mathlib.Omega.{arith}
@@ -52,7 +52,7 @@ use Rattle.ledger.proofs.Effects.{
 }
 use Rattle.ledger.proofs.Lending.{records-length, records-snoc}
 use Rattle.ledger.proofs.Places.{examined-length}
-use Rattle.ledger.proofs.Safety.{Clear, Safe, certified-apart, certified-rooted, safe-book, safe-faulty, safe-hold, safe-sign}
+use Rattle.ledger.proofs.Safety.{Clear, Safe, Tally, certified-apart, certified-rooted, safe-book, safe-faulty, safe-hold, safe-sign}
 use Rattle.ledger.proofs.Views.{Grown, ackedAt, heldAt, recordedAt, reflect-arrived, signedAt, voted-added, voted-ones, votedAt}
 use Rattle.ledger.specs.Demand3.{Apart, Correct, Held, recordsIn}
 use Rattle.federation.specs.Federation.{thresholdOf}
@@ -114,12 +114,20 @@ module _ {w : World} {r : Register} (i : Inv w r) where
   is-job : (k : ℕ) → k < l .booked → k < 128
   is-job k h = omega (arith, i .shape .room)
 
+  pub tally : Tally (l .settings) (recordedAt l) (signersOf l)
+  unfolding votedAt
+  tally = record { lawful = i .shape .lawful; below = i .shape .votes-below Signatures; is = λ v k t. t }
+
   -- ---- a correct vault signs
   clear : (v k : ℕ) → Unblocked (tabled (tableOf w)) (l .booked) (vaultAt l v .held) (jobWithout (vaultAt l v .signed) k) (tabled (tableOf w) k)
       → Clear job (heldAt l) (signedAt l) v k
   unfolding heldAt signedAt
   clear v k u = subst (λ (t : List (List ℕ)). Clear (tabled t) (heldAt l) (signedAt l) v k) (sym (i .table)) (record {
     rooted = λ t m. let c = u .created t m in record { maker = c .which; holds = c .member; makes = c .makes };
+    unrivalled = λ m h. record {
+      inputs = λ x a b. u .unconsumed x a (record { which = m; below = i .safe .booked-held v m h; member = h; lists = b });
+      outputs = λ x a b. u .unmade x a (inl (record { which = m; below = i .safe .booked-held v m h; member = h; lists = b }));
+    };
     apart = λ m s ne. record {
       inputs = λ x a b. u .unmarked x a (record { which = m; below = below m s; member = job-without-other (vaultAt l v .signed) k m ne ∙ s; lists = b });
       outputs = λ x a b. u .unmade x a (inr (record { which = m; below = below m s; member = job-without-other (vaultAt l v .signed) k m ne ∙ s; lists = b }));
@@ -162,7 +170,7 @@ module _ {w : World} {r : Register} (i : Inv w r) where
       (shape-sign (i .shape) v k (c .below))
       (subst (λ (h : ℕ → ℕ → Bool). Signed h (ackedAt next)) (sym (sign-held l v k))
       (subst (Signed (heldAt l)) (sym (sign-acked l v k))
-      (safe-sign (i .safe) v k hk (sign-signed l v k (in-vaults v (c .below)) (is-job k hk))
+      (safe-sign (i .safe) tally v k c hk (sign-signed l v k (in-vaults v (c .below)) (is-job k hk))
       (sign-recorded l v k (omega (arith, i .shape .votes, is-job k hk)) (is-vault v (c .below))) (sign-ones l v k) cl)))
     where
       next : Ledger
@@ -182,7 +190,7 @@ module _ {w : World} {r : Register} (i : Inv w r) where
       inv-ledger (voted l d v k)
       (record { settings = refl; booked = refl; order = refl; keeps = λ u m t. t; taken = i .held-taken })
       (shape-vote (i .shape) d v k hv)
-      (safe-faulty (i .safe) v k hk (λ c. true≢false (sym f ∙ c .sound)) (added Signatures) (added Acknowledgements) (voted-ones l d v k Signatures))
+      (safe-faulty (i .safe) tally v k hk (λ c. true≢false (sym f ∙ c .sound)) (added Signatures) (added Acknowledgements) (voted-ones l d v k Signatures))
 
   -- ---- a snapshot's visit: nothing that the invariant speaks of changes
   inv-see : (seen : JobSet) → Inv (withLedger w (visited l seen)) r
@@ -201,7 +209,7 @@ module _ {w : World} {r : Register} (i : Inv w r) where
       let size : length bytes ≡ recordSize = examined-length bytes e in
       record {
         shape = shape-book (i .shape) bytes h size;
-        safe = safe-book (i .safe) (λ k b. ap jobOf (List·getD-append (r .table) (bytes ∷ []) [] k (omega (arith, table-length i))));
+        safe = safe-book (i .safe) tally (λ k b. ap jobOf (List·getD-append (r .table) (bytes ∷ []) [] k (omega (arith, table-length i))));
         fit = λ x m. ⊎-elim (i .fit x) (λ (q : x ≡ bytes). rw q e) (in-snoc (r .table) bytes x m);
         books = books-enter r bytes (i .books);
         running = i .running;
@@ -214,24 +222,20 @@ module _ {w : World} {r : Register} (i : Inv w r) where
       }
 
   -- ---- a certified job that has not arrived is admissible
-  pub is-recorded : (v k : ℕ) → hasBit (signersOf l k) v ≡ true → recordedAt l v k ≡ true
-  unfolding votedAt
-  is-recorded v k t = t
-
   quorum-of : (k : ℕ) → In k (r .taken) → thresholdOf (l .settings) ≤ ones (signersOf l k)
   quorum-of k m = let h = held-by l k (i .taken-held k m) in i .safe .certified (h .0) k (h .1)
 
   module _ (k : ℕ) (hk : k < l .booked) (quorum : thresholdOf (l .settings) ≤ ones (signersOf l k)) (new : In k (r .taken) → ⊥) where
     apart : (m : ℕ) → In m (r .taken) → Apart (job m) (job k)
     apart m x =
-        certified-apart (i .safe) (i .shape .lawful) (i .shape .votes-below Signatures) is-recorded m k (quorum-of m x) quorum
+        certified-apart (i .safe) tally m k (quorum-of m x) quorum
         (λ (e : m ≡ k). new (subst (λ (z : ℕ). In z (r .taken)) e x))
 
     pub can-take : CanTake r (getD (r .table) k [])
     can-take = record {
       fits = i .fit (getD (r .table) k []) (in-getD (r .table) [] k (omega (arith, table-length i)));
       standing = λ t m.
-          let q = certified-rooted (i .safe) (i .shape .lawful) (i .shape .votes-below Signatures) is-recorded k quorum t m in
+          let q = certified-rooted (i .safe) tally k quorum t m in
           let p = q .1 .1 in
           i .books .stands (p .maker) t (i .held-taken (q .0) (p .maker) (p .holds)) (p .makes)
           (λ n x y. apart n x .inputs (t .label) y (in-map (λ (t : Entry). t .label) (inputTapes (job k)) t m));
@@ -271,7 +275,7 @@ module _ {w : World} {r : Register} (i : Inv w r) where
         (subst (λ (f : ℕ → ℕ → Bool). Safe (l .settings) (l .booked) job (heldAt next) (signedAt l) f (ackedAt next) (signersOf next))
         (sym (hold-recorded l v k))
         (subst (λ (f : ℕ → ℕ). Safe (l .settings) (l .booked) job (heldAt next) (signedAt l) (recordedAt l) (ackedAt next) f) (sym (hold-signers l v k))
-        (safe-hold (i .safe) v k hk quorum grown (hold-acked l v k (omega (arith, i .shape .votes, is-job k hk)) (is-vault v (c .below))))))))
+        (safe-hold (i .safe) tally v k hk quorum grown (hold-acked l v k (omega (arith, i .shape .votes, is-job k hk)) (is-vault v (c .below))))))))
 
     table-next : r .table ≡ tableOf (withLedger w next)
     table-next = i .table ∙ ap (λ (n : ℕ). recordsIn n (w .booked)) (sym (hold-booked l v k))

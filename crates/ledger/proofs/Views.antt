@@ -65,6 +65,12 @@ pub record Grown (s s′ : ℕ → ℕ → Bool) (i m : ℕ) : Type 0 where
   pub cases : (u k : ℕ) → s′ u k ≡ true → (s u k ≡ true) ⊎ ((u ≡ i) × (k ≡ m))
   pub new : s′ i m ≡ true
 
+-- s′ is s without the pair (i, m)
+pub record Shrunk (s s′ : ℕ → ℕ → Bool) (i m : ℕ) : Type 0 where
+  pub old : (u k : ℕ) → s′ u k ≡ true → s u k ≡ true
+  pub cases : (u k : ℕ) → s u k ≡ true → (s′ u k ≡ true) ⊎ ((u ≡ i) × (k ≡ m))
+  pub gone : s′ i m ≡ false
+
 plus-by : (s s′ : ℕ → Bool) (m : ℕ) → s′ m ≡ true → ((k : ℕ) → k ≢ m → s′ k ≡ s k) → Plus s s′ m
 plus-by s s′ m new other = record {
   old = λ k h. by-cases (λ _. s′ k ≡ true) (eqb k m) (λ e. rw (eqb-true k m e) new) (λ e. other k (eqb-false k m e) ∙ h);
