@@ -17,7 +17,7 @@ use Rattle.sets.proofs.Jobs.{has-no-jobs}
 use Rattle.sets.specs.Bits.{hasBit}
 use Rattle.sets.specs.Jobs.{jobHas, noJobs}
 use Rattle.sets.specs.declared.job_set.JobSet.{JobSet}
-use Rattle.ledger.proofs.Changes.{Change, appends, changes, holds, idle, nothing, sees, shape-sane, signs, votes}
+use Rattle.ledger.proofs.Changes.{Change, appends, changes, holds, idle, nothing, releases, sees, shape-sane, signs, votes}
 use Rattle.ledger.proofs.Effects.{hold-settings}
 use Rattle.ledger.proofs.Gates.{reflect-sane}
 use Rattle.ledger.proofs.Invariant.{Inv, held-by, keep, tally}
@@ -54,6 +54,7 @@ same-settings w q done w′ (signs v k c h u) = refl
 same-settings w q done w′ (votes d v k h f b) = refl
 same-settings w q done w′ (holds v k signers c h e) = hold-settings (w .ledger) v k
 same-settings w q done w′ sees = refl
+same-settings w q done w′ (releases v k m c s h n) = refl
 
 pub settings-along : (es : List Event) (w : World) (r : Register) → Inv w r → afterAll w es .ledger .settings ≡ w .ledger .settings
 settings-along [] w r i = refl
@@ -70,6 +71,7 @@ same-world w q done w′ (signs v k c h u) f = absurd (true≢false f)
 same-world w q done w′ (votes d v k h p b) f = absurd (true≢false f)
 same-world w q done w′ (holds v k signers c h e) f = absurd (true≢false f)
 same-world w q done w′ sees f = absurd (true≢false f)
+same-world w q done w′ (releases v k m c s h n) f = absurd (true≢false f)
 
 -- ---- at first nothing is held, signed, recorded or acknowledged
 filled : {A : Type 0} (n i : ℕ) (a : A) → getD (replicate n a) i a ≡ a

@@ -26,9 +26,27 @@ use Rattle.record.specs.declared.Entry.{Entry}
 use Rattle.record.specs.declared.Job.{Job}
 use Rattle.sets.proofs.Jobs.{job-without-other}
 use Rattle.sets.specs.Bits.{hasBit}
-use Rattle.sets.specs.Jobs.{jobWithout}
+use Rattle.sets.specs.Jobs.{jobHas, jobWithout}
 use Rattle.ledger.proofs.Account.{Books, CanTake, books-enter, books-take, reflect-admissible}
-use Rattle.ledger.proofs.Changes.{Change, Idle, Shape, appends, held, holds, idle, nothing, seenNext, sees, signedBy, signs, tableOf, votes, withLedger}
+use Rattle.ledger.proofs.Changes.{
+  Change,
+  Idle,
+  Shape,
+  appends,
+  held,
+  holds,
+  idle,
+  nothing,
+  releasedBy,
+  releases,
+  seenNext,
+  sees,
+  signedBy,
+  signs,
+  tableOf,
+  votes,
+  withLedger,
+}
 use Rattle.ledger.proofs.Effects.{
   hold-acked,
   hold-again,
@@ -39,10 +57,13 @@ use Rattle.ledger.proofs.Effects.{
   hold-settings,
   hold-signed,
   hold-signers,
+  release-held,
+  release-signed,
   shape-book,
   shape-hold,
   shape-see,
   shape-sign,
+  shape-vault,
   shape-vote,
   sign-acked,
   sign-held,
@@ -52,14 +73,15 @@ use Rattle.ledger.proofs.Effects.{
 }
 use Rattle.ledger.proofs.Lending.{records-length, records-snoc}
 use Rattle.ledger.proofs.Places.{examined-length}
-use Rattle.ledger.proofs.Safety.{Clear, Safe, Tally, certified-apart, certified-rooted, safe-book, safe-faulty, safe-hold, safe-sign}
+use Rattle.ledger.proofs.Rivals.{Rival}
+use Rattle.ledger.proofs.Safety.{Clear, Safe, Tally, certified-apart, certified-rooted, safe-book, safe-faulty, safe-hold, safe-release, safe-sign}
 use Rattle.ledger.proofs.Views.{Grown, ackedAt, heldAt, recordedAt, reflect-arrived, signedAt, voted-added, voted-ones, votedAt}
 use Rattle.ledger.specs.Demand3.{Apart, Correct, Held, recordsIn}
 use Rattle.federation.specs.Federation.{thresholdOf}
 use Rattle.ledger.specs.Graph.{Unblocked}
 use Rattle.ledger.specs.Register.{Register, entering, feed, feedCommit, feedDone, feedProposal, isAdmissible, stopped, tabled, taking}
 use Rattle.ledger.specs.State.{arrived, booking, signersOf, vaultAt, visited, voted, votesIn, withVault}
-use Rattle.ledger.specs.Worlds.{Request, World, commit, faultyVote, generations, preflight, propose, show, snapshot}
+use Rattle.ledger.specs.Worlds.{Request, World, commit, faultyVote, generations, preflight, propose, release, show, snapshot}
 use Rattle.ledger.specs.declared.Column.{Column}
 use Rattle.ledger.specs.declared.Column.the-variants.{Acknowledgements, Signatures}
 use Rattle.ledger.specs.declared.Ledger.{Ledger}
@@ -181,6 +203,22 @@ module _ {w : World} {r : Register} (i : Inv w r) where
 
       Signed : (ℕ → ℕ → Bool) → (ℕ → ℕ → Bool) → Type 0
       Signed h a = Safe (l .settings) (l .booked) job h (signedAt (signedBy l v k)) (recordedAt (signedBy l v k)) a (signersOf (signedBy l v k))
+
+  -- ---- a correct vault releases a job that lost to one that it holds
+  inv-release : (v k m : ℕ) → Correct (l .settings) v → signedAt l v k ≡ true → heldAt l v m ≡ true → Rival (tabled (tableOf w)) m k
+      → Inv (withLedger w (releasedBy l v k)) r
+  unfolding withVault votedAt votesIn
+  inv-release v k m c s h rival =
+      inv-ledger (releasedBy l v k)
+      (record { settings = refl; booked = refl; order = refl; keeps = λ u n t. same u n ∙ t; taken = λ u n t. i .held-taken u n (sym (same u n) ∙ t) })
+      (shape-vault (i .shape) v _)
+      (subst (λ (f : ℕ → ℕ → Bool). Safe (l .settings) (l .booked) job f (signedAt (releasedBy l v k)) (recordedAt l) (ackedAt l) (signersOf l))
+      (sym (release-held l v k))
+      (safe-release (i .safe) tally v k m c s h (subst (λ (t : List (List ℕ)). Rival (tabled t) m k) (sym (i .table)) rival)
+      (release-signed l v k (in-vaults v (c .below)))))
+    where
+      same : (u n : ℕ) → heldAt (releasedBy l v k) u n ≡ heldAt l u n
+      same u n = ap (λ (f : ℕ → ℕ → Bool). f u n) (release-held l v k)
 
   -- ---- a faulty vault votes
   inv-vote : (d : Column) (v k : ℕ) → v < l .settings .n → hasBit (l .settings .faulty) v ≡ true → k < l .booked → Inv (withLedger w (voted l d v k)) r
@@ -356,6 +394,7 @@ module _ {w : World} {r : Register} (i : Inv w r) where
   inv-idle (show k) m = i
   inv-idle (generations k) m = i
   inv-idle snapshot m = absurd m
+  inv-idle (release v k rival) m = absurd m
 
   -- a record that is not in the table enters it
   feeds-new : (bytes : List ℕ) → (In bytes (tableOf w) → ⊥) → feedProposal r bytes ≡ entering r bytes
@@ -369,6 +408,15 @@ module _ {w : World} {r : Register} (i : Inv w r) where
   fed : (q : Request) (w′ : World) → Inv w′ (feedDone r q) → Inv w′ (feed r q true)
   fed q w′ h = simp (i .running) h
 
+-- the relations, as a change's guard says them
+held-is : (l : Ledger) (v k : ℕ) → jobHas (vaultAt l v .held) k ≡ true → heldAt l v k ≡ true
+unfolding heldAt
+held-is l v k t = t
+
+signed-is : (l : Ledger) (v k : ℕ) → jobHas (vaultAt l v .signed) k ≡ true → signedAt l v k ≡ true
+unfolding signedAt
+signed-is l v k t = t
+
 -- ---- every step keeps it
 pub keep : (w : World) (r : Register) → Inv w r → (q : Request) (done : Bool) (w′ : World) → Change w q done w′ → Inv w′ (feed r q done)
 keep w r i q done w′ (nothing p) = i
@@ -379,3 +427,4 @@ keep w r i q done w′ (signs v k c h u) = fed i q w′ (inv-sign i v k c h (cle
 keep w r i q done w′ (votes d v k h f b) = fed i q w′ (inv-vote i d v k h f b)
 keep w r i q done w′ (holds v k signers c h e) = fed i q w′ (inv-hold i v k c h e)
 keep w r i q done w′ sees = fed i q w′ (inv-see i (seenNext (w .ledger)))
+keep w r i q done w′ (releases v k m c s h n) = fed i q w′ (inv-release i v k m c (signed-is (w .ledger) v k s) (held-is (w .ledger) v m h) n)

@@ -12,6 +12,7 @@ impl Change {
             Change::Book => false,
             Change::Sign(_) => false,
             Change::Hold(_) => false,
+            Change::Release(_) => false,
             Change::Record(_) => false,
             Change::See(_) => false,
         }
@@ -25,6 +26,7 @@ impl Change {
             Change::Book => true,
             Change::Sign(_) => false,
             Change::Hold(_) => false,
+            Change::Release(_) => false,
             Change::Record(_) => false,
             Change::See(_) => false,
         }

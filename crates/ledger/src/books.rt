@@ -140,6 +140,10 @@ impl Ledger {
                 self.votes[j] = votes.with(Column::Acknowledgements, vault);
                 self.arrive(job)
             }
+            Change::Release(state) => {
+                self.vaults[v] = state;
+                self
+            }
             Change::Record(column) => {
                 self.votes[j] = votes.with(column, vault);
                 self

@@ -3,6 +3,7 @@
 mod booking;
 mod books;
 pub mod decisions;
+pub mod releases;
 mod vaults;
 mod voting;
 
@@ -40,13 +41,14 @@ pub enum Column {
     Acknowledgements,
 }
 
-// What a step changes: a vault that signs or holds comes back in its new state; of a faulty vault only its vote is recorded; a snapshot's visit leaves the
+// What a step changes: a vault that signs, holds or releases comes back in its new state; of a faulty vault only its vote is recorded; a snapshot's visit leaves the
 // jobs seen so far.
 pub enum Change {
     Nothing,
     Book,
     Sign(Vault),
     Hold(Vault),
+    Release(Vault),
     Record(Column),
     See(JobSet),
 }
