@@ -37,14 +37,14 @@ use Rattle.ledger.proofs.Views.{
 use Rattle.federation.specs.Federation.{Lawful}
 use Rattle.generations.specs.Generations.{isAt}
 use Rattle.ledger.specs.State.{arrived, arriving, booking, hasArrived, signersOf, vaultAt, visited, voted, votesIn, withVault}
-use Rattle.ledger.specs.Vaults.{holding, newVault, signing}
-use Rattle.ledger.specs.Votes.{columnOf, noVotes}
-use Rattle.ledger.specs.declared.Column.{Column}
-use Rattle.ledger.specs.declared.Column.the-variants.{Acknowledgements, Signatures}
+use Rattle.vaults.specs.Vaults.{holding, newVault, signing}
+use Rattle.vaults.specs.Votes.{columnOf, noVotes}
+use Rattle.vaults.specs.declared.Column.{Column}
+use Rattle.vaults.specs.declared.Column.the-variants.{Acknowledgements, Signatures}
 use Rattle.ledger.specs.declared.Ledger.{Ledger}
 use Rattle.federation.specs.declared.Settings.{Settings}
-use Rattle.ledger.specs.declared.Vault.{Vault}
-use Rattle.ledger.specs.declared.Votes.{Votes}
+use Rattle.vaults.specs.declared.Vault.{Vault}
+use Rattle.vaults.specs.declared.Votes.{Votes}
 
 -- ---- a vault signs
 module _ (l : Ledger) (v k : ℕ) where

@@ -13,8 +13,8 @@ use Rattle.ledger.proofs.Views.{heldAt, signedAt, voted-added, votedAt}
 use Rattle.ledger.specs.Growth.{Grows}
 use Rattle.ledger.specs.Register.{Register, feed, isDone}
 use Rattle.ledger.specs.State.{booking, visited, voted, votesIn}
-use Rattle.ledger.specs.declared.Column.{Column}
-use Rattle.ledger.specs.declared.Column.the-variants.{Acknowledgements, Signatures}
+use Rattle.vaults.specs.declared.Column.{Column}
+use Rattle.vaults.specs.declared.Column.the-variants.{Acknowledgements, Signatures}
 use Rattle.ledger.specs.declared.Ledger.{Ledger}
 use Rattle.ledger.specs.Worlds.{Event, Request, World, after, afterAll, replyTo}
 

@@ -60,8 +60,8 @@ use Rattle.ledger.specs.Graph.{Unblocked}
 use Rattle.ledger.specs.Register.{Register, entering, feed, feedCommit, feedDone, feedProposal, isAdmissible, stopped, tabled, taking}
 use Rattle.ledger.specs.State.{arrived, booking, signersOf, vaultAt, visited, voted, votesIn, withVault}
 use Rattle.ledger.specs.Worlds.{Request, World, commit, faultyVote, generations, preflight, propose, show, snapshot}
-use Rattle.ledger.specs.declared.Column.{Column}
-use Rattle.ledger.specs.declared.Column.the-variants.{Acknowledgements, Signatures}
+use Rattle.vaults.specs.declared.Column.{Column}
+use Rattle.vaults.specs.declared.Column.the-variants.{Acknowledgements, Signatures}
 use Rattle.ledger.specs.declared.Ledger.{Ledger}
 use Rattle.federation.specs.declared.Settings.{Settings}
 

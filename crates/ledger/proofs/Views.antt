@@ -25,11 +25,11 @@ use Rattle.sets.specs.Jobs.{jobHas, jobWith}
 use Rattle.sets.specs.declared.job_set.JobSet.{JobSet}
 use Rattle.generations.specs.Generations.{isAt}
 use Rattle.ledger.specs.State.{arrived, arriving, enqueued, hasArrived, vaultAt, voted, votesAt, votesIn}
-use Rattle.ledger.specs.Votes.{columnOf, noVotes, withVote}
-use Rattle.ledger.specs.declared.Column.{Column}
-use Rattle.ledger.specs.declared.Column.the-variants.{Acknowledgements, Signatures}
+use Rattle.vaults.specs.Votes.{columnOf, noVotes, withVote}
+use Rattle.vaults.specs.declared.Column.{Column}
+use Rattle.vaults.specs.declared.Column.the-variants.{Acknowledgements, Signatures}
 use Rattle.ledger.specs.declared.Ledger.{Ledger}
-use Rattle.ledger.specs.declared.Votes.{Votes}
+use Rattle.vaults.specs.declared.Votes.{Votes}
 
 -- ---- the relations
 unfoldable pub heldAt : Ledger → ℕ → ℕ → Bool

@@ -10,21 +10,22 @@ use Rattle.outcome.specs.declared.Refusal.the-variants.{Full, NotHeld, NotSigne
 use Rattle.outcome.specs.declared.Verdict.{Verdict}
 use Rattle.outcome.specs.declared.Verdict.the-variants.{Pass, Fail}
 use Rattle.sets.specs.Bits.{subsetOf, withMember}
-use Rattle.sets.specs.Jobs.{jobCount, jobHas}
+use Rattle.sets.specs.Jobs.{jobCount, jobHas, jobWithout}
 use Rattle.sets.specs.declared.job_set.JobSet.{JobSet}
 use Rattle.snapshot.specs.Snapshot.{seenAfter}
 use Rattle.federation.specs.Federation.{thresholdOf}
 use Rattle.federation.specs.declared.Settings.{Settings}
 use Rattle.checks.specs.Checks.{examined}
-use Rattle.journal.specs.Journal.{equalIn, hasRoom, insideOf}
+use Rattle.index.specs.Admission.{admission}
+use Rattle.journal.specs.Journal.{equalIn, hasRoom, insideOf, jobAt}
 use Rattle.ledger.specs.declared.Change.{Change}
 use Rattle.ledger.specs.declared.Change.the-variants.{Book, Hold, Nothing, Record, See, Sign}
-use Rattle.ledger.specs.declared.Consent.{Consent}
-use Rattle.ledger.specs.declared.Consent.the-variants.{Already, Denied, Fresh}
+use Rattle.vaults.specs.declared.Consent.{Consent}
+use Rattle.vaults.specs.declared.Consent.the-variants.{Already, Denied, Fresh}
 use Rattle.ledger.specs.declared.Decision.{Decision}
-use Rattle.ledger.specs.declared.Vault.{Vault}
-use Rattle.ledger.specs.declared.Votes.{Votes}
-use Rattle.ledger.specs.Vaults.{admissionAt, holding, vaultPreflight}
+use Rattle.vaults.specs.declared.Vault.{Vault}
+use Rattle.vaults.specs.declared.Votes.{Votes}
+use Rattle.vaults.specs.Vaults.{holding, vaultPreflight}
 
 -- "A refusal alters no set, book or order."
 abbrev pub refusing : Refusal → Decision
@@ -60,6 +61,11 @@ abbrev pub consenting : Consent → Vault → ℕ → ℕ → Decision
 consenting Already state signers v = answering (ones signers)
 consenting Fresh state signers v = voting signers v (Sign state)
 consenting (Denied why) state signers v = refusing why
+
+-- checks 11 to 14 at a vault
+unfoldable pub admissionAt : Vault → List ℕ → ℕ → ℕ → Verdict
+admissionAt v journal booked k =
+    admission (jobAt journal booked) booked (v .held) (jobWithout (v .signed) k) (jobAt journal booked k)
 
 -- what a vault in this state decides on the verdict of checks 11 to 14
 unfoldable pub consent : Vault → Verdict → ℕ → ℕ → ℕ → Decision
