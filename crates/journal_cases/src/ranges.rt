@@ -120,7 +120,7 @@ fn unfit(l: Ledger, journal: &mut [u8; 200]) -> Ledger {
 pub(crate) fn ranges() {
     let mut journal = [0u8; 200];
     steps::heading(b"ranges");
-    let new = Ledger::new(4, 1, 8).ledger;
+    let new = books::new(4, 1, 8).ledger;
     let l = steps::propose(new, &mut journal, b"master", jobs::master());
     let l = steps::propose(l, &mut journal, b"copy", jobs::copy());
     let l = each(l, &journal);

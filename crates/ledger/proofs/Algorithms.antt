@@ -31,14 +31,14 @@ use Rattle.journal.specs.Journal.{jobAt}
 use Rattle.ledger.specs.Meaning.{Certificate, Entered}
 use Rattle.ledger.specs.Register.{isDone, passes}
 use Rattle.ledger.specs.State.{acknowledgersOf, signersOf, vaultAt, votesIn}
-use Rattle.ledger.specs.Decisions.{answering, certificate, committing, consent, consenting, gated, preflighting, receiving, voting}
+use Rattle.ledger.specs.Decisions.{admissionAt, answering, certificate, committing, consent, consenting, gated, preflighting, receiving, voting}
 use Rattle.ledger.specs.Steps.{commitDecision, preflightDecision}
-use Rattle.ledger.specs.Vaults.{admissionAt, consented, holding, signing, vaultPreflight}
+use Rattle.vaults.specs.Vaults.{consented, holding, signing, vaultPreflight}
 use Rattle.federation.specs.declared.Settings.{Settings}
 use Rattle.ledger.specs.declared.Change.the-variants.{Hold, Sign}
 use Rattle.ledger.specs.declared.Decision.{Decision}
 use Rattle.ledger.specs.declared.Ledger.{Ledger}
-use Rattle.ledger.specs.declared.Vault.{Vault}
+use Rattle.vaults.specs.declared.Vault.{Vault}
 
 -- commit: checks 15 and 16 pass exactly where Algorithm 2's signature is valid
 pub certificate-valid : (s : Settings) (recorded signers : ℕ) → Reflects (passes (certificate s recorded signers)) (Certificate s recorded signers)

@@ -46,6 +46,7 @@ use Rattle.ledger.specs.Register.{isDone, tabled}
 use Rattle.ledger.specs.State.{applied, arriving, booking, signersOf, vaultAt, visited, voted, votesAt, votesIn, withVault}
 use Rattle.ledger.specs.State.{acknowledgersOf}
 use Rattle.ledger.specs.Decisions.{
+  admissionAt,
   ageing,
   answering,
   certificate,
@@ -59,6 +60,7 @@ use Rattle.ledger.specs.Decisions.{
   releasing,
   snapshotting,
   statusOf,
+  supersededAt,
   supersession,
   voting,
 }
@@ -78,7 +80,7 @@ use Rattle.ledger.specs.Steps.{
   snapshotDecision,
   vaultGate,
 }
-use Rattle.ledger.specs.Vaults.{admissionAt, consented, holding, signing, supersededAt, unsigning, vaultPreflight}
+use Rattle.vaults.specs.Vaults.{consented, holding, signing, unsigning, vaultPreflight}
 use Rattle.ledger.specs.Worlds.{
   Event,
   Request,
@@ -99,13 +101,13 @@ use Rattle.ledger.specs.Worlds.{
   stepOf,
 }
 use Rattle.ledger.specs.declared.Change.the-variants.{Hold, Record, Release, Sign}
-use Rattle.ledger.specs.declared.Column.{Column}
-use Rattle.ledger.specs.declared.Column.the-variants.{Acknowledgements, Signatures}
-use Rattle.ledger.specs.declared.Consent.the-variants.{Already}
+use Rattle.vaults.specs.declared.Column.{Column}
+use Rattle.vaults.specs.declared.Column.the-variants.{Acknowledgements, Signatures}
+use Rattle.vaults.specs.declared.Consent.the-variants.{Already}
 use Rattle.ledger.specs.declared.Decision.{Decision}
 use Rattle.ledger.specs.declared.Ledger.{Ledger}
 use Rattle.ledger.specs.declared.Reply.{Reply}
-use Rattle.ledger.specs.declared.Signing.{Signing}
+use Rattle.vaults.specs.declared.Signing.{Signing}
 
 -- the shape of what a list of steps leaves
 pub record Shape (l : Ledger) (bs : List ℕ) : Type 0 where

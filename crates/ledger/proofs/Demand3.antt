@@ -28,14 +28,14 @@ use Rattle.ledger.specs.Demand3.{Apart, Demand3, Disjoint, Held, Holds, 
 use Rattle.federation.specs.Federation.{Lawful, thresholdOf}
 use Rattle.ledger.specs.Register.{Register, feed, feedAll, isDone, log, newRegister, tabled}
 use Rattle.ledger.specs.State.{acknowledgersOf, booking, newLedger, signersOf, vaultAt, visited, voted, votesIn, withVault}
-use Rattle.ledger.specs.Vaults.{newVault}
-use Rattle.ledger.specs.Votes.{columnOf, noVotes}
-use Rattle.ledger.specs.declared.Column.{Column}
-use Rattle.ledger.specs.declared.Column.the-variants.{Acknowledgements, Signatures}
+use Rattle.vaults.specs.Vaults.{newVault}
+use Rattle.vaults.specs.Votes.{columnOf, noVotes}
+use Rattle.vaults.specs.declared.Column.{Column}
+use Rattle.vaults.specs.declared.Column.the-variants.{Acknowledgements, Signatures}
 use Rattle.federation.specs.declared.Settings.{Settings}
 use Rattle.ledger.specs.Worlds.{Event, Request, World, after, afterAll, lent, outcomes, replyTo, start}
 use Rattle.ledger.specs.declared.Ledger.{Ledger}
-use Rattle.ledger.specs.declared.Vault.{Vault}
+use Rattle.vaults.specs.declared.Vault.{Vault}
 
 pub kept : (w : World) (r : Register) → Inv w r → (e : Event) → Inv (after w e) (feed r (e .request) (isDone (replyTo w e .outcome)))
 kept w r i e = keep w r i (e .request) (isDone (replyTo w e .outcome)) (after w e) (changes w (i .shape) e)

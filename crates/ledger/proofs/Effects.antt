@@ -40,14 +40,14 @@ use Rattle.ledger.proofs.Views.{
 use Rattle.federation.specs.Federation.{Lawful}
 use Rattle.generations.specs.Generations.{isAt}
 use Rattle.ledger.specs.State.{arrived, arriving, booking, hasArrived, signersOf, vaultAt, visited, voted, votesIn, withVault}
-use Rattle.ledger.specs.Vaults.{holding, newVault, signing, unsigning}
-use Rattle.ledger.specs.Votes.{columnOf, noVotes}
-use Rattle.ledger.specs.declared.Column.{Column}
-use Rattle.ledger.specs.declared.Column.the-variants.{Acknowledgements, Signatures}
+use Rattle.vaults.specs.Vaults.{holding, newVault, signing, unsigning}
+use Rattle.vaults.specs.Votes.{columnOf, noVotes}
+use Rattle.vaults.specs.declared.Column.{Column}
+use Rattle.vaults.specs.declared.Column.the-variants.{Acknowledgements, Signatures}
 use Rattle.ledger.specs.declared.Ledger.{Ledger}
 use Rattle.federation.specs.declared.Settings.{Settings}
-use Rattle.ledger.specs.declared.Vault.{Vault}
-use Rattle.ledger.specs.declared.Votes.{Votes}
+use Rattle.vaults.specs.declared.Vault.{Vault}
+use Rattle.vaults.specs.declared.Votes.{Votes}
 
 -- ---- a vault signs
 module _ (l : Ledger) (v k : ℕ) where
@@ -86,9 +86,9 @@ module _ (l : Ledger) (v k : ℕ) where
   unfolding heldAt withVault unsigning
   release-held = λ i u m. kept-row (λ (s : Vault). jobHas (s .held)) newVault (l .vaults) v releaser (λ n. refl) u m i
 
-  pub release-signed : v < length (l .vaults) → Shrunk (signedAt l) (signedAt (releasedBy l v k)) v k
+  pub release-signed : Shrunk (signedAt l) (signedAt (releasedBy l v k)) v k
   unfolding signedAt withVault unsigning
-  release-signed hv = shrunk-row (λ (s : Vault). jobHas (s .signed)) newVault (l .vaults) v releaser k hv (minus-job (vaultAt l v .signed) k)
+  release-signed = shrunk-row (λ (s : Vault). jobHas (s .signed)) newVault (l .vaults) v releaser k (minus-job (vaultAt l v .signed) k)
 
   -- ---- a vault holds, and the job arrives
   abbrev holder : Vault

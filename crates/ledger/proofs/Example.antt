@@ -41,8 +41,8 @@ use Rattle.journal.specs.Journal.{equalAt, equalIn, hasRoom, insideOf, isBooked
 use Rattle.ledger.specs.Register.{entering, feedAll, feedCommit, feedProposal, isAdmissible, log, newRegister, stopped, taking}
 use Rattle.generations.specs.Generations.{isAt}
 use Rattle.ledger.specs.State.{applied, arriving, booking, enqueued, hasArrived, isSane, newLedger, voted, votesIn, withVault}
-use Rattle.ledger.specs.declared.Column.the-variants.{Signatures}
-use Rattle.ledger.specs.Decisions.{ageing, certificate, committing, consent, placing, preflighting, proposal, receiving, settling, statusOf}
+use Rattle.vaults.specs.declared.Column.the-variants.{Signatures}
+use Rattle.ledger.specs.Decisions.{admissionAt, ageing, certificate, committing, consent, placing, preflighting, proposal, receiving, settling, statusOf}
 use Rattle.ledger.specs.Steps.{
   bookedGate,
   commitDecision,
@@ -56,7 +56,7 @@ use Rattle.ledger.specs.Steps.{
   showDecision,
   vaultGate,
 }
-use Rattle.ledger.specs.Vaults.{admissionAt, holding, signing, vaultPreflight}
+use Rattle.vaults.specs.Vaults.{holding, signing, vaultPreflight}
 use Rattle.ledger.specs.Worlds.{Event, Request, after, commit, faultyVote, generations, lend, outcomes, overlay, preflight, propose, show, start}
 
 -- an unused entry, and the used ones of the two records

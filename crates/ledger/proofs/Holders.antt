@@ -19,7 +19,7 @@ use Rattle.ledger.specs.Holders.{holdsAt, isHeld}
 use Rattle.ledger.specs.Meaning.{Quorum, Status, certified, finished, uncertified}
 use Rattle.ledger.specs.State.{vaultAt}
 use Rattle.ledger.specs.declared.Ledger.{Ledger}
-use Rattle.ledger.specs.declared.Votes.{Votes}
+use Rattle.vaults.specs.declared.Votes.{Votes}
 
 -- ---- check 18
 pub reflect-held : (l : Ledger) (k : ℕ) → Reflects (isHeld (l .settings) (l .vaults) k) (Held l k)

@@ -82,8 +82,8 @@ use Rattle.ledger.specs.Graph.{Unblocked}
 use Rattle.ledger.specs.Register.{Register, entering, feed, feedCommit, feedDone, feedProposal, isAdmissible, stopped, tabled, taking}
 use Rattle.ledger.specs.State.{arrived, booking, signersOf, vaultAt, visited, voted, votesIn, withVault}
 use Rattle.ledger.specs.Worlds.{Request, World, commit, faultyVote, generations, preflight, propose, release, show, snapshot}
-use Rattle.ledger.specs.declared.Column.{Column}
-use Rattle.ledger.specs.declared.Column.the-variants.{Acknowledgements, Signatures}
+use Rattle.vaults.specs.declared.Column.{Column}
+use Rattle.vaults.specs.declared.Column.the-variants.{Acknowledgements, Signatures}
 use Rattle.ledger.specs.declared.Ledger.{Ledger}
 use Rattle.federation.specs.declared.Settings.{Settings}
 
@@ -141,7 +141,7 @@ module _ {w : World} {r : Register} (i : Inv w r) where
   tally = record { lawful = i .shape .lawful; below = i .shape .votes-below Signatures; is = λ v k t. t }
 
   -- ---- a correct vault signs
-  clear : (v k : ℕ) → Unblocked (tabled (tableOf w)) (l .booked) (vaultAt l v .held) (jobWithout (vaultAt l v .signed) k) (tabled (tableOf w) k)
+  pub clear : (v k : ℕ) → Unblocked (tabled (tableOf w)) (l .booked) (vaultAt l v .held) (jobWithout (vaultAt l v .signed) k) (tabled (tableOf w) k)
       → Clear job (heldAt l) (signedAt l) v k
   unfolding heldAt signedAt
   clear v k u = subst (λ (t : List (List ℕ)). Clear (tabled t) (heldAt l) (signedAt l) v k) (sym (i .table)) (record {
@@ -215,7 +215,7 @@ module _ {w : World} {r : Register} (i : Inv w r) where
       (subst (λ (f : ℕ → ℕ → Bool). Safe (l .settings) (l .booked) job f (signedAt (releasedBy l v k)) (recordedAt l) (ackedAt l) (signersOf l))
       (sym (release-held l v k))
       (safe-release (i .safe) tally v k m c s h (subst (λ (t : List (List ℕ)). Rival (tabled t) m k) (sym (i .table)) rival)
-      (release-signed l v k (in-vaults v (c .below)))))
+      (release-signed l v k)))
     where
       same : (u n : ℕ) → heldAt (releasedBy l v k) u n ≡ heldAt l u n
       same u n = ap (λ (f : ℕ → ℕ → Bool). f u n) (release-held l v k)

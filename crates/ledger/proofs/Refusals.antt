@@ -47,6 +47,7 @@ use Rattle.journal.specs.Journal.{isBooked}
 use Rattle.ledger.specs.Meaning.{missing, remade, reserved}
 use Rattle.ledger.specs.State.{isSane}
 use Rattle.ledger.specs.Decisions.{
+  admissionAt,
   ageing,
   certificate,
   committing,
@@ -60,6 +61,7 @@ use Rattle.ledger.specs.Decisions.{
   releasing,
   settling,
   snapshotting,
+  supersededAt,
   supersession,
 }
 use Rattle.ledger.specs.Steps.{
@@ -76,13 +78,13 @@ use Rattle.ledger.specs.Steps.{
   snapshotDecision,
   vaultGate,
 }
-use Rattle.ledger.specs.Vaults.{admissionAt, consented, supersededAt, vaultPreflight}
+use Rattle.vaults.specs.Vaults.{consented, vaultPreflight}
 use Rattle.ledger.specs.Worlds.{Request, commit, faultyVote, generations, preflight, propose, release, show, snapshot, stepOf}
-use Rattle.ledger.specs.declared.Consent.the-variants.{Already}
+use Rattle.vaults.specs.declared.Consent.the-variants.{Already}
 use Rattle.ledger.specs.declared.Decision.{Decision}
 use Rattle.ledger.specs.declared.Ledger.{Ledger}
-use Rattle.ledger.specs.declared.Signing.{Signing}
-use Rattle.ledger.specs.declared.Vault.{Vault}
+use Rattle.vaults.specs.declared.Signing.{Signing}
+use Rattle.vaults.specs.declared.Vault.{Vault}
 
 abbrev verdictNumber : Verdict → ℕ
 verdictNumber Pass = 0

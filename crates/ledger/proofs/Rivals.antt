@@ -17,7 +17,7 @@ pub apart-sym : {a c : Job} → Apart a c → Apart c a
 apart-sym h = record { inputs = λ x m n. h .inputs x n m; outputs = λ x m n. h .outputs x n m }
 
 -- a label of a half, as the tests find it and as the list of tapes has it
-listed : (j : Job) (half x : ℕ) → LabelIn half j x → In x (labels (usedFrom j half 4))
+pub listed : (j : Job) (half x : ℕ) → LabelIn half j x → In x (labels (usedFrom j half 4))
 listed j half x h = label-listed j half x (reflect-label-in half j x .complete h)
 
 pub apart-peaceful : {a c : Job} → Apart a c → conflicting a c ≡ true → ⊥

@@ -46,15 +46,15 @@ use Rattle.ledger.specs.Steps.{
   snapshotDecision,
   vaultGate,
 }
-use Rattle.ledger.specs.Vaults.{vaultPreflight}
+use Rattle.vaults.specs.Vaults.{vaultPreflight}
 use Rattle.ledger.specs.Worlds.{Request, commit, decisionOf, faultyVote, generations, leftBy, preflight, propose, release, show, snapshot, stepOf}
 use Rattle.ledger.specs.declared.Change.{Change}
 use Rattle.ledger.specs.declared.Change.the-variants.{Book, Nothing}
-use Rattle.ledger.specs.declared.Consent.{Consent}
-use Rattle.ledger.specs.declared.Consent.the-variants.{Already, Denied, Fresh}
+use Rattle.vaults.specs.declared.Consent.{Consent}
+use Rattle.vaults.specs.declared.Consent.the-variants.{Already, Denied, Fresh}
 use Rattle.ledger.specs.declared.Decision.{Decision}
 use Rattle.ledger.specs.declared.Ledger.{Ledger}
-use Rattle.ledger.specs.declared.Vault.{Vault}
+use Rattle.vaults.specs.declared.Vault.{Vault}
 
 -- a decision that changes nothing where it refuses
 pub record Quiet (d : Decision) : Type 0 where

@@ -25,11 +25,11 @@ use Rattle.sets.specs.Jobs.{jobHas, jobWith, jobWithout}
 use Rattle.sets.specs.declared.job_set.JobSet.{JobSet}
 use Rattle.generations.specs.Generations.{isAt}
 use Rattle.ledger.specs.State.{arrived, arriving, enqueued, hasArrived, vaultAt, voted, votesAt, votesIn}
-use Rattle.ledger.specs.Votes.{columnOf, noVotes, withVote}
-use Rattle.ledger.specs.declared.Column.{Column}
-use Rattle.ledger.specs.declared.Column.the-variants.{Acknowledgements, Signatures}
+use Rattle.vaults.specs.Votes.{columnOf, noVotes, withVote}
+use Rattle.vaults.specs.declared.Column.{Column}
+use Rattle.vaults.specs.declared.Column.the-variants.{Acknowledgements, Signatures}
 use Rattle.ledger.specs.declared.Ledger.{Ledger}
-use Rattle.ledger.specs.declared.Votes.{Votes}
+use Rattle.vaults.specs.declared.Votes.{Votes}
 
 -- ---- the relations
 unfoldable pub heldAt : Ledger → ℕ → ℕ → Bool
@@ -65,11 +65,10 @@ pub record Grown (s s′ : ℕ → ℕ → Bool) (i m : ℕ) : Type 0 where
   pub cases : (u k : ℕ) → s′ u k ≡ true → (s u k ≡ true) ⊎ ((u ≡ i) × (k ≡ m))
   pub new : s′ i m ≡ true
 
--- s′ is s without the pair (i, m)
+-- s′ is s without, at most, the pair (i, m)
 pub record Shrunk (s s′ : ℕ → ℕ → Bool) (i m : ℕ) : Type 0 where
   pub old : (u k : ℕ) → s′ u k ≡ true → s u k ≡ true
   pub cases : (u k : ℕ) → s u k ≡ true → (s′ u k ≡ true) ⊎ ((u ≡ i) × (k ≡ m))
-  pub gone : s′ i m ≡ false
 
 plus-by : (s s′ : ℕ → Bool) (m : ℕ) → s′ m ≡ true → ((k : ℕ) → k ≢ m → s′ k ≡ s k) → Plus s s′ m
 plus-by s s′ m new other = record {
@@ -88,7 +87,6 @@ plus-member s m h = plus-by (hasBit s) (hasBit (withMember 16 s m)) m (has-membe
 pub record Minus (s s′ : ℕ → Bool) (m : ℕ) : Type 0 where
   pub old : (k : ℕ) → s′ k ≡ true → s k ≡ true
   pub cases : (k : ℕ) → s k ≡ true → (s′ k ≡ true) ⊎ (k ≡ m)
-  pub gone : s′ m ≡ false
 
 pub minus-job : (s : JobSet) (m : ℕ) → Minus (jobHas s) (jobHas (jobWithout s m)) m
 minus-job s m = record {
@@ -97,7 +95,6 @@ minus-job s m = record {
       (λ e. sym (job-without-other s m k (eqb-false k m e)) ∙ h);
   cases = λ k h. by-cases (λ _. (jobHas (jobWithout s m) k ≡ true) ⊎ (k ≡ m)) (eqb k m) (λ e. inr (eqb-true k m e))
       (λ e. inl (job-without-other s m k (eqb-false k m e) ∙ h));
-  gone = job-without-same s m;
 }
 
 -- ---- a store in a list
@@ -122,12 +119,11 @@ module _ {A : Type 0} (f : A → ℕ → Bool) (d : A) (xs : List A) (i : ℕ) (
     new = ap (λ (x : A). f x m) (getD-set-same xs i a d h) ∙ p .new;
   }
 
-  pub shrunk-row : (m : ℕ) → i < length xs → Minus (f (getD xs i d)) (f a) m → Shrunk (λ u. f (getD xs u d)) (λ u. f (getD (set xs i a) u d)) i m
-  shrunk-row m h p = record {
+  pub shrunk-row : (m : ℕ) → Minus (f (getD xs i d)) (f a) m → Shrunk (λ u. f (getD xs u d)) (λ u. f (getD (set xs i a) u d)) i m
+  shrunk-row m p = record {
     old = λ u k. at-store xs i a d (λ u x y. f y k ≡ true → f x k ≡ true) (λ u x t. t) (p .old k) u;
     cases = λ u k. at-store xs i a d (λ u x y. f x k ≡ true → (f y k ≡ true) ⊎ ((u ≡ i) × (k ≡ m))) (λ u x t. inl t)
         (λ t. ⊎-elim inl (λ e. inr (refl, e)) (p .cases k t)) u;
-    gone = ap (λ (x : A). f x m) (getD-set-same xs i a d h) ∙ p .gone;
   }
 
   -- a store that leaves the view of its element leaves every view

@@ -1,30 +1,32 @@
 -- What a step decides behind checks 3 to 5, from the pieces that it names: an outcome, and what it changes. A refusal changes nothing.
-use mathlib.Core.Bool.{Bool, cond, false, true}
+use mathlib.Core.Bool.{Bool, _&&_, cond, false, not, true}
 use mathlib.Core.List.{List}
 use Prim.Native.Nat.{ℕ}
 use lib.Count.{ones}
-use lib.Dec.{leb, ltb}
+use lib.Dec.{eqb, leb, ltb}
 use Rattle.outcome.specs.declared.Outcome.the-variants.{Done, Refused}
 use Rattle.outcome.specs.declared.Refusal.{Refusal}
 use Rattle.outcome.specs.declared.Refusal.the-variants.{Full, NotBooked, NotHeld, NotSigned, NotSignedHere, NotSuperseded, TooFewSigners}
 use Rattle.outcome.specs.declared.Verdict.{Verdict}
 use Rattle.outcome.specs.declared.Verdict.the-variants.{Pass, Fail}
 use Rattle.sets.specs.Bits.{subsetOf, withMember}
-use Rattle.sets.specs.Jobs.{jobCount, jobHas}
+use Rattle.sets.specs.Jobs.{jobCount, jobHas, jobWithout}
 use Rattle.sets.specs.declared.job_set.JobSet.{JobSet}
 use Rattle.snapshot.specs.Snapshot.{seenAfter}
 use Rattle.federation.specs.Federation.{thresholdOf}
 use Rattle.federation.specs.declared.Settings.{Settings}
 use Rattle.checks.specs.Checks.{examined}
-use Rattle.journal.specs.Journal.{equalIn, hasRoom, insideOf, isBooked}
+use Rattle.conflicts.specs.Conflicts.{conflicting}
+use Rattle.index.specs.Admission.{admission}
+use Rattle.journal.specs.Journal.{equalIn, hasRoom, insideOf, isBooked, jobAt}
 use Rattle.ledger.specs.declared.Change.{Change}
 use Rattle.ledger.specs.declared.Change.the-variants.{Book, Hold, Nothing, Record, Release, See, Sign}
-use Rattle.ledger.specs.declared.Consent.{Consent}
-use Rattle.ledger.specs.declared.Consent.the-variants.{Already, Denied, Fresh}
+use Rattle.vaults.specs.declared.Consent.{Consent}
+use Rattle.vaults.specs.declared.Consent.the-variants.{Already, Denied, Fresh}
 use Rattle.ledger.specs.declared.Decision.{Decision}
-use Rattle.ledger.specs.declared.Vault.{Vault}
-use Rattle.ledger.specs.declared.Votes.{Votes}
-use Rattle.ledger.specs.Vaults.{admissionAt, holding, supersededAt, unsigning, vaultPreflight}
+use Rattle.vaults.specs.declared.Vault.{Vault}
+use Rattle.vaults.specs.declared.Votes.{Votes}
+use Rattle.vaults.specs.Vaults.{holding, unsigning, vaultPreflight}
 
 -- "A refusal alters no set, book or order."
 abbrev pub refusing : Refusal → Decision
@@ -60,6 +62,11 @@ abbrev pub consenting : Consent → Vault → ℕ → ℕ → Decision
 consenting Already state signers v = answering (ones signers)
 consenting Fresh state signers v = voting signers v (Sign state)
 consenting (Denied why) state signers v = refusing why
+
+-- checks 11 to 14 at a vault
+unfoldable pub admissionAt : Vault → List ℕ → ℕ → ℕ → Verdict
+admissionAt v journal booked k =
+    admission (jobAt journal booked) booked (v .held) (jobWithout (v .signed) k) (jobAt journal booked k)
 
 -- what a vault in this state decides on the verdict of checks 11 to 14
 unfoldable pub consent : Vault → Verdict → ℕ → ℕ → ℕ → Decision
@@ -104,7 +111,14 @@ snapshotting s next seen held =
     let all = seenAfter s next seen held in
     record { outcome = Done (jobCount all); change = See all }
 
--- ---- kind 10, a release (document 02): 4 of the rival, "then 19 if the job isn't signed there; then 20 if the other is no rival or isn't held there"
+-- ---- kind 10, a release (document 02)
+
+-- "Two different jobs are rivals if they share an input label or an output label." The vault holds the other.
+unfoldable pub supersededAt : Vault → List ℕ → ℕ → ℕ → ℕ → Bool
+supersededAt state journal booked job rival =
+    not (eqb job rival) && (jobHas (state .held) rival && conflicting (jobAt journal booked job) (jobAt journal booked rival))
+
+-- 4 of the rival, "then 19 if the job isn't signed there; then 20 if the other is no rival or isn't held there"
 unfoldable pub supersession : Vault → List ℕ → ℕ → ℕ → ℕ → Verdict
 supersession state journal booked job rival =
     cond (isBooked journal booked rival)

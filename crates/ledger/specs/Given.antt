@@ -17,7 +17,7 @@ use Rattle.ledger.specs.Decisions.{ageing}
 use Rattle.ledger.specs.Holders.{isHeld}
 use Rattle.ledger.specs.declared.Decision.{Decision}
 use Rattle.ledger.specs.declared.Ledger.{Ledger}
-use Rattle.ledger.specs.declared.Vault.{Vault}
+use Rattle.vaults.specs.declared.Vault.{Vault}
 
 -- checks 1, 3 and 4 pass: the arrays have the vault and the job, and the counts are within the capacity
 pub record Placed (l : Ledger) (v k : ℕ) : Type 0 where

@@ -7,8 +7,8 @@ use Rattle.base.specs.Search.{anyBelow}
 use Rattle.sets.specs.Bits.{hasBit}
 use Rattle.sets.specs.Jobs.{jobHas}
 use Rattle.federation.specs.declared.Settings.{Settings}
-use Rattle.ledger.specs.Vaults.{newVault}
-use Rattle.ledger.specs.declared.Vault.{Vault}
+use Rattle.vaults.specs.Vaults.{newVault}
+use Rattle.vaults.specs.declared.Vault.{Vault}
 
 -- vault v is correct and holds the job
 unfoldable pub holdsAt : Settings → List Vault → ℕ → ℕ → Bool

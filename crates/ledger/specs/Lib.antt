@@ -10,6 +10,4 @@ pub mod Register
 pub mod Rounds
 pub mod State
 pub mod Steps
-pub mod Vaults
-pub mod Votes
 pub mod Worlds

@@ -29,7 +29,7 @@ use Rattle.ledger.specs.Decisions.{answering, refusing}
 use Rattle.ledger.specs.declared.Change.the-variants.{Book}
 use Rattle.ledger.specs.declared.Decision.{Decision}
 use Rattle.ledger.specs.declared.Ledger.{Ledger}
-use Rattle.ledger.specs.declared.Votes.{Votes}
+use Rattle.vaults.specs.declared.Votes.{Votes}
 
 -- a state that check 1 lets through
 pub record Sane (l : Ledger) : Type 0 where

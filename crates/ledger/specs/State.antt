@@ -9,18 +9,18 @@ use Rattle.base.specs.Search.{anyBelow}
 use Rattle.sets.specs.Jobs.{noJobs}
 use Rattle.sets.specs.declared.job_set.JobSet.{JobSet}
 use Rattle.snapshot.specs.Snapshot.{following}
-use Rattle.ledger.specs.declared.Vault.{Vault}
+use Rattle.vaults.specs.declared.Vault.{Vault}
 use Rattle.ledger.specs.declared.Change.{Change}
 use Rattle.ledger.specs.declared.Change.the-variants.{Book, Hold, Nothing, Record, Release, See, Sign}
 use Rattle.ledger.specs.declared.Ledger.{Ledger}
 use Rattle.federation.specs.Federation.{isLawful}
 use Rattle.journal.specs.Journal.{capacity}
 use Rattle.generations.specs.Generations.{isAt}
-use Rattle.ledger.specs.declared.Column.{Column}
-use Rattle.ledger.specs.declared.Column.the-variants.{Acknowledgements, Signatures}
-use Rattle.ledger.specs.declared.Votes.{Votes}
-use Rattle.ledger.specs.Vaults.{newVault}
-use Rattle.ledger.specs.Votes.{columnOf, noVotes, withVote}
+use Rattle.vaults.specs.declared.Column.{Column}
+use Rattle.vaults.specs.declared.Column.the-variants.{Acknowledgements, Signatures}
+use Rattle.vaults.specs.declared.Votes.{Votes}
+use Rattle.vaults.specs.Vaults.{newVault}
+use Rattle.vaults.specs.Votes.{columnOf, noVotes, withVote}
 
 -- ---- views
 

@@ -18,7 +18,7 @@ use Rattle.ledger.specs.Steps.{
   showDecision,
   snapshotDecision,
 }
-use Rattle.ledger.specs.declared.Column.{Column}
+use Rattle.vaults.specs.declared.Column.{Column}
 use Rattle.ledger.specs.declared.Decision.{Decision}
 use Rattle.ledger.specs.declared.Ledger.{Ledger}
 use Rattle.ledger.specs.declared.Reply.{Reply}

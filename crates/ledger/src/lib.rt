@@ -1,45 +1,11 @@
-// The custody ledger: the vaults' sets of jobs, the recorded votes, the arrival order; what each kind of step decides, from small pieces, and
-// the one place where what it changes is applied. The crate `operations` has a function for each kind of step on a ledger and a lent journal.
-mod booking;
-mod books;
-pub mod decisions;
-pub mod releases;
-mod vaults;
-mod voting;
-
+// The custody ledger: what it keeps, what a step decides and changes, and demand 3 with its proof. It has no functions: `books` keeps a ledger,
+// `decisions` says what each kind of step decides, `operations` has a function for each kind on a ledger and a lent journal.
 use federation::Settings;
 use outcome::Outcome;
-use outcome::Refusal;
 use sets::JobSet;
-
-// The jobs that a vault holds and those that it signed.
-pub struct Vault {
-    pub held: JobSet,
-    pub signed: JobSet,
-}
-
-// A vault's answer to a preflight.
-pub enum Consent {
-    Already,
-    Fresh,
-    Denied(Refusal),
-}
-
-pub struct Signing {
-    pub consent: Consent,
-    pub vault: Vault,
-}
-
-// The votes on a job: the vaults whose signature of it is recorded, and those whose acknowledgement is.
-pub struct Votes {
-    pub signatures: u16,
-    pub acknowledgements: u16,
-}
-
-pub enum Column {
-    Signatures,
-    Acknowledgements,
-}
+use vaults::Column;
+use vaults::Vault;
+use vaults::Votes;
 
 // What a step changes: a vault that signs, holds or releases comes back in its new state; of a faulty vault only its vote is recorded; a snapshot's visit leaves the
 // jobs seen so far.

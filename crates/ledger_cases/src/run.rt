@@ -1,9 +1,9 @@
 // Document 01's run: the lines are the document's.
-use ledger::Column;
 use ledger::Ledger;
 use record::Job;
 use scenario::jobs;
 use scenario::steps;
+use vaults::Column;
 
 fn proposed(name: &[u8], l: Ledger, journal: &mut [u8], job: Job) -> Ledger {
     let mut bytes = [0u8; 100];
@@ -12,7 +12,7 @@ fn proposed(name: &[u8], l: Ledger, journal: &mut [u8], job: Job) -> Ledger {
 }
 
 fn booked(journal: &mut [u8]) -> Ledger {
-    let new = Ledger::new(4, 1, 8).ledger;
+    let new = books::new(4, 1, 8).ledger;
     let l = proposed(b"1", new, journal, jobs::master());
     proposed(b"2", l, journal, jobs::copy())
 }

@@ -1,10 +1,9 @@
 // Settings that document 01 allows and settings that it refuses.
-use ledger::Ledger;
 use scenario::jobs;
 use scenario::steps;
 
 fn set(name: &[u8], n: u8, b: u8, faulty: u16) {
-    let outcome = Ledger::new(n, b, faulty).outcome;
+    let outcome = books::new(n, b, faulty).outcome;
     steps::line(name, outcome);
 }
 
@@ -44,7 +43,7 @@ pub(crate) fn settings() {
 pub(crate) fn unlawful() {
     steps::heading(b"unlawful");
     let mut journal = [0u8; 200];
-    let new = Ledger::new(3, 1, 0).ledger;
+    let new = books::new(3, 1, 0).ledger;
     let l = steps::propose(new, &mut journal, b"master", jobs::master());
     let l = steps::preflight(l, &journal, 0, 0);
     let l = steps::commit(l, &journal, 0, 0, 3);

@@ -21,6 +21,7 @@ use Rattle.ledger.proofs.Gates.{reflect-sane}
 use Rattle.ledger.proofs.Places.{means}
 use Rattle.ledger.proofs.Views.{arrives}
 use Rattle.ledger.specs.Decisions.{
+  admissionAt,
   ageing,
   answering,
   certificate,
@@ -53,16 +54,16 @@ use Rattle.ledger.specs.Steps.{
   snapshotDecision,
   vaultGate,
 }
-use Rattle.ledger.specs.Vaults.{admissionAt, holding, vaultPreflight}
+use Rattle.vaults.specs.Vaults.{holding, vaultPreflight}
 use Rattle.ledger.specs.Worlds.{Request, commit, decisionOf, faultyVote, generations, leftBy, preflight, propose, show, snapshot, stepOf}
 use Rattle.ledger.specs.declared.Change.{Change}
 use Rattle.ledger.specs.declared.Change.the-variants.{Book, Hold, Nothing, Record, See, Sign}
-use Rattle.ledger.specs.declared.Column.the-variants.{Acknowledgements}
-use Rattle.ledger.specs.declared.Consent.{Consent}
-use Rattle.ledger.specs.declared.Consent.the-variants.{Already, Denied, Fresh}
+use Rattle.vaults.specs.declared.Column.the-variants.{Acknowledgements}
+use Rattle.vaults.specs.declared.Consent.{Consent}
+use Rattle.vaults.specs.declared.Consent.the-variants.{Already, Denied, Fresh}
 use Rattle.ledger.specs.declared.Decision.{Decision}
 use Rattle.ledger.specs.declared.Ledger.{Ledger}
-use Rattle.ledger.specs.declared.Vault.{Vault}
+use Rattle.vaults.specs.declared.Vault.{Vault}
 use Rattle.outcome.specs.declared.Outcome.the-variants.{Done}
 use Rattle.outcome.specs.declared.Refusal.the-variants.{NotHeld}
 use Rattle.outcome.specs.declared.Verdict.{Verdict}

@@ -16,7 +16,7 @@ use Rattle.federation.specs.declared.Settings.{Settings}
 use Rattle.generator.specs.Generator.{drawn, next}
 use Rattle.ledger.specs.State.{newLedger}
 use Rattle.ledger.specs.Worlds.{commit, faultyVote, generations, preflight, propose, show}
-use Rattle.ledger.specs.declared.Column.the-variants.{Acknowledgements, Signatures}
+use Rattle.vaults.specs.declared.Column.the-variants.{Acknowledgements, Signatures}
 use Rattle.ledger.specs.declared.Ledger.{Ledger}
 use Rattle.runfile.specs.Run.{Run, begins, opened, turn}
 use Rattle.runfile.specs.Steps.{Command, journalBy, replyOf, request}

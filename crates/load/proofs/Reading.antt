@@ -11,7 +11,7 @@ use borrow.Author.Tests.{le-leb, lt-leb, lt-ltb}
 use Rattle.codec.proofs.Jobs.{length-bytesOf}
 use Rattle.codec.specs.Codec.{bytesOf, leBytes}
 use Rattle.ledger.specs.Worlds.{commit, faultyVote, generations, preflight, propose, show}
-use Rattle.ledger.specs.declared.Column.the-variants.{Acknowledgements, Signatures}
+use Rattle.vaults.specs.declared.Column.the-variants.{Acknowledgements, Signatures}
 use Rattle.runfile.specs.History.{itemOf, itemsNext}
 use Rattle.runfile.specs.Run.{Run, commandOf, ended, turn}
 use Rattle.runfile.specs.Steps.{Command, bodySize, draw, kindAt, kindOf, nextAt, request, stepAt, unreadable, wordAt}

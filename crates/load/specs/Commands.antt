@@ -3,7 +3,7 @@ use mathlib.Core.List.{List, [], _∷_}
 use Prim.Native.Nat.{_<_, _^_, ℕ}
 use Rattle.codec.specs.Codec.{bytesOf}
 use Rattle.ledger.specs.Worlds.{commit, faultyVote, generations, preflight, propose, show}
-use Rattle.ledger.specs.declared.Column.the-variants.{Acknowledgements, Signatures}
+use Rattle.vaults.specs.declared.Column.the-variants.{Acknowledgements, Signatures}
 use Rattle.runfile.specs.History.{Item, drawn, event, unread}
 use Rattle.runfile.specs.Steps.{Command, draw, request, unreadable}
 use Rattle.load.specs.Records.{jobFor}

@@ -6,7 +6,6 @@ use ledger::Change;
 use ledger::Decision;
 use ledger::Ledger;
 use ledger::Reply;
-use ledger::decisions;
 use outcome::Outcome;
 use outcome::Refusal;
 use outcome::Verdict;
@@ -15,7 +14,7 @@ use outcome::Verdict;
 pub(crate) fn booked_gate(ledger: Ledger, journal: &[u8], job: u8) -> Verdict
     ensures { λ r. ⌜ r ≡ bookedGate ledger (now (journal .entry)) job ⌝ }
 {
-    if ledger.is_sane() {
+    if books::is_sane(ledger) {
         if journal::is_booked(journal, ledger.booked, job as usize) {
             return Verdict::Pass;
         }
@@ -34,7 +33,7 @@ pub(crate) fn vault_gate(
 ) -> Verdict
     ensures { λ r. ⌜ r ≡ vaultGate ledger (now (journal .entry)) vault job faulty ⌝ }
 {
-    if ledger.is_sane() {
+    if books::is_sane(ledger) {
         let settings = ledger.settings;
         let booked = journal::is_booked(journal, ledger.booked, job as usize);
         return decisions::gate(settings, vault, faulty, booked);
@@ -50,7 +49,7 @@ pub(crate) fn carry(ledger: Ledger, decision: Decision, vault: u8, job: u8) -> R
     let change = decision.change;
     Reply {
         outcome,
-        ledger: ledger.apply(change, vault, job),
+        ledger: books::apply(ledger, change, vault, job),
     }
 }
 
@@ -68,7 +67,7 @@ pub(crate) fn write(change: Change, journal: &mut [u8], booked: usize, bytes: &[
     requires { ⌜ Writable change booked (now journal) (now bytes) ⌝ }
     ensures { λ _. ⌜ now (journal .exit) ≡ journalWith change booked (now (journal .entry)) (now (bytes .entry)) ⌝ }
 {
-    if change.is_book() {
+    if books::is_book(change) {
         journal::put_at(journal, booked, bytes);
         return;
     }

@@ -8,9 +8,8 @@ ghost use Rattle.ledger.specs.Decisions.{ageing, preflighting, proposal};
 ghost use Rattle.ledger.specs.Holders.{isHeld};
 use federation::Settings;
 use ledger::Decision;
-use ledger::Vault;
-use ledger::decisions;
 use outcome::Verdict;
+use vaults::Vault;
 
 pub(crate) fn propose(journal: &[u8], booked: usize, bytes: &[u8]) -> Decision
     requires { ⌜ booked ≤ 128 ⌝ }

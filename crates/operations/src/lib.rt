@@ -16,13 +16,12 @@ ghost use Rattle.ledger.specs.Steps.{
   showOf,
   snapshotOf,
 };
-use ledger::Column;
 use ledger::Ledger;
 use ledger::Reply;
-use ledger::decisions;
 use outcome::Outcome;
 use outcome::Refusal;
 use outcome::Verdict;
+use vaults::Column;
 
 // The job's record inside the journal, or the empty part where check 4 fails.
 pub fn lookup(ledger: Ledger, journal: &[u8], job: u8) -> &[u8]
@@ -36,7 +35,7 @@ pub fn propose(ledger: Ledger, journal: &mut [u8], bytes: &[u8]) -> Reply
     ensures { λ r. ⌜ r ≡ proposeOf ledger (now (journal .entry)) (now (bytes .entry)) ⌝ }
     ensures { λ _. ⌜ now (journal .exit) ≡ journalAfter ledger (now (journal .entry)) (now (bytes .entry)) ⌝ }
 {
-    if ledger.is_sane() {
+    if books::is_sane(ledger) {
         let booked = ledger.booked;
         let decision = indexed::propose(&journal[..], booked, bytes);
         let change = decision.change;
@@ -151,7 +150,7 @@ pub fn generations(ledger: Ledger, journal: &[u8], job: u8) -> Outcome
 pub fn snapshot(ledger: Ledger) -> Reply
     ensures { λ r. ⌜ r ≡ snapshotOf ledger ⌝ }
 {
-    if ledger.is_sane() {
+    if books::is_sane(ledger) {
         let settings = ledger.settings;
         let next = ledger.next;
         let v = next as usize;

@@ -30,7 +30,7 @@ use Rattle.ledger.specs.State.{applied, arriving, booking, enqueued, hasArrived
 use Rattle.ledger.specs.declared.Change.{Change}
 use Rattle.ledger.specs.declared.Change.the-variants.{Book, Hold, Nothing, Record, See, Sign}
 use Rattle.ledger.specs.declared.Ledger.{Ledger}
-use Rattle.ledger.specs.declared.Vault.{Vault}
+use Rattle.vaults.specs.declared.Vault.{Vault}
 use Rattle.runfile.specs.Run.{journalSize}
 use Rattle.run.specs.Kept.{Kept}
 use Rattle.steps.specs.Stored.{Stored}

@@ -18,7 +18,7 @@ use Rattle.ledger.specs.declared.Change.{Change}
 use Rattle.ledger.specs.declared.Change.the-variants.{Book, Hold, Nothing, Record, See, Sign}
 use Rattle.ledger.specs.declared.Decision.{Decision}
 use Rattle.ledger.specs.declared.Ledger.{Ledger}
-use Rattle.ledger.specs.declared.Vault.{Vault}
+use Rattle.vaults.specs.declared.Vault.{Vault}
 use Rattle.runfile.proofs.Turns.{step-last, step-text}
 use Rattle.runfile.specs.Run.{headerSize, lastFrom, longest, textFrom, turn}
 use Rattle.runfile.specs.Steps.{Command, commandIn, journalBy, replyOf, stepAt}

@@ -33,7 +33,7 @@ pub fn start(input: &[u8], out: &mut [u8]) -> Progress
 {
     if header::opens(input) {
         let settings = header::settings_in(input);
-        let reply = Ledger::new(settings.n, settings.b, settings.faulty);
+        let reply = books::new(settings.n, settings.b, settings.faulty);
         let ledger = reply.ledger;
         return Progress {
             ledger,
@@ -43,7 +43,7 @@ pub fn start(input: &[u8], out: &mut [u8]) -> Progress
         };
     }
     let n = text::write_line(out, 0, 0, Outcome::Refused(Refusal::Settings));
-    let reply = Ledger::new(0, 0, 0);
+    let reply = books::new(0, 0, 0);
     let ledger = reply.ledger;
     Progress {
         ledger,
@@ -117,10 +117,10 @@ pub fn advance(
         let told = steps::carry_out(step, view, numbers, sets, records, journal, input, out, at);
         at = told.at;
         let change = told.change;
-        if change.is_nothing() {
+        if books::is_nothing(change) {
             continue;
         }
-        ledger = ledger.apply(change, step.vault, step.job);
+        ledger = books::apply(ledger, change, step.vault, step.job);
     }
     standing(ledger, pos, count, at)
 }

@@ -9,7 +9,7 @@ use Rattle.outcome.specs.declared.Outcome.the-variants.{Refused}
 use Rattle.outcome.specs.declared.Refusal.the-variants.{Unreadable}
 use Rattle.draw.specs.Draw.{drawOf}
 use Rattle.codec.specs.Codec.{recordSize}
-use Rattle.ledger.specs.declared.Column.the-variants.{Acknowledgements, Signatures}
+use Rattle.vaults.specs.declared.Column.the-variants.{Acknowledgements, Signatures}
 use Rattle.ledger.specs.Worlds.{Request, commit, faultyVote, generations, leftBy, preflight, propose, show, snapshot, stepOf}
 use Rattle.ledger.specs.declared.Ledger.{Ledger}
 use Rattle.ledger.specs.declared.Reply.{Reply}

@@ -1,15 +1,15 @@
 // Each kind of step, carried out and printed.
 ghost use mathlib.Core.Path.{_≡_};
 ghost use Rattle.ledger.specs.Steps.{commitOf, faultyVoteOf, journalAfter, preflightOf, proposeOf};
-ghost use Rattle.ledger.specs.declared.Column.the-variants.{Acknowledgements, Signatures};
+ghost use Rattle.vaults.specs.declared.Column.the-variants.{Acknowledgements, Signatures};
 ghost use Rattle.codec.specs.Codec.{written};
 ghost use lib.ListN.{replicate};
-use ledger::Column;
 use ledger::Ledger;
 use ledger::Reply;
 use libc::STDOUT_FILENO;
 use outcome::Outcome;
 use record::Job;
+use vaults::Column;
 
 fn figures(first: u64, second: u64) {
     io::write_all(STDOUT_FILENO, b" ");

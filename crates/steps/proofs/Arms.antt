@@ -24,12 +24,12 @@ use Rattle.ledger.proofs.Gates.{passed-rest, passed-test}
 use Rattle.ledger.specs.Decisions.{committing, gated}
 use Rattle.ledger.specs.Given.{Aged, Known, Searchable}
 use Rattle.ledger.specs.Steps.{gateOf}
-use Rattle.ledger.specs.declared.Column.the-variants.{Acknowledgements, Signatures}
-use Rattle.ledger.specs.declared.Votes.{Votes}
+use Rattle.vaults.specs.declared.Column.the-variants.{Acknowledgements, Signatures}
+use Rattle.vaults.specs.declared.Votes.{Votes}
 use Rattle.ledger.specs.Worlds.{commit, faultyVote, generations, preflight, propose, show, snapshot}
 use Rattle.ledger.specs.declared.Change.the-variants.{Nothing}
 use Rattle.ledger.specs.declared.Decision.{Decision}
-use Rattle.ledger.specs.declared.Vault.{Vault}
+use Rattle.vaults.specs.declared.Vault.{Vault}
 use Rattle.runfile.specs.Steps.{Command, commandIn, draw, request, unreadable, wordAt}
 use Rattle.runfile.specs.declared.Kind.{Kind}
 use Rattle.runfile.specs.declared.Kind.the-variants.{Commit, Draw, FaultyAcknowledge, FaultySign, Generations, Preflight, Propose, Show, Snapshot, Unknown}

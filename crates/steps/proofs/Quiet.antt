@@ -12,15 +12,15 @@ use Rattle.outcome.specs.declared.Verdict.{Verdict}
 use Rattle.outcome.specs.declared.Verdict.the-variants.{Fail, Pass}
 use Rattle.sets.specs.Jobs.{jobHas}
 use Rattle.ledger.proofs.Writes.{writes}
-use Rattle.ledger.specs.Decisions.{answering, committing, consent, consenting, gated, isBook, preflighting, proposal, receiving, snapshotting, voting}
+use Rattle.ledger.specs.Decisions.{admissionAt, answering, committing, consent, consenting, gated, isBook, preflighting, proposal, receiving, snapshotting, voting}
 use Rattle.ledger.specs.Given.{Writable}
-use Rattle.ledger.specs.Vaults.{admissionAt, holding, vaultPreflight}
+use Rattle.vaults.specs.Vaults.{holding, vaultPreflight}
 use Rattle.ledger.specs.declared.Change.{Change}
 use Rattle.ledger.specs.declared.Change.the-variants.{Book, Hold}
-use Rattle.ledger.specs.declared.Consent.{Consent}
-use Rattle.ledger.specs.declared.Consent.the-variants.{Already, Denied, Fresh}
+use Rattle.vaults.specs.declared.Consent.{Consent}
+use Rattle.vaults.specs.declared.Consent.the-variants.{Already, Denied, Fresh}
 use Rattle.ledger.specs.declared.Decision.{Decision}
-use Rattle.ledger.specs.declared.Vault.{Vault}
+use Rattle.vaults.specs.declared.Vault.{Vault}
 use Rattle.runfile.specs.Steps.{commandIn}
 use Rattle.runfile.specs.declared.Kind.{Kind}
 use Rattle.runfile.specs.declared.Kind.the-variants.{Commit, Draw, FaultyAcknowledge, FaultySign, Generations, Preflight, Propose, Show, Snapshot, Unknown}

@@ -15,7 +15,7 @@ use Rattle.draw.specs.Draw.{drawOf}
 use Rattle.ledger.specs.Decisions.{ageing, answering, committing, gated, preflighting, proposal, refusing, snapshotting, statusOf, voting}
 use Rattle.ledger.specs.Holders.{isHeld}
 use Rattle.ledger.specs.Steps.{gateOf}
-use Rattle.ledger.specs.Votes.{columnOf}
+use Rattle.vaults.specs.Votes.{columnOf}
 use Rattle.ledger.specs.Worlds.{Request, commit, faultyVote, generations, jobIn, preflight, propose, show, snapshot, vaultIn}
 use Rattle.ledger.specs.declared.Change.the-variants.{Nothing, Record}
 use Rattle.ledger.specs.declared.Decision.{Decision}

@@ -13,13 +13,12 @@ use crate::View;
 use crate::reading;
 use codec::RECORD;
 use ledger::Change;
-use ledger::Column;
 use ledger::Decision;
-use ledger::decisions;
 use outcome::Outcome;
 use outcome::Refusal;
 use outcome::Verdict;
 use runfile::Kind;
+use vaults::Column;
 
 // Check 4.
 fn booked_or(booked: usize, journal: &[u8], job: usize) -> Verdict

@@ -7,14 +7,14 @@ mod turning;
 
 use federation::Settings;
 use ledger::Change;
-use ledger::Vault;
-use ledger::Votes;
 pub use reading::step_at;
 pub use reading::word_at;
 use runfile::Kind;
 use sets::JobSet;
 pub use turning::carry_out;
 pub use turning::survey;
+use vaults::Vault;
+use vaults::Votes;
 
 // What the body of a step names: neither vault nor job, a job, a vault and a job. Of a kind that is unknown there is no body.
 pub enum Form {

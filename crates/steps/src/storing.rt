@@ -25,7 +25,7 @@ pub(crate) fn store(
     ensures { λ _. ⌜ Stored change booked (now (journal .entry)) (take recordSize (drop at (now (input .entry))))
         (now (journal .exit)) (now (numbers .exit)) (now (sets .exit)) (now (records .exit)) ⌝ }
 {
-    if change.is_book() {
+    if books::is_book(change) {
         let bytes = &input[at..at + RECORD];
         journal::put_at(journal, booked, bytes);
         index::enter(

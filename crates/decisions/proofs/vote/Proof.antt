@@ -1,0 +1,9 @@
+use Rattle.decisions.proofs.vote.Statement.{statement}
+use Rattle.decisions.proofs.vote.Tie as tie
+use borrow.Author.Needs.{needs}
+
+returns : tie.Need-returns
+returns c = simp (c .size .ensures, c .before .with .ensures)
+
+pub vote-spec : {M : Type 1} → statement M
+vote-spec = tie.close (tie.spec (λ c κs. search needs) (λ c κs. search needs) returns)

@@ -1,0 +1,2 @@
+pub mod Vaults
+pub mod Votes
