@@ -308,7 +308,8 @@ module _ {st : Settings} {booked : ℕ} {job : ℕ → Job} {held signed recorde
     certified = s .certified;
     released = λ v k cv t n.
         let l = s .released v k cv t n in
-        record { rival = l .rival; is = rival (booked-at v (l .rival) (l .holds)) (s .booked-recorded v k t) (l .is); holds = l .holds; unsigned = l .unsigned };
+        let is = rival (booked-at v (l .rival) (l .holds)) (s .booked-recorded v k t) (l .is) in
+        record { rival = l .rival; is = is; holds = l .holds; unsigned = l .unsigned };
     outvoted = λ v m k cv h r. by-test (ltb k booked) (λ b. again v m k cv h r (ltb-true k booked b)) (λ b. new v m k h r (ltb-false k booked b));
     honest = s .honest;
   }

@@ -9,7 +9,8 @@ use Rattle.outcome.specs.declared.Outcome.the-variants.{Done}
 use Rattle.sets.specs.Jobs.{jobCount, jobHas}
 use Rattle.federation.specs.Federation.{Lawful}
 use Rattle.ledger.specs.Demand3.{Held}
-use Rattle.ledger.specs.Worlds.{Event, Request, World, afterAll, commit, faultyVote, generations, preflight, propose, release, replyTo, show, snapshot, start}
+use Rattle.ledger.specs.Worlds.{Event, World, afterAll, replyTo, start}
+use Rattle.ledger.specs.Worlds.{Request, commit, faultyVote, generations, preflight, propose, release, show, snapshot}
 
 abbrev pub isSnapshot : Request → Bool
 isSnapshot (propose bytes) = false

@@ -7,8 +7,8 @@ use vaults::Column;
 use vaults::Vault;
 use vaults::Votes;
 
-// What a step changes: a vault that signs, holds or releases comes back in its new state; of a faulty vault only its vote is recorded; a snapshot's visit leaves the
-// jobs seen so far.
+// What a step changes: a vault that signs, holds or releases comes back in its new state; of a faulty vault only its vote is recorded; a snapshot's visit
+// leaves the jobs seen so far.
 pub enum Change {
     Nothing,
     Book,

@@ -16,14 +16,18 @@ unfolding supersession
 returns c =
     let h = c .before .before in
     let b = h .before .before in
-    simp (sym (b .before .is-booked .ensures) ∙ b .if1 .taken, sym (h .before .has .ensures) ∙ h .if2 .taken, sym (c .before .is-superseded .ensures) ∙ c .if3 .taken)
+    let known = sym (b .before .is-booked .ensures) ∙ b .if1 .taken in
+    let signed = sym (h .before .has .ensures) ∙ h .if2 .taken in
+    simp (known, signed, sym (c .before .is-superseded .ensures) ∙ c .if3 .taken)
 
 returns-2 : tie.Need-returns-2
 unfolding supersession
 returns-2 c =
     let h = c .before .before in
     let b = h .before .before in
-    simp (sym (b .before .is-booked .ensures) ∙ b .if1 .taken, sym (h .before .has .ensures) ∙ h .if2 .taken, sym (c .before .is-superseded .ensures) ∙ c .if3 .left)
+    let known = sym (b .before .is-booked .ensures) ∙ b .if1 .taken in
+    let signed = sym (h .before .has .ensures) ∙ h .if2 .taken in
+    simp (known, signed, sym (c .before .is-superseded .ensures) ∙ c .if3 .left)
 
 returns-3 : tie.Need-returns-3
 unfolding supersession

@@ -20,8 +20,9 @@ returns c =
     let counts = one .before .before in
     let start = counts .before .before .before .before .before in
     let p = start .pre in
+    let set = c .before .with .ensures ∙ ap (λ (s : JobSet). jobWith s (start .args .other)) (one .empty .ensures) in
     conflict-booked _ _ _ _ (p .2) _ _ _ _ _ _ _ (p .0) (p .1) (counts .before .lookup .ensures) (counts .inputs-of .ensures)
-    (one .before .outputs-of .ensures) (c .before .with .ensures ∙ ap (λ (s : JobSet). jobWith s (start .args .other)) (one .empty .ensures)) (c .conflicts-by .ensures)
+    (one .before .outputs-of .ensures) set (c .conflicts-by .ensures)
 
 pub conflict-spec : {M : Type 1} → statement M
 conflict-spec =
