@@ -22,7 +22,7 @@ use Rattle.load.specs.Loads.{loadBytes, stepsFrom, stepsOf}
 use Rattle.load.specs.Plans.{planOf, planWith}
 use Rattle.load.specs.Records.{A, B, accession, jobFor, labelFor, lowerFrames, mainJob, migration, rivalJob, sideJob, tape, upperFrames}
 use Rattle.load.specs.Steps.{asking, stepFor}
-use Rattle.load.specs.declared.steps.Step.the-variants.{Propose}
+use Rattle.load.specs.declared.Step.the-variants.{Propose}
 
 -- ---- records
 -- the first output of a job has a label with the job's own number

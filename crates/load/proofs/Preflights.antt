@@ -31,9 +31,9 @@ use Rattle.load.specs.Plans.{Fair, correctFrom, faultyOf, planOf, planWi
 use Rattle.load.specs.Records.{jobFor}
 use Rattle.load.specs.Steps.{asking, delivering, headerBytes, stepFor}
 use Rattle.load.specs.Visits.{asksWell, isPass, preflightsWell, runsNext}
-use Rattle.load.specs.declared.plans.Plan.{Plan}
-use Rattle.load.specs.declared.steps.Step.{Step}
-use Rattle.load.specs.declared.steps.Step.the-variants.{Commit, Draw, FaultyAcknowledge, FaultySign, Generations, Preflight, Propose, Show}
+use Rattle.load.specs.declared.Plan.{Plan}
+use Rattle.load.specs.declared.Step.{Step}
+use Rattle.load.specs.declared.Step.the-variants.{Commit, Draw, FaultyAcknowledge, FaultySign, Generations, Preflight, Propose, Show}
 
 -- ---- what kind of step each is
 -- how many records are booked before step i

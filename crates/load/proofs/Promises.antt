@@ -20,9 +20,9 @@ use Rattle.load.specs.Loads.{loadBytes, stepsFrom, stepsOf}
 use Rattle.load.specs.Plans.{planOf, planWith}
 use Rattle.load.specs.Promises.{EveryLoad}
 use Rattle.load.specs.Steps.{asking, stepFor}
-use Rattle.load.specs.declared.plans.Plan.{Plan}
-use Rattle.load.specs.declared.steps.Step.{Step}
-use Rattle.load.specs.declared.steps.Step.the-variants.{Commit, Draw, FaultyAcknowledge, FaultySign, Generations, Preflight, Propose, Show}
+use Rattle.load.specs.declared.Plan.{Plan}
+use Rattle.load.specs.declared.Step.{Step}
+use Rattle.load.specs.declared.Step.the-variants.{Commit, Draw, FaultyAcknowledge, FaultySign, Generations, Preflight, Propose, Show}
 
 -- ---- no command of a step is unreadable
 abbrev isRead : Command → Bool

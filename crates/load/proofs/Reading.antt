@@ -20,8 +20,8 @@ use Rattle.load.specs.Commands.{AllWritten, Written, commandFor, command
 use Rattle.load.specs.Loads.{allBytes}
 use Rattle.load.specs.Records.{jobFor}
 use Rattle.load.specs.Steps.{stepBytes}
-use Rattle.load.specs.declared.steps.Step.{Step}
-use Rattle.load.specs.declared.steps.Step.the-variants.{Commit, Draw, FaultyAcknowledge, FaultySign, Generations, Preflight, Propose, Show}
+use Rattle.load.specs.declared.Step.{Step}
+use Rattle.load.specs.declared.Step.the-variants.{Commit, Draw, FaultyAcknowledge, FaultySign, Generations, Preflight, Propose, Show}
 
 -- what a step's bytes are read as, and where the next step stands
 record Read (input : List ℕ) (pos : ℕ) (command : Command) (size : ℕ) : Type 0 where

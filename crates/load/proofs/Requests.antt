@@ -16,7 +16,7 @@ use Rattle.text.specs.Text.{Put, lineFor}
 use Rattle.load.specs.Loads.{answerOf, isRequest, loadBytes, stepsBytes, stepsOf}
 use Rattle.load.specs.Plans.{faultyOf, planOf, planWith}
 use Rattle.load.specs.Steps.{headerBytes}
-use Rattle.load.specs.declared.plans.Plan.{Plan}
+use Rattle.load.specs.declared.Plan.{Plan}
 
 -- what the test has made sure of
 pub record Asked (input : List ℕ) : Type 0 where

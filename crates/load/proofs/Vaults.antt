@@ -16,7 +16,7 @@ use Rattle.federation.specs.Federation.{Lawful}
 use Rattle.generator.specs.Generator.{drawn, next}
 use Rattle.sets.specs.Bits.{hasBit}
 use Rattle.load.specs.Plans.{Fair, correctFrom, faultyOf, goingOn, planOf, planWith}
-use Rattle.load.specs.declared.plans.Plan.{Plan}
+use Rattle.load.specs.declared.Plan.{Plan}
 
 -- the faulty vaults are below n
 pub faulty-below : (p : Plan) → Fair p → faultyOf p < 2 ^ p .n

@@ -25,9 +25,9 @@ use Rattle.load.specs.Loads.{allBytes, loadBytes, stepsFrom, stepsOf}
 use Rattle.load.specs.Plans.{Fair, correctOf, faultyOf, planOf, planWith}
 use Rattle.load.specs.Records.{jobFor}
 use Rattle.load.specs.Steps.{asking, delivering, headerBytes, stepBytes, stepFor}
-use Rattle.load.specs.declared.plans.Plan.{Plan}
-use Rattle.load.specs.declared.steps.Step.{Step}
-use Rattle.load.specs.declared.steps.Step.the-variants.{Commit, Draw, FaultyAcknowledge, FaultySign, Generations, Preflight, Propose, Show}
+use Rattle.load.specs.declared.Plan.{Plan}
+use Rattle.load.specs.declared.Step.{Step}
+use Rattle.load.specs.declared.Step.the-variants.{Commit, Draw, FaultyAcknowledge, FaultySign, Generations, Preflight, Propose, Show}
 
 pub drawn-below : (state : ℕ) → drawn (next state) < 2 ^ 32
 unfolding drawn next

@@ -18,8 +18,8 @@ use Rattle.text.specs.Text.{Put}
 use Rattle.load.specs.Loads.{stepsBytes, stepsFrom}
 use Rattle.load.specs.Records.{jobFor, mainJob, rivalJob, sideJob}
 use Rattle.load.specs.Steps.{stepBytes, stepFor}
-use Rattle.load.specs.declared.plans.Plan.{Plan}
-use Rattle.load.specs.declared.steps.Step.{Step}
+use Rattle.load.specs.declared.Plan.{Plan}
+use Rattle.load.specs.declared.Step.{Step}
 
 if-entries : (b : Bool) (x y : Job) → length (cond b x y .entries) ≡ cond b (length (x .entries)) (length (y .entries))
 if-entries true x y = refl

@@ -7,8 +7,8 @@ use Rattle.vaults.specs.declared.Column.the-variants.{Acknowledgements, Signatu
 use Rattle.runfile.specs.History.{Item, drawn, event, unread}
 use Rattle.runfile.specs.Steps.{Command, draw, request, unreadable}
 use Rattle.load.specs.Records.{jobFor}
-use Rattle.load.specs.declared.steps.Step.{Step}
-use Rattle.load.specs.declared.steps.Step.the-variants.{Commit, Draw, FaultyAcknowledge, FaultySign, Generations, Preflight, Propose, Show}
+use Rattle.load.specs.declared.Step.{Step}
+use Rattle.load.specs.declared.Step.the-variants.{Commit, Draw, FaultyAcknowledge, FaultySign, Generations, Preflight, Propose, Show}
 
 abbrev pub commandFor : ℕ → Step → Command
 commandFor first (Propose j) = request (propose (bytesOf (jobFor first j)))

@@ -12,8 +12,8 @@ use Rattle.outcome.specs.declared.Refusal.the-variants.{Settings as BadSettings
 use Rattle.text.specs.Text.{lineFor}
 use Rattle.load.specs.Plans.{faultyOf, planOf}
 use Rattle.load.specs.Steps.{headerBytes, stepBytes, stepFor}
-use Rattle.load.specs.declared.plans.Plan.{Plan}
-use Rattle.load.specs.declared.steps.Step.{Step}
+use Rattle.load.specs.declared.Plan.{Plan}
+use Rattle.load.specs.declared.Step.{Step}
 
 -- count steps from step i on, each with a draw of its own
 unfoldable pub stepsFrom : Plan → ℕ → ℕ → ℕ → List Step

@@ -3,7 +3,7 @@ use mathlib.Core.Bool.{cond}
 use Prim.Native.Nat.{_%_, _*_, _+_, _-_, _<_, _^_, _≤_, ℕ}
 use lib.Dec.{leb, ltb}
 use Rattle.generator.specs.Generator.{drawn, next}
-use Rattle.load.specs.declared.plans.Plan.{Plan}
+use Rattle.load.specs.declared.Plan.{Plan}
 
 -- "s is the draw modulo n − b + 1", "t is the draw modulo n"
 unfoldable pub planWith : ℕ → ℕ → ℕ → ℕ → ℕ → Plan

@@ -6,9 +6,9 @@ use lib.Dec.{ltb}
 use Rattle.codec.specs.Codec.{bytesOf, leBytes}
 use Rattle.load.specs.Plans.{correctFrom, correctOf}
 use Rattle.load.specs.Records.{jobFor}
-use Rattle.load.specs.declared.plans.Plan.{Plan}
-use Rattle.load.specs.declared.steps.Step.{Step}
-use Rattle.load.specs.declared.steps.Step.the-variants.{Commit, Draw, FaultyAcknowledge, FaultySign, Generations, Preflight, Propose, Show}
+use Rattle.load.specs.declared.Plan.{Plan}
+use Rattle.load.specs.declared.Step.{Step}
+use Rattle.load.specs.declared.Step.the-variants.{Commit, Draw, FaultyAcknowledge, FaultySign, Generations, Preflight, Propose, Show}
 
 -- the steps up to the preflight of the rival, step k of the round whose main job is `main`
 unfoldable pub asking : Plan → ℕ → ℕ → ℕ → Step
