@@ -61,6 +61,9 @@ fn step<'a>(ledger: &mut Ledger<'a>, rest: &'a [u8]) -> Option<(Answer, &'a [u8]
         [kind::DRAW, absent, ref rest @ ..] => (ledger.draw(absent), rest),
         [kind::GENERATIONS, job, ref rest @ ..] => (ledger.generations(job), rest),
         [kind::SNAPSHOT, ref rest @ ..] => (ledger.snapshot(), rest),
+        [kind::RELEASE, vault, job, rival, ref rest @ ..] => {
+            (ledger.release(vault, job, rival), rest)
+        }
         _ => return None,
     })
 }

@@ -37,6 +37,8 @@ pub fn all() -> Vec<Edge> {
             &SHORT_ROUNDS,
         ),
         edge("nothing but visits", visits(), &[(0, 0); 65_527]),
+        edge("a superseded signature", superseded(), &SUPERSEDED),
+        edge("rivals by an output", remade(), &REMADE),
         edge("a draw of 937.5", a_half(1), &[(0, 938)]),
         edge("a draw of 812.5", a_half(3), &[(0, 812)]),
         edge("a draw of 687.5", a_half(5), &[(0, 688)]),
@@ -305,6 +307,116 @@ fn visits() -> Vec<u8> {
     assert_eq!(file.len(), 65_536);
     file
 }
+
+/// Document 02, M-105: job 0 takes in two tapes, 1 moves the first, 2 moves both and 3 the second. Vault 2 signs 2; 1 is certified by the other vaults
+/// and held by vault 2, which releases 2 and can then sign 3. What it signed of 2 counts on.
+fn superseded() -> Vec<u8> {
+    let (a, b) = ((b"VAA001L7", 1000), (b"VAA002L7", 500));
+    let mut steps = vec![
+        propose(record(0, 7, &[], &[a, b])),
+        propose(record(1, 7, &[a], &[(b"VAB001L7", 1000)])),
+        propose(record(1, 7, &[a, b], &[(b"VAB002L7", 1500)])),
+        propose(record(1, 7, &[b], &[(b"VAB003L7", 500)])),
+    ];
+    steps.extend((0..3).map(|vault| preflight(vault, 0)));
+    steps.extend((0..3).map(|vault| commit(vault, 0, 7)));
+    steps.extend([
+        preflight(2, 2),
+        preflight(0, 1),
+        preflight(1, 1),
+        faulty_signature(3, 1),
+        release(2, 2, 1),
+        commit(2, 1, 11),
+        preflight(2, 3),
+        release(2, 2, 1),
+        preflight(2, 3),
+        preflight(2, 2),
+        release(2, 2, 1),
+        release(2, 3, 1),
+        release(2, 3, 0),
+        release(2, 3, 200),
+        release(2, 200, 1),
+        release(3, 3, 1),
+        release(4, 3, 1),
+        commit(2, 2, 4),
+        release(2, 3, 3),
+        show(2),
+    ]);
+    run_file(4, 1, 8, &steps)
+}
+
+const SUPERSEDED: [Answer; 30] = [
+    (0, 0),
+    (0, 1),
+    (0, 2),
+    (0, 3),
+    (0, 1),
+    (0, 2),
+    (0, 3),
+    (0, 1),
+    (0, 2),
+    (0, 3),
+    (0, 1),
+    (0, 1),
+    (0, 2),
+    (0, 3),
+    // The rival is not held yet.
+    (20, 0),
+    (0, 1),
+    (13, 0),
+    (0, 1),
+    (0, 1),
+    (12, 0),
+    (19, 0),
+    (20, 0),
+    // Job 0 made what job 3 takes: no rival.
+    (20, 0),
+    (4, 0),
+    (4, 0),
+    (5, 0),
+    (3, 0),
+    // Vault 2 has signed job 2, but alone.
+    (16, 0),
+    (20, 0),
+    (0, 0),
+];
+
+/// Two accessions that share a label: the one that lost frees its other.
+fn remade() -> Vec<u8> {
+    let steps = [
+        propose(record(0, 7, &[], &[(b"VAA001L7", 9)])),
+        propose(record(0, 7, &[], &[(b"VAA001L7", 8), (b"VAA002L7", 8)])),
+        propose(record(0, 7, &[], &[(b"VAA002L7", 7)])),
+        preflight(0, 1),
+        preflight(1, 0),
+        preflight(2, 0),
+        preflight(3, 0),
+        preflight(0, 2),
+        commit(0, 0, 14),
+        release(0, 1, 2),
+        release(0, 1, 0),
+        preflight(0, 1),
+        preflight(0, 2),
+    ];
+    run_file(4, 1, 0, &steps)
+}
+
+const REMADE: [Answer; 13] = [
+    (0, 0),
+    (0, 1),
+    (0, 2),
+    (0, 1),
+    (0, 1),
+    (0, 2),
+    (0, 3),
+    (14, 4),
+    (0, 1),
+    // A rival, but not held.
+    (20, 0),
+    (0, 1),
+    (14, 4),
+    (0, 1),
+];
 
 /// One of 16 vaults is away: of 16 quorums 16 − b want it. No other draw is an exact half.
 fn a_half(b: u8) -> Vec<u8> {

@@ -61,6 +61,7 @@ impl Engine {
             Step::Draw { u } => self.draw(*u),
             Step::Generations { job } => self.generations(*job),
             Step::Snapshot => self.snapshot(),
+            Step::Release { vault, job, rival } => self.release(*vault, *job, *rival),
         }
     }
 
@@ -209,6 +210,29 @@ impl Engine {
         Ok(self.seen.len() as u64)
     }
 
+    /// Order: 3, 5, 4 of either job, 19, 20. "The signature already given
+    /// stays valid and keeps its count": the vault alone forgets it.
+    fn release(&mut self, vault: u8, job: u8, rival: u8) -> Answer {
+        let vault = self.vault(vault)?;
+        self.must_be_sound(vault)?;
+        let job = self.booked(job)?;
+        let rival = self.booked(rival)?;
+        if !self.vaults[vault].signed.contains(&job) {
+            return Err(plain(19));
+        }
+        if !self.are_rivals(job, rival) || !self.vaults[vault].held.contains(&rival) {
+            return Err(plain(20));
+        }
+        self.vaults[vault].signed.remove(&job);
+        Ok(self.signatures[job].len() as u64)
+    }
+
+    /// "Two different jobs are rivals if they share an input label or an
+    /// output label."
+    fn are_rivals(&self, job: usize, other: usize) -> bool {
+        job != other && self.book[job].shares_label(&self.book[other])
+    }
+
     /// Check 3.
     fn vault(&self, vault: u8) -> Result<usize, Refusal> {
         if u64::from(vault) >= self.settings.n {
@@ -225,7 +249,7 @@ impl Engine {
         Ok(usize::from(job))
     }
 
-    /// Check 5 for kinds 2 and 3.
+    /// Check 5 for kinds 2, 3 and 10.
     fn must_be_sound(&self, vault: usize) -> Result<(), Refusal> {
         if self.settings.is_faulty(vault as u64) {
             return Err(plain(5));

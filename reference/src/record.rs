@@ -64,6 +64,13 @@ impl Record {
         self.inputs.iter().any(|input| input.tape.label == *label)
     }
 
+    /// Both have the label among their inputs, or both among their outputs.
+    pub fn shares_label(&self, other: &Record) -> bool {
+        let taken = |input: &Entry| other.takes_label(&input.tape.label);
+        let made = |output: &Entry| other.makes_label(&output.tape.label);
+        self.inputs.iter().any(taken) || self.outputs.iter().any(made)
+    }
+
     pub fn output_frames(&self) -> u64 {
         frames_of(&self.outputs)
     }

@@ -12,10 +12,11 @@ pub mod kind {
     pub const DRAW: u8 = 7;
     pub const GENERATIONS: u8 = 8;
     pub const SNAPSHOT: u8 = 9;
+    pub const RELEASE: u8 = 10;
 }
 
 /// Every kind and the length of its body.
-pub const KINDS: [(u8, usize); 9] = [
+pub const KINDS: [(u8, usize); 10] = [
     (kind::PROPOSE, RECORD_BYTES),
     (kind::PREFLIGHT, 2),
     (kind::COMMIT, 4),
@@ -25,6 +26,7 @@ pub const KINDS: [(u8, usize); 9] = [
     (kind::DRAW, 1),
     (kind::GENERATIONS, 1),
     (kind::SNAPSHOT, 0),
+    (kind::RELEASE, 3),
 ];
 
 #[derive(Clone, PartialEq, Eq, Debug)]
@@ -60,6 +62,12 @@ pub enum Step {
     },
     /// "Stock-take while jobs go on".
     Snapshot,
+    /// "A superseded signature can be released."
+    Release {
+        vault: u8,
+        job: u8,
+        rival: u8,
+    },
 }
 
 /// The length of a step, kind and body, or nothing if the kind is unknown.
@@ -93,6 +101,7 @@ fn read_body(kind: u8, body: &[u8]) -> Step {
         (kind::DRAW, &[u]) => Step::Draw { u },
         (kind::GENERATIONS, &[job]) => Step::Generations { job },
         (kind::SNAPSHOT, &[]) => Step::Snapshot,
+        (kind::RELEASE, &[vault, job, rival]) => Step::Release { vault, job, rival },
         _ => unreachable!("kind {kind} has another length in the table"),
     }
 }
@@ -109,6 +118,7 @@ impl Step {
             Step::Draw { .. } => kind::DRAW,
             Step::Generations { .. } => kind::GENERATIONS,
             Step::Snapshot => kind::SNAPSHOT,
+            Step::Release { .. } => kind::RELEASE,
         }
     }
 
@@ -131,6 +141,7 @@ impl Step {
             Step::Show { job } | Step::Generations { job } => bytes.push(*job),
             Step::Draw { u } => bytes.push(*u),
             Step::Snapshot => {}
+            Step::Release { vault, job, rival } => bytes.extend([*vault, *job, *rival]),
         }
         bytes
     }

@@ -99,6 +99,10 @@ pub fn snapshot() -> Step {
     Step::Snapshot
 }
 
+pub fn release(vault: u8, job: u8, rival: u8) -> Step {
+    Step::Release { vault, job, rival }
+}
+
 pub fn generations(job: u8) -> Step {
     Step::Generations { job }
 }

@@ -70,7 +70,12 @@ fn refusal_2_ends_the_run() {
 #[test]
 fn refusals_3_5_and_4_in_this_order() {
     let booked = propose(accession(A, 1));
-    let sound: [fn(u8, u8) -> Step; 2] = [preflight, |vault, job| commit(vault, job, 0)];
+    let sound: [fn(u8, u8) -> Step; 4] = [
+        preflight,
+        |vault, job| commit(vault, job, 0),
+        |vault, job| release(vault, job, 0),
+        |vault, rival| release(vault, 0, rival),
+    ];
     for step in sound {
         for (vault, job, refusal) in [(4, 9, 3), (3, 9, 5), (2, 9, 4), (255, 0, 3)] {
             let steps = [booked.clone(), step(vault, job)];
@@ -230,4 +235,49 @@ fn refusal_18_until_a_sound_vault_holds_it() {
     assert_eq!(last(4, 1, 8, &steps), (0, 2));
     steps.push(generations(0));
     assert_eq!(last(4, 1, 8, &steps), (0, 0));
+}
+
+/// Vault 0 signs job 1 (it moves A to C) and then holds job 2 (it moves B and
+/// A to D), which the other vaults have signed.
+fn superseded(steps: &[Step]) -> (u64, u64) {
+    let two = record(1, 7, &[(B, 1), (A, 1)], &[(D, 2)]);
+    let mut all = vec![
+        propose(record(0, 7, &[], &[(A, 1), (B, 1)])),
+        propose(migration(A, C, 1)),
+        propose(two),
+    ];
+    all.extend((0..4).map(|vault| preflight(vault, 0)));
+    all.extend((0..4).map(|vault| commit(vault, 0, 15)));
+    all.push(preflight(0, 1));
+    all.extend((1..4).map(|vault| preflight(vault, 2)));
+    all.push(commit(0, 2, 14));
+    all.extend_from_slice(steps);
+    last(4, 1, 0, &all)
+}
+
+#[test]
+fn refusals_19_and_20_of_a_release() {
+    assert_eq!(superseded(&[release(0, 1, 2)]), (0, 1));
+    // Not signed here: before 20, and again once it is released.
+    assert_eq!(superseded(&[release(1, 1, 1)]), (19, 0));
+    assert_eq!(superseded(&[release(0, 1, 2), release(0, 1, 2)]), (19, 0));
+    // Itself, the creator of what it takes, and a rival that is not held.
+    assert_eq!(superseded(&[release(0, 1, 1)]), (20, 0));
+    assert_eq!(superseded(&[release(0, 1, 0)]), (20, 0));
+    assert_eq!(superseded(&[release(1, 2, 1)]), (20, 0));
+    // Signed, and its rival is held elsewhere only.
+    let rival = propose(record(1, 7, &[(A, 1)], &[(b"EEEEEEL7", 1)]));
+    assert_eq!(superseded(&[rival, release(0, 1, 3)]), (20, 0));
+}
+
+#[test]
+fn a_released_signature_counts_on() {
+    // 16 and not 15: vault 0 has signed job 1.
+    assert_eq!(superseded(&[release(0, 1, 2), commit(0, 1, 1)]), (16, 0));
+    assert_eq!(superseded(&[release(0, 1, 2), preflight(0, 1)]), (12, 0));
+    // What it reserved is free: C may be made by another.
+    let again = propose(record(0, 7, &[], &[(C, 5)]));
+    assert_eq!(superseded(&[again.clone(), preflight(0, 3)]), (14, 4));
+    let steps = [release(0, 1, 2), again, preflight(0, 3)];
+    assert_eq!(superseded(&steps), (0, 1));
 }

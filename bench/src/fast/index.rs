@@ -108,6 +108,15 @@ impl Index {
         self.users[usize::from(label)]
     }
 
+    /// The jobs that have one of the inputs' labels as an input, or one of the outputs' as an output: the job itself is among them.
+    #[inline]
+    pub fn rivals(&self, tapes: &Tapes) -> Jobs {
+        let inputs = |jobs: Jobs, &label: &u16| jobs | self.users(label).inputs;
+        let outputs = |jobs: Jobs, &label: &u16| jobs | self.users(label).outputs;
+        let by_input = tapes.input_labels().iter().fold(0, inputs);
+        tapes.output_labels().iter().fold(by_input, outputs)
+    }
+
     /// The first of checks 11 to 14 that the job fails at the vault, which has not signed it.
     #[inline(always)]
     pub fn refusal(&self, vault: Vault, tapes: &Tapes) -> Option<Answer> {

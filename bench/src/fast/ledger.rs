@@ -210,6 +210,28 @@ impl<'a> Ledger<'a> {
         Answer::done(self.seen.count_ones() as u16)
     }
 
+    #[inline]
+    pub fn release(&mut self, vault: u8, job: u8, rival: u8) -> Answer {
+        if let Some(refusal) = self.gate(vault, job, false) {
+            return refusal;
+        }
+        if usize::from(rival) >= self.jobs.len() {
+            return Answer::refused(4, 0);
+        }
+        let state = &mut self.vaults[usize::from(vault)];
+        let booked = &self.jobs[usize::from(job)];
+        let bit = 1 << job;
+        if state.signed & bit == 0 {
+            return Answer::refused(19, 0);
+        }
+        let held_rivals = self.index.rivals(&booked.tapes) & !bit & state.held;
+        if held_rivals >> rival & 1 == 0 {
+            return Answer::refused(20, 0);
+        }
+        state.signed &= !bit;
+        Answer::done(booked.signatures.count.into())
+    }
+
     /// Checks 3, 5 and 4, of a step that is for faulty vaults or for correct ones.
     #[inline]
     fn gate(&self, vault: u8, job: u8, faulty: bool) -> Option<Answer> {

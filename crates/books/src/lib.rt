@@ -140,6 +140,10 @@ pub fn apply(mut ledger: Ledger, change: Change, vault: u8, job: u8) -> Ledger
             ledger.votes[j] = votes.with(Column::Acknowledgements, vault);
             arrive(ledger, job)
         }
+        Change::Release(state) => {
+            ledger.vaults[v] = state;
+            ledger
+        }
         Change::Record(column) => {
             ledger.votes[j] = votes.with(column, vault);
             ledger
@@ -163,6 +167,7 @@ pub fn is_nothing(change: Change) -> bool
         Change::Book => false,
         Change::Sign(_) => false,
         Change::Hold(_) => false,
+        Change::Release(_) => false,
         Change::Record(_) => false,
         Change::See(_) => false,
     }
@@ -176,6 +181,7 @@ pub fn is_book(change: Change) -> bool
         Change::Book => true,
         Change::Sign(_) => false,
         Change::Hold(_) => false,
+        Change::Release(_) => false,
         Change::Record(_) => false,
         Change::See(_) => false,
     }

@@ -1,5 +1,7 @@
 // What a step decides, from the pieces that it names: the verdict of the checks before, a vault, the votes on a job. The ledger's
 // operations and the run share these functions.
+mod releases;
+
 ghost use mathlib.Core.Bool.{_&&_, not};
 ghost use mathlib.Core.Path.{_≡_};
 ghost use Prim.Native.Nat.{_<_, _≤_};
@@ -39,6 +41,7 @@ use outcome::Outcome;
 use outcome::Refusal;
 use outcome::Verdict;
 use record::Job;
+pub use releases::release;
 use sets::JobSet;
 use vaults::Column;
 use vaults::Consent;

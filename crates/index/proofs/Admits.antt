@@ -63,12 +63,12 @@ pub used-input : (j : Job) (e : ℕ) → e < 4 → isUsed j e ≡ ltb e (j .inpu
 unfolding isUsed
 used-input j e l = simp (lt-ltb e 4 l)
 
-used-output : (j : Job) (e : ℕ) → isUsed j (4 + e) ≡ ltb e (j .outputs)
+pub used-output : (j : Job) (e : ℕ) → isUsed j (4 + e) ≡ ltb e (j .outputs)
 unfolding isUsed
 used-output j e = let b : 4 + e - 4 ≡ e = omega arith in simp (le-ltb (4 + e) 4 (omega arith), b)
 
 -- where the entry is used alone it matters what the two sides say
-where-used : (u a b : Bool) → (u ≡ true → a ≡ b) → (u && a) ≡ (u && b)
+pub where-used : (u a b : Bool) → (u ≡ true → a ≡ b) → (u && a) ≡ (u && b)
 where-used true a b h = h refl
 where-used false a b h = refl
 

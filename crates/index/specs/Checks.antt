@@ -1,5 +1,5 @@
--- Checks 11 to 14 by the index: whether the set at an entry's number meets the jobs that a vault holds or signed.
-use mathlib.Core.Bool.{Bool, _&&_, cond, not}
+-- Checks 11 to 14 by the index: whether the set at an entry's number meets the jobs that a vault holds or signed. Rivals are found so too.
+use mathlib.Core.Bool.{Bool, _&&_, _||_, cond, not}
 use mathlib.Core.List.{List}
 use mathlib.Core.Path.{_≡_}
 use Prim.Native.Nat.{_*_, _+_, _<_, ℕ}
@@ -53,3 +53,8 @@ admissionBy numbers sets inputs outputs held others k =
     cond (ltb missing 4) (Fail (NotCreated missing))
     (let known = jobUnion held others in
     cond (ltb (firstOffending numbers sets inputs (8 * k) 0 known) 4) (consumedBy numbers sets inputs held others k) (remadeBy numbers sets outputs known k))
+
+-- job k, which has so many inputs and outputs, shares an input label or an output label with a job of s
+unfoldable pub conflictsBy : List ℕ → List ℕ → ℕ → ℕ → JobSet → ℕ → Bool
+conflictsBy numbers sets inputs outputs s k =
+    ltb (firstOffending numbers sets inputs (8 * k) 0 s) 4 || ltb (firstOffending numbers sets outputs (8 * k + 4) 1 s) 4

@@ -15,9 +15,9 @@ use outcome::Verdict;
 use sets::JobSet;
 
 // The sets at a number: of the jobs that have the label as an input, as an output, and that make the tape.
-const READERS: usize = 0;
+pub(crate) const READERS: usize = 0;
 
-const WRITERS: usize = 1;
+pub(crate) const WRITERS: usize = 1;
 
 const MAKERS: usize = 2;
 
@@ -60,7 +60,7 @@ fn offends_at(
 }
 
 // The first of four entries that offends, or 4.
-fn first_offending(
+pub(crate) fn first_offending(
     numbers: &[u16],
     sets: &[u64],
     count: usize,

@@ -2,7 +2,7 @@
 -- grows and that a refused step changes nothing all follow. The steps that read only what is booked do so whatever journal is lent.
 use Rattle.sets.specs.declared.job_set.JobSet.{JobSet}
 use Rattle.snapshot.specs.Snapshot.{seenAfter}
-use mathlib.Core.Bool.{Bool, cond, false, true}
+use mathlib.Core.Bool.{Bool, cond, false, not, true}
 use mathlib.Core.List.{List, [], _++_}
 use mathlib.Core.Path.{_∙_, _≡_, ap, refl, subst, sym}
 use Prim.Native.Nat.{_*_, _<_, _^_, _≤_, ℕ}
@@ -10,17 +10,21 @@ use native.Mathlib.Nat.{le-trans}
 use native.Mathlib.Omega.{arith}
 use lib.Bits.{and-le-r, bitAnd}
 use lib.Count.{ones}
+use lib.Dec.{eqb}
 use lib.ListN.{getD, length, take}
-use borrow.Author.Tests.{eqb-true, leb-true}
+use borrow.Author.Tests.{eqb-false, eqb-true, leb-true}
 use Rattle.base.proofs.Members.{getD-in, in-getD}
-use Rattle.base.proofs.Reflect.{by-cases}
+use Rattle.base.proofs.Reflect.{and-true, by-cases, reflect-false}
 use Rattle.base.specs.Lists.{In}
+use Rattle.outcome.specs.declared.Outcome.the-variants.{Done}
 use Rattle.outcome.specs.declared.Refusal.{Refusal}
 use Rattle.outcome.specs.declared.Refusal.the-variants.{Full, NotHeld, Settings as BadSettings}
 use Rattle.outcome.specs.declared.Verdict.{Verdict}
 use Rattle.outcome.specs.declared.Verdict.the-variants.{Fail, Pass}
 use Rattle.checks.specs.Checks.{examined}
 use Rattle.codec.specs.Codec.{recordSize}
+use Rattle.conflicts.proofs.Meaning.{conflicting-sym}
+use Rattle.conflicts.specs.Conflicts.{conflicting}
 use Rattle.record.specs.declared.Job.{Job}
 use Rattle.sets.proofs.Bits.{ones-subset}
 use Rattle.sets.specs.Bits.{hasBit, subsetOf}
@@ -29,13 +33,14 @@ use Rattle.ledger.proofs.Gates.{entered, passed-rest, passed-test}
 use Rattle.ledger.proofs.Lending.{grown-bytes, jobs-read, kept-bytes, records-at, records-length, slot-agrees}
 use Rattle.ledger.proofs.Paper.{admission-unblocked}
 use Rattle.ledger.proofs.Places.{examined-length, proposed}
+use Rattle.ledger.proofs.Rivals.{Rival}
 use Rattle.ledger.proofs.Views.{arrives}
 use Rattle.ledger.specs.Demand3.{Correct, HeldBy, recordsIn}
 use Rattle.federation.specs.Federation.{Lawful, thresholdOf}
 use Rattle.ledger.specs.Holders.{isHeld}
 use Rattle.ledger.specs.Graph.{Unblocked}
 use Rattle.generations.specs.Generations.{ageIn}
-use Rattle.journal.specs.Journal.{insideOf, jobAt, slotAt}
+use Rattle.journal.specs.Journal.{insideOf, isBooked, jobAt, slotAt}
 use Rattle.ledger.specs.Meaning.{Entered, KnownAt, NewAt, Proposed, Sane, failed, full, insane, known, new}
 use Rattle.ledger.specs.Register.{isDone, tabled}
 use Rattle.ledger.specs.State.{applied, arriving, booking, signersOf, vaultAt, visited, voted, votesAt, votesIn, withVault}
@@ -52,8 +57,11 @@ use Rattle.ledger.specs.Decisions.{
   preflighting,
   receiving,
   refusing,
+  releasing,
   snapshotting,
   statusOf,
+  supersededAt,
+  supersession,
   voting,
 }
 use Rattle.ledger.specs.Steps.{
@@ -66,12 +74,13 @@ use Rattle.ledger.specs.Steps.{
   journalWith,
   preflightDecision,
   proposeDecision,
+  releaseDecision,
   saneGate,
   showDecision,
   snapshotDecision,
   vaultGate,
 }
-use Rattle.vaults.specs.Vaults.{consented, holding, signing, vaultPreflight}
+use Rattle.vaults.specs.Vaults.{consented, holding, signing, unsigning, vaultPreflight}
 use Rattle.ledger.specs.Worlds.{
   Event,
   Request,
@@ -85,12 +94,13 @@ use Rattle.ledger.specs.Worlds.{
   overlay,
   preflight,
   propose,
+  release,
   replyTo,
   show,
   snapshot,
   stepOf,
 }
-use Rattle.ledger.specs.declared.Change.the-variants.{Hold, Record, Sign}
+use Rattle.ledger.specs.declared.Change.the-variants.{Hold, Record, Release, Sign}
 use Rattle.vaults.specs.declared.Column.{Column}
 use Rattle.vaults.specs.declared.Column.the-variants.{Acknowledgements, Signatures}
 use Rattle.vaults.specs.declared.Consent.the-variants.{Already}
@@ -129,6 +139,10 @@ signedBy l v k = voted (withVault l v (signing (vaultAt l v) k)) Signatures v k
 unfoldable pub held : Ledger → ℕ → ℕ → Ledger
 held l v k = arriving (voted (withVault l v (holding (vaultAt l v) k)) Acknowledgements v k) k
 
+-- a vault releases a job: its signature stays recorded
+abbrev pub releasedBy : Ledger → ℕ → ℕ → Ledger
+releasedBy l v k = withVault l v (unsigning (vaultAt l v) k)
+
 -- the jobs that a snapshot's next visit leaves seen
 abbrev pub seenNext : Ledger → JobSet
 seenNext l = seenAfter (l .settings) (l .next) (l .seen) (vaultAt l (l .next) .held)
@@ -142,6 +156,7 @@ Idle w (faultyVote c v k) = ⊥
 Idle w (show k) = Unit {0}
 Idle w (generations k) = Unit {0}
 Idle w snapshot = ⊥
+Idle w (release v k rival) = ⊥
 
 pub data Change (w : World) : Request → Bool → World → Type 0 where
   -- refused
@@ -159,6 +174,9 @@ pub data Change (w : World) : Request → Bool → World → Type 0 where
   holds : (v k signers : ℕ) → Correct (w .ledger .settings) v → k < w .ledger .booked → thresholdOf (w .ledger .settings) ≤ ones (signersOf (w .ledger) k)
       → Change w (commit v k signers) true (withLedger w (held (w .ledger) v k))
   sees : Change w snapshot true (withLedger w (visited (w .ledger) (seenNext (w .ledger))))
+  releases : (v k rival : ℕ) → Correct (w .ledger .settings) v → jobHas (vaultAt (w .ledger) v .signed) k ≡ true
+      → jobHas (vaultAt (w .ledger) v .held) rival ≡ true → Rival (tabled (tableOf w)) rival k
+      → Change w (release v k rival) true (withLedger w (releasedBy (w .ledger) v k))
 
 -- ---- each step is a change
 module _ (w : World) (sh : Shape (w .ledger) (w .booked)) (size : ℕ) (beyond : List ℕ) where
@@ -296,6 +314,24 @@ module _ (w : World) (sh : Shape (w .ledger) (w .booked)) (size : ℕ) (beyond :
       behind snapshot (saneGate l) _ 0 0
       (λ g. moves snapshot (carried l (snapshotting (l .settings) (l .next) (l .seen) (vaultAt l (l .next) .held)) 0 0) refl sees)
 
+  -- ---- a release
+  change-release : (v k rival : ℕ) → Moves (release v k rival) (carried l (releaseDecision l journal v k rival) v k)
+  unfolding releaseDecision releasing supersession supersededAt applied withVault
+  change-release v k rival =
+      behind (release v k rival) (vaultGate l journal v k false) _ v k
+      (λ g. behind (release v k rival) (supersession (vaultAt l v) journal (l .booked) k rival) _ v k
+      (λ s.
+      let h = entered l journal v k false g in
+      let known = passed-rest (isBooked journal (l .booked) rival) _ _ s in
+      let lost = passed-test _ _ _ (passed-rest (jobHas (vaultAt l v .signed) k) _ _ known) in
+      let differ = and-true (not (eqb k rival)) _ lost in
+      let kept = and-true (jobHas (vaultAt l v .held) rival) _ (differ .1) in
+      moves (release v k rival) (carried l (record { outcome = Done (ones (signersOf l k)); change = Release (unsigning (vaultAt l v) k) }) v k) refl
+      (releases v k rival (correct v k h) (passed-test (jobHas (vaultAt l v .signed) k) _ _ known) (kept .0) (record {
+        other = λ e. eqb-false k rival (reflect-false (eqb k rival) .sound (differ .0)) (sym e);
+        conflicts = subst (λ (job : ℕ → Job). conflicting (job rival) (job k) ≡ true) (jobs h) (conflicting-sym _ _ (kept .1));
+      }))))
+
   -- ---- propose
   -- a record inside the journal is a booked one
   slot-tabled : (k : ℕ) → k < insideOf journal (l .booked) → slotAt journal k ≡ getD (tableOf w) k []
@@ -337,6 +373,7 @@ module _ (w : World) (sh : Shape (w .ledger) (w .booked)) (size : ℕ) (beyond :
   change (show k) = change-show k
   change (generations k) = change-generations k
   change snapshot = change-snapshot
+  change (release v k rival) = change-release v k rival
 
 pub changes : (w : World) → Shape (w .ledger) (w .booked) → (e : Event) → Change w (e .request) (isDone (replyTo w e .outcome)) (after w e)
 unfolding after

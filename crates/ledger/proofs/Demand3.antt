@@ -17,10 +17,10 @@ use Rattle.sets.proofs.Jobs.{has-no-jobs}
 use Rattle.sets.specs.Bits.{hasBit}
 use Rattle.sets.specs.Jobs.{jobHas, noJobs}
 use Rattle.sets.specs.declared.job_set.JobSet.{JobSet}
-use Rattle.ledger.proofs.Changes.{Change, appends, changes, holds, idle, nothing, sees, shape-sane, signs, votes}
+use Rattle.ledger.proofs.Changes.{Change, appends, changes, holds, idle, nothing, releases, sees, shape-sane, signs, votes}
 use Rattle.ledger.proofs.Effects.{hold-settings}
 use Rattle.ledger.proofs.Gates.{reflect-sane}
-use Rattle.ledger.proofs.Invariant.{Inv, held-by, is-recorded, keep}
+use Rattle.ledger.proofs.Invariant.{Inv, held-by, keep, tally}
 use Rattle.ledger.proofs.Refusals.{never-one}
 use Rattle.ledger.proofs.Safety.{certified-apart, meeting}
 use Rattle.ledger.proofs.Views.{heldAt, signedAt, votedAt}
@@ -54,6 +54,7 @@ same-settings w q done w′ (signs v k c h u) = refl
 same-settings w q done w′ (votes d v k h f b) = refl
 same-settings w q done w′ (holds v k signers c h e) = hold-settings (w .ledger) v k
 same-settings w q done w′ sees = refl
+same-settings w q done w′ (releases v k m c s h n) = refl
 
 pub settings-along : (es : List Event) (w : World) (r : Register) → Inv w r → afterAll w es .ledger .settings ≡ w .ledger .settings
 settings-along [] w r i = refl
@@ -70,6 +71,7 @@ same-world w q done w′ (signs v k c h u) f = absurd (true≢false f)
 same-world w q done w′ (votes d v k h p b) f = absurd (true≢false f)
 same-world w q done w′ (holds v k signers c h e) f = absurd (true≢false f)
 same-world w q done w′ sees f = absurd (true≢false f)
+same-world w q done w′ (releases v k m c s h n) f = absurd (true≢false f)
 
 -- ---- at first nothing is held, signed, recorded or acknowledged
 filled : {A : Type 0} (n i : ℕ) (a : A) → getD (replicate n a) i a ≡ a
@@ -121,10 +123,11 @@ module _ (n b faulty : ℕ) where
       booked-held = λ v k t. absurd (no-jobs (λ x. x .held) refl v k t);
       booked-recorded = λ v k t. absurd (no-vaults Signatures v k t);
       backed = λ v k t. absurd (no-jobs (λ x. x .signed) refl v k t);
-      backs = λ v k c t. absurd (no-vaults Signatures v k t);
       apart = λ v i k t u ne. absurd (no-jobs (λ x. x .signed) refl v i t);
       rooted = λ v k c t x m. absurd (no-vaults Signatures v k t);
       certified = λ v k t. absurd (no-jobs (λ x. x .held) refl v k t);
+      released = λ v k c t n. absurd (no-vaults Signatures v k t);
+      outvoted = λ v m k c t r. absurd (no-jobs (λ x. x .held) refl v m t);
       honest = λ v k c t. absurd (no-vaults Acknowledgements v k t);
     };
     fit = λ x m. absurd m;
@@ -210,11 +213,11 @@ refused-unchanged n b faulty lawful es e why refused =
     let i = along es (start n b faulty) newRegister (first n b faulty lawful) in
     same-world w (e .request) (isDone (replyTo w e .outcome)) (after w e) (changes w (i .shape) e) (ap isDone refused)
 
--- two jobs that correct vaults hold were each signed by a quorum, and a correct vault signed both
+-- two jobs that correct vaults hold were each signed by a quorum, and a correct vault signed both and released neither
 pub disjoint : Disjoint
 disjoint n b faulty lawful es k m hk hm ne =
     let i = along es (start n b faulty) newRegister (first n b faulty lawful) in
     let w = afterAll (start n b faulty) es in
     let r = feedAll newRegister (log (start n b faulty) es) in
     subst (λ (t : List (List ℕ)). Apart (tabled t k) (tabled t m)) (i .table)
-    (certified-apart (i .safe) (i .shape .lawful) (i .shape .votes-below Signatures) (is-recorded i) k m (quorum i k hk) (quorum i m hm) ne)
+    (certified-apart (i .safe) (tally i) k m (quorum i k hk) (quorum i m hm) ne)

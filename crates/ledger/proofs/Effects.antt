@@ -1,4 +1,4 @@
--- What each effect does to the relations and to the shape: a vote or a held job is one more pair, and the rest is as it was.
+-- What each effect does to the relations and to the shape: a vote or a held job is one more pair, a release one less, and the rest is as it was.
 use Rattle.sets.specs.declared.job_set.JobSet.{JobSet}
 use Rattle.snapshot.proofs.Visits.{stays-below}
 use mathlib.Core.Bool.{Bool, false, true}
@@ -12,11 +12,12 @@ use Rattle.codec.proofs.Numbers.{room}
 use Rattle.codec.specs.Codec.{recordSize}
 use Rattle.sets.specs.Bits.{hasBit}
 use Rattle.sets.specs.Jobs.{jobHas}
-use Rattle.ledger.proofs.Changes.{Shape, held, signedBy}
+use Rattle.ledger.proofs.Changes.{Shape, held, releasedBy, signedBy}
 use Rattle.ledger.proofs.Views.{
   Added,
   Arrives,
   Grown,
+  Shrunk,
   ackedAt,
   arrive-again,
   arrive-first,
@@ -24,8 +25,10 @@ use Rattle.ledger.proofs.Views.{
   grown-row,
   heldAt,
   kept-row,
+  minus-job,
   plus-job,
   recordedAt,
+  shrunk-row,
   signedAt,
   voted-added,
   voted-below,
@@ -37,7 +40,7 @@ use Rattle.ledger.proofs.Views.{
 use Rattle.federation.specs.Federation.{Lawful}
 use Rattle.generations.specs.Generations.{isAt}
 use Rattle.ledger.specs.State.{arrived, arriving, booking, hasArrived, signersOf, vaultAt, visited, voted, votesIn, withVault}
-use Rattle.vaults.specs.Vaults.{holding, newVault, signing}
+use Rattle.vaults.specs.Vaults.{holding, newVault, signing, unsigning}
 use Rattle.vaults.specs.Votes.{columnOf, noVotes}
 use Rattle.vaults.specs.declared.Column.{Column}
 use Rattle.vaults.specs.declared.Column.the-variants.{Acknowledgements, Signatures}
@@ -74,6 +77,18 @@ module _ (l : Ledger) (v k : ℕ) where
   pub sign-ones : (m : ℕ) → ones (signersOf l m) ≤ ones (signersOf (signedBy l v k) m)
   unfolding votesIn withVault
   sign-ones m = voted-ones (withVault l v signer) Signatures v k Signatures m
+
+  -- ---- a vault releases
+  abbrev releaser : Vault
+  releaser = unsigning (vaultAt l v) k
+
+  pub release-held : heldAt (releasedBy l v k) ≡ heldAt l
+  unfolding heldAt withVault unsigning
+  release-held = λ i u m. kept-row (λ (s : Vault). jobHas (s .held)) newVault (l .vaults) v releaser (λ n. refl) u m i
+
+  pub release-signed : Shrunk (signedAt l) (signedAt (releasedBy l v k)) v k
+  unfolding signedAt withVault unsigning
+  release-signed = shrunk-row (λ (s : Vault). jobHas (s .signed)) newVault (l .vaults) v releaser k (minus-job (vaultAt l v .signed) k)
 
   -- ---- a vault holds, and the job arrives
   abbrev holder : Vault
@@ -154,7 +169,7 @@ module _ (l : Ledger) (v k : ℕ) where
 
 -- ---- the shape stays, whatever part of the ledger changes
 module _ {l : Ledger} {bs : List ℕ} (s : Shape l bs) where
-  shape-vault : (v : ℕ) (state : Vault) → Shape (withVault l v state) bs
+  pub shape-vault : (v : ℕ) (state : Vault) → Shape (withVault l v state) bs
   unfolding withVault votesIn
   shape-vault v state = record {
     lawful = s .lawful;

@@ -1,18 +1,18 @@
--- What is held, signed, recorded, acknowledged and booked only grows, over any list of steps: each change adds one pair to a relation or
--- one record to the booked bytes.
+-- What is held, recorded, acknowledged and booked only grows, over any list of steps: each change adds one pair to a relation or one record to the
+-- booked bytes, and a release touches none of these.
 use mathlib.Core.Bool.{Bool, true}
 use mathlib.Core.List.{List, [], _++_, _∷_, append-assoc, append-nil}
 use mathlib.Core.Path.{_∙_, _≡_, ap, refl, sym}
 use Prim.Native.Nat.{ℕ}
 use native.Mathlib.Omega.{arith}
-use Rattle.ledger.proofs.Changes.{Change, Shape, appends, changes, holds, idle, nothing, sees, signs, votes, withLedger}
+use Rattle.ledger.proofs.Changes.{Change, Shape, appends, changes, holds, idle, nothing, releases, sees, signs, votes, withLedger}
 use Rattle.ledger.proofs.Demand3.{kept}
-use Rattle.ledger.proofs.Effects.{hold-held, hold-signed, hold-votes, sign-held, sign-signed, sign-votes}
+use Rattle.ledger.proofs.Effects.{hold-held, hold-votes, release-held, sign-held, sign-votes}
 use Rattle.ledger.proofs.Invariant.{Inv}
-use Rattle.ledger.proofs.Views.{heldAt, signedAt, voted-added, votedAt}
+use Rattle.ledger.proofs.Views.{heldAt, voted-added, votedAt}
 use Rattle.ledger.specs.Growth.{Grows}
 use Rattle.ledger.specs.Register.{Register, feed, isDone}
-use Rattle.ledger.specs.State.{booking, visited, voted, votesIn}
+use Rattle.ledger.specs.State.{booking, visited, voted, votesIn, withVault}
 use Rattle.vaults.specs.declared.Column.{Column}
 use Rattle.vaults.specs.declared.Column.the-variants.{Acknowledgements, Signatures}
 use Rattle.ledger.specs.declared.Ledger.{Ledger}
@@ -21,7 +21,6 @@ use Rattle.ledger.specs.Worlds.{Event, Request, World, after, afterAll, 
 pub grows-same : (w : World) → Grows w w
 grows-same w = record {
   held = λ v k h. h;
-  signed = λ v k h. h;
   signatures = λ v k h. h;
   acknowledgements = λ v k h. h;
   more = [];
@@ -31,23 +30,20 @@ grows-same w = record {
 pub grows-on : {a b c : World} → Grows a b → Grows b c → Grows a c
 grows-on {a} {b} {c} p q = record {
   held = λ v k h. q .held v k (p .held v k h);
-  signed = λ v k h. q .signed v k (p .signed v k h);
   signatures = λ v k h. q .signatures v k (p .signatures v k h);
   acknowledgements = λ v k h. q .acknowledgements v k (p .acknowledgements v k h);
   more = p .more ++ q .more;
   booked = q .booked ∙ (ap (λ (x : List ℕ). x ++ q .more) (p .booked) ∙ append-assoc (a .booked) (p .more) (q .more));
 }
 
--- a change of the ledger alone, by what it does to the four relations
+-- a change of the ledger alone, by what it does to the relations
 grows-ledger : (w : World) (l′ : Ledger)
     → ((v k : ℕ) → heldAt (w .ledger) v k ≡ true → heldAt l′ v k ≡ true)
-    → ((v k : ℕ) → signedAt (w .ledger) v k ≡ true → signedAt l′ v k ≡ true)
     → ((c : Column) (k v : ℕ) → votedAt (w .ledger) c v k ≡ true → votedAt l′ c v k ≡ true)
     → Grows w (withLedger w l′)
-unfolding heldAt signedAt votedAt
-grows-ledger w l′ held signed voted = record {
+unfolding heldAt votedAt
+grows-ledger w l′ held voted = record {
   held = held;
-  signed = signed;
   signatures = λ v k. voted Signatures k v;
   acknowledgements = λ v k. voted Acknowledgements k v;
   more = [];
@@ -63,26 +59,23 @@ module _ (w : World) (sh : Shape (w .ledger) (w .booked)) where
   same e u m t = ap (λ (f : ℕ → ℕ → Bool). f u m) e ∙ t
 
   pub grow : (q : Request) (done : Bool) (w′ : World) → Change w q done w′ → Grows w w′
-  unfolding booking visited votesIn voted votedAt heldAt signedAt
+  unfolding booking visited votesIn voted votedAt heldAt withVault
   grow q done w′ (nothing p) = grows-same w
   grow q done w′ (idle p m) = grows-same w
   grow q done w′ (appends bytes e h n) = record {
     held = λ v k h. h;
-    signed = λ v k h. h;
     signatures = λ v k h. h;
     acknowledgements = λ v k h. h;
     more = bytes;
     booked = refl;
   }
-  grow q done w′ (signs v k c h u) =
-      grows-ledger w _ (same (sign-held l v k)) (sign-signed l v k (omega (arith, c .below, sh .vaults, sh .lawful .vaults)) (omega (arith, sh .room)) .old)
-      (λ d. sign-votes l v k (omega (arith, c .below, sh .lawful .vaults)) d .old)
-  grow q done w′ (votes d v k h f b) =
-      grows-ledger w _ (λ u m t. t) (λ u m t. t) (λ e. voted-added l d v k (omega (arith, h, sh .lawful .vaults)) e .old)
+  grow q done w′ (signs v k c h u) = grows-ledger w _ (same (sign-held l v k)) (λ d. sign-votes l v k (omega (arith, c .below, sh .lawful .vaults)) d .old)
+  grow q done w′ (votes d v k h f b) = grows-ledger w _ (λ u m t. t) (λ e. voted-added l d v k (omega (arith, h, sh .lawful .vaults)) e .old)
   grow q done w′ (holds v k signers c h e) =
-      grows-ledger w _ (hold-held l v k (omega (arith, c .below, sh .vaults, sh .lawful .vaults)) (omega (arith, sh .room)) .old) (same (hold-signed l v k))
+      grows-ledger w _ (hold-held l v k (omega (arith, c .below, sh .vaults, sh .lawful .vaults)) (omega (arith, sh .room)) .old)
       (λ d. hold-votes l v k (omega (arith, c .below, sh .lawful .vaults)) d .old)
-  grow q done w′ sees = grows-ledger w _ (λ u m t. t) (λ u m t. t) (λ d m u t. t)
+  grow q done w′ sees = grows-ledger w _ (λ u m t. t) (λ d m u t. t)
+  grow q done w′ (releases v k m c s h n) = grows-ledger w _ (same (release-held l v k)) (λ d m u t. t)
 
 pub grows : (es : List Event) (w : World) (r : Register) → Inv w r → Grows w (afterAll w es)
 grows [] w r i = grows-same w

@@ -4,7 +4,7 @@
 use Rattle.sets.specs.declared.job_set.JobSet.{JobSet}
 use mathlib.Core.Bool.{Bool, _&&_, cond, false, true, true≢false}
 use mathlib.Core.List.{List, [], _++_, _∷_}
-use mathlib.Core.Logic.{inr, ⊎-elim}
+use mathlib.Core.Logic.{inl, inr, ⊎-elim}
 use mathlib.Core.Path.{_∙_, _≡_, ap, refl, subst, sym}
 use Prim.Native.Nat.{_<_, _≤_, ℕ}
 use native.Mathlib.Omega.{arith}
@@ -26,9 +26,27 @@ use Rattle.record.specs.declared.Entry.{Entry}
 use Rattle.record.specs.declared.Job.{Job}
 use Rattle.sets.proofs.Jobs.{job-without-other}
 use Rattle.sets.specs.Bits.{hasBit}
-use Rattle.sets.specs.Jobs.{jobWithout}
+use Rattle.sets.specs.Jobs.{jobHas, jobWithout}
 use Rattle.ledger.proofs.Account.{Books, CanTake, books-enter, books-take, reflect-admissible}
-use Rattle.ledger.proofs.Changes.{Change, Idle, Shape, appends, held, holds, idle, nothing, seenNext, sees, signedBy, signs, tableOf, votes, withLedger}
+use Rattle.ledger.proofs.Changes.{
+  Change,
+  Idle,
+  Shape,
+  appends,
+  held,
+  holds,
+  idle,
+  nothing,
+  releasedBy,
+  releases,
+  seenNext,
+  sees,
+  signedBy,
+  signs,
+  tableOf,
+  votes,
+  withLedger,
+}
 use Rattle.ledger.proofs.Effects.{
   hold-acked,
   hold-again,
@@ -39,10 +57,13 @@ use Rattle.ledger.proofs.Effects.{
   hold-settings,
   hold-signed,
   hold-signers,
+  release-held,
+  release-signed,
   shape-book,
   shape-hold,
   shape-see,
   shape-sign,
+  shape-vault,
   shape-vote,
   sign-acked,
   sign-held,
@@ -52,14 +73,15 @@ use Rattle.ledger.proofs.Effects.{
 }
 use Rattle.ledger.proofs.Lending.{records-length, records-snoc}
 use Rattle.ledger.proofs.Places.{examined-length}
-use Rattle.ledger.proofs.Safety.{Clear, Safe, certified-apart, certified-rooted, safe-book, safe-faulty, safe-hold, safe-sign}
+use Rattle.ledger.proofs.Rivals.{Rival}
+use Rattle.ledger.proofs.Safety.{Clear, Safe, Tally, certified-apart, certified-rooted, safe-book, safe-faulty, safe-hold, safe-release, safe-sign}
 use Rattle.ledger.proofs.Views.{Grown, ackedAt, heldAt, recordedAt, reflect-arrived, signedAt, voted-added, voted-ones, votedAt}
 use Rattle.ledger.specs.Demand3.{Apart, Correct, Held, recordsIn}
 use Rattle.federation.specs.Federation.{thresholdOf}
 use Rattle.ledger.specs.Graph.{Unblocked}
 use Rattle.ledger.specs.Register.{Register, entering, feed, feedCommit, feedDone, feedProposal, isAdmissible, stopped, tabled, taking}
 use Rattle.ledger.specs.State.{arrived, booking, signersOf, vaultAt, visited, voted, votesIn, withVault}
-use Rattle.ledger.specs.Worlds.{Request, World, commit, faultyVote, generations, preflight, propose, show, snapshot}
+use Rattle.ledger.specs.Worlds.{Request, World, commit, faultyVote, generations, preflight, propose, release, show, snapshot}
 use Rattle.vaults.specs.declared.Column.{Column}
 use Rattle.vaults.specs.declared.Column.the-variants.{Acknowledgements, Signatures}
 use Rattle.ledger.specs.declared.Ledger.{Ledger}
@@ -114,12 +136,20 @@ module _ {w : World} {r : Register} (i : Inv w r) where
   is-job : (k : ℕ) → k < l .booked → k < 128
   is-job k h = omega (arith, i .shape .room)
 
+  pub tally : Tally (l .settings) (recordedAt l) (signersOf l)
+  unfolding votedAt
+  tally = record { lawful = i .shape .lawful; below = i .shape .votes-below Signatures; is = λ v k t. t }
+
   -- ---- a correct vault signs
-  clear : (v k : ℕ) → Unblocked (tabled (tableOf w)) (l .booked) (vaultAt l v .held) (jobWithout (vaultAt l v .signed) k) (tabled (tableOf w) k)
+  pub clear : (v k : ℕ) → Unblocked (tabled (tableOf w)) (l .booked) (vaultAt l v .held) (jobWithout (vaultAt l v .signed) k) (tabled (tableOf w) k)
       → Clear job (heldAt l) (signedAt l) v k
   unfolding heldAt signedAt
   clear v k u = subst (λ (t : List (List ℕ)). Clear (tabled t) (heldAt l) (signedAt l) v k) (sym (i .table)) (record {
     rooted = λ t m. let c = u .created t m in record { maker = c .which; holds = c .member; makes = c .makes };
+    unrivalled = λ m h. record {
+      inputs = λ x a b. u .unconsumed x a (record { which = m; below = i .safe .booked-held v m h; member = h; lists = b });
+      outputs = λ x a b. u .unmade x a (inl (record { which = m; below = i .safe .booked-held v m h; member = h; lists = b }));
+    };
     apart = λ m s ne. record {
       inputs = λ x a b. u .unmarked x a (record { which = m; below = below m s; member = job-without-other (vaultAt l v .signed) k m ne ∙ s; lists = b });
       outputs = λ x a b. u .unmade x a (inr (record { which = m; below = below m s; member = job-without-other (vaultAt l v .signed) k m ne ∙ s; lists = b }));
@@ -162,7 +192,7 @@ module _ {w : World} {r : Register} (i : Inv w r) where
       (shape-sign (i .shape) v k (c .below))
       (subst (λ (h : ℕ → ℕ → Bool). Signed h (ackedAt next)) (sym (sign-held l v k))
       (subst (Signed (heldAt l)) (sym (sign-acked l v k))
-      (safe-sign (i .safe) v k hk (sign-signed l v k (in-vaults v (c .below)) (is-job k hk))
+      (safe-sign (i .safe) tally v k c hk (sign-signed l v k (in-vaults v (c .below)) (is-job k hk))
       (sign-recorded l v k (omega (arith, i .shape .votes, is-job k hk)) (is-vault v (c .below))) (sign-ones l v k) cl)))
     where
       next : Ledger
@@ -174,6 +204,22 @@ module _ {w : World} {r : Register} (i : Inv w r) where
       Signed : (ℕ → ℕ → Bool) → (ℕ → ℕ → Bool) → Type 0
       Signed h a = Safe (l .settings) (l .booked) job h (signedAt (signedBy l v k)) (recordedAt (signedBy l v k)) a (signersOf (signedBy l v k))
 
+  -- ---- a correct vault releases a job that lost to one that it holds
+  inv-release : (v k m : ℕ) → Correct (l .settings) v → signedAt l v k ≡ true → heldAt l v m ≡ true → Rival (tabled (tableOf w)) m k
+      → Inv (withLedger w (releasedBy l v k)) r
+  unfolding withVault votedAt votesIn
+  inv-release v k m c s h rival =
+      inv-ledger (releasedBy l v k)
+      (record { settings = refl; booked = refl; order = refl; keeps = λ u n t. same u n ∙ t; taken = λ u n t. i .held-taken u n (sym (same u n) ∙ t) })
+      (shape-vault (i .shape) v _)
+      (subst (λ (f : ℕ → ℕ → Bool). Safe (l .settings) (l .booked) job f (signedAt (releasedBy l v k)) (recordedAt l) (ackedAt l) (signersOf l))
+      (sym (release-held l v k))
+      (safe-release (i .safe) tally v k m c s h (subst (λ (t : List (List ℕ)). Rival (tabled t) m k) (sym (i .table)) rival)
+      (release-signed l v k)))
+    where
+      same : (u n : ℕ) → heldAt (releasedBy l v k) u n ≡ heldAt l u n
+      same u n = ap (λ (f : ℕ → ℕ → Bool). f u n) (release-held l v k)
+
   -- ---- a faulty vault votes
   inv-vote : (d : Column) (v k : ℕ) → v < l .settings .n → hasBit (l .settings .faulty) v ≡ true → k < l .booked → Inv (withLedger w (voted l d v k)) r
   unfolding voted heldAt signedAt
@@ -182,7 +228,7 @@ module _ {w : World} {r : Register} (i : Inv w r) where
       inv-ledger (voted l d v k)
       (record { settings = refl; booked = refl; order = refl; keeps = λ u m t. t; taken = i .held-taken })
       (shape-vote (i .shape) d v k hv)
-      (safe-faulty (i .safe) v k hk (λ c. true≢false (sym f ∙ c .sound)) (added Signatures) (added Acknowledgements) (voted-ones l d v k Signatures))
+      (safe-faulty (i .safe) tally v k hk (λ c. true≢false (sym f ∙ c .sound)) (added Signatures) (added Acknowledgements) (voted-ones l d v k Signatures))
 
   -- ---- a snapshot's visit: nothing that the invariant speaks of changes
   inv-see : (seen : JobSet) → Inv (withLedger w (visited l seen)) r
@@ -201,7 +247,7 @@ module _ {w : World} {r : Register} (i : Inv w r) where
       let size : length bytes ≡ recordSize = examined-length bytes e in
       record {
         shape = shape-book (i .shape) bytes h size;
-        safe = safe-book (i .safe) (λ k b. ap jobOf (List·getD-append (r .table) (bytes ∷ []) [] k (omega (arith, table-length i))));
+        safe = safe-book (i .safe) tally (λ k b. ap jobOf (List·getD-append (r .table) (bytes ∷ []) [] k (omega (arith, table-length i))));
         fit = λ x m. ⊎-elim (i .fit x) (λ (q : x ≡ bytes). rw q e) (in-snoc (r .table) bytes x m);
         books = books-enter r bytes (i .books);
         running = i .running;
@@ -214,24 +260,20 @@ module _ {w : World} {r : Register} (i : Inv w r) where
       }
 
   -- ---- a certified job that has not arrived is admissible
-  pub is-recorded : (v k : ℕ) → hasBit (signersOf l k) v ≡ true → recordedAt l v k ≡ true
-  unfolding votedAt
-  is-recorded v k t = t
-
   quorum-of : (k : ℕ) → In k (r .taken) → thresholdOf (l .settings) ≤ ones (signersOf l k)
   quorum-of k m = let h = held-by l k (i .taken-held k m) in i .safe .certified (h .0) k (h .1)
 
   module _ (k : ℕ) (hk : k < l .booked) (quorum : thresholdOf (l .settings) ≤ ones (signersOf l k)) (new : In k (r .taken) → ⊥) where
     apart : (m : ℕ) → In m (r .taken) → Apart (job m) (job k)
     apart m x =
-        certified-apart (i .safe) (i .shape .lawful) (i .shape .votes-below Signatures) is-recorded m k (quorum-of m x) quorum
+        certified-apart (i .safe) tally m k (quorum-of m x) quorum
         (λ (e : m ≡ k). new (subst (λ (z : ℕ). In z (r .taken)) e x))
 
     pub can-take : CanTake r (getD (r .table) k [])
     can-take = record {
       fits = i .fit (getD (r .table) k []) (in-getD (r .table) [] k (omega (arith, table-length i)));
       standing = λ t m.
-          let q = certified-rooted (i .safe) (i .shape .lawful) (i .shape .votes-below Signatures) is-recorded k quorum t m in
+          let q = certified-rooted (i .safe) tally k quorum t m in
           let p = q .1 .1 in
           i .books .stands (p .maker) t (i .held-taken (q .0) (p .maker) (p .holds)) (p .makes)
           (λ n x y. apart n x .inputs (t .label) y (in-map (λ (t : Entry). t .label) (inputTapes (job k)) t m));
@@ -271,7 +313,7 @@ module _ {w : World} {r : Register} (i : Inv w r) where
         (subst (λ (f : ℕ → ℕ → Bool). Safe (l .settings) (l .booked) job (heldAt next) (signedAt l) f (ackedAt next) (signersOf next))
         (sym (hold-recorded l v k))
         (subst (λ (f : ℕ → ℕ). Safe (l .settings) (l .booked) job (heldAt next) (signedAt l) (recordedAt l) (ackedAt next) f) (sym (hold-signers l v k))
-        (safe-hold (i .safe) v k hk quorum grown (hold-acked l v k (omega (arith, i .shape .votes, is-job k hk)) (is-vault v (c .below))))))))
+        (safe-hold (i .safe) tally v k hk quorum grown (hold-acked l v k (omega (arith, i .shape .votes, is-job k hk)) (is-vault v (c .below))))))))
 
     table-next : r .table ≡ tableOf (withLedger w next)
     table-next = i .table ∙ ap (λ (n : ℕ). recordsIn n (w .booked)) (sym (hold-booked l v k))
@@ -352,6 +394,7 @@ module _ {w : World} {r : Register} (i : Inv w r) where
   inv-idle (show k) m = i
   inv-idle (generations k) m = i
   inv-idle snapshot m = absurd m
+  inv-idle (release v k rival) m = absurd m
 
   -- a record that is not in the table enters it
   feeds-new : (bytes : List ℕ) → (In bytes (tableOf w) → ⊥) → feedProposal r bytes ≡ entering r bytes
@@ -365,6 +408,15 @@ module _ {w : World} {r : Register} (i : Inv w r) where
   fed : (q : Request) (w′ : World) → Inv w′ (feedDone r q) → Inv w′ (feed r q true)
   fed q w′ h = simp (i .running) h
 
+-- the relations, as a change's guard says them
+held-is : (l : Ledger) (v k : ℕ) → jobHas (vaultAt l v .held) k ≡ true → heldAt l v k ≡ true
+unfolding heldAt
+held-is l v k t = t
+
+signed-is : (l : Ledger) (v k : ℕ) → jobHas (vaultAt l v .signed) k ≡ true → signedAt l v k ≡ true
+unfolding signedAt
+signed-is l v k t = t
+
 -- ---- every step keeps it
 pub keep : (w : World) (r : Register) → Inv w r → (q : Request) (done : Bool) (w′ : World) → Change w q done w′ → Inv w′ (feed r q done)
 keep w r i q done w′ (nothing p) = i
@@ -375,3 +427,4 @@ keep w r i q done w′ (signs v k c h u) = fed i q w′ (inv-sign i v k c h (cle
 keep w r i q done w′ (votes d v k h f b) = fed i q w′ (inv-vote i d v k h f b)
 keep w r i q done w′ (holds v k signers c h e) = fed i q w′ (inv-hold i v k c h e)
 keep w r i q done w′ sees = fed i q w′ (inv-see i (seenNext (w .ledger)))
+keep w r i q done w′ (releases v k m c s h n) = fed i q w′ (inv-release i v k m c (signed-is (w .ledger) v k s) (held-is (w .ledger) v m h) n)

@@ -15,6 +15,8 @@ pub mod Meaning
 pub mod Paper
 pub mod Places
 pub mod Refusals
+pub mod Releases
+pub mod Rivals
 pub mod Rounds
 pub mod Safety
 pub mod Unchanged

@@ -1,19 +1,21 @@
--- Checks 11 to 16 decide what specs/Meaning.antt says of them, and checks 11 to 14 pass exactly where the paper's Algorithm 1 with
+-- Checks 11 to 16, 19 and 20 decide what specs/Meaning.antt says of them, and checks 11 to 14 pass exactly where the paper's Algorithm 1 with
 -- document 01's mends signs, of a job that passes 6 to 9. The searches over the booked jobs are read as creators and consumers.
 use mathlib.Core.Bool.{Bool, cond, false, true}
+use mathlib.Core.List.{List}
 use mathlib.Core.Path.{_≡_, refl}
 use Prim.Native.Nat.{_<_, ℕ}
 use lib.Dec.{ltb}
 use lib.ListN.{set}
 use borrow.Author.Tests.{lt-ltb, ltb-true}
-use Rattle.base.proofs.Reflect.{reflect-and, reflect-as, reflect-le, reflect-lt, reflect-not, reflect-or, reflect-true}
+use Rattle.base.proofs.Reflect.{reflect-and, reflect-as, reflect-eq, reflect-le, reflect-lt, reflect-not, reflect-or, reflect-true, refuted, refutes}
 use Rattle.base.proofs.Search.{first-complete, first-end-complete, first-end-sound, first-sound, found-none, reflect-any, unfound}
 use Rattle.base.specs.Reflect.{Reflects}
 use Rattle.base.specs.Search.{firstBelow}
-use Rattle.outcome.specs.declared.Refusal.the-variants.{InputReserved, NotCreated, OutputReserved, Retired}
+use Rattle.outcome.specs.declared.Refusal.the-variants.{InputReserved, NotBooked, NotCreated, NotSignedHere, NotSuperseded, OutputReserved, Retired}
 use Rattle.outcome.specs.declared.Verdict.{Verdict}
 use Rattle.outcome.specs.declared.Verdict.the-variants.{Fail, Pass}
 use Rattle.record.proofs.Meaning.{reflect-used}
+use Rattle.conflicts.proofs.Meaning.{reflect-conflicting}
 use Rattle.conflicts.proofs.Tapes.{label-listed, listed-label, made-tape, tape-made}
 use Rattle.conflicts.specs.Conflicts.{labelIn, makesTape}
 use Rattle.record.specs.Entries.{framesOf, labelOf}
@@ -23,8 +25,13 @@ use Rattle.record.specs.declared.Job.{Job}
 use Rattle.sets.specs.Jobs.{jobHas}
 use Rattle.sets.specs.declared.job_set.JobSet.{JobSet}
 use Rattle.index.specs.Admission.{admission, consumedAt, listedBy, listsAt, madeBefore, madeBy, makesAt, notCreatedAt, remadeAt}
+use Rattle.journal.proofs.Booked.{reflect-booked}
+use Rattle.journal.specs.Journal.{Booked, isBooked, jobAt}
+use Rattle.ledger.specs.Decisions.{supersededAt, supersession}
 use Rattle.ledger.specs.Graph.{Creator, Lister}
 use Rattle.ledger.specs.Meaning.{Admission, ConsumedAt, NotCreatedAt, RemadeAt, admitted, consumed, missing, remade, reserved}
+use Rattle.ledger.specs.Meaning.{Supersedes, Supersession, standing, superseded, unbooked, unsigned}
+use Rattle.vaults.specs.declared.Vault.{Vault}
 
 module _ (job : ℕ → Job) (booked : ℕ) where
   -- ---- the searches
@@ -122,3 +129,37 @@ module _ (job : ℕ → Job) (booked : ℕ) where
         let at : first14 ≡ e = first-complete 8 remade-at e m in
         simp (past11 a, past-consumed held b, past-consumed others c, at, lt-ltb e 8 (m .below))
     answers-admission v (admitted a b c d) = simp (past11 a, past-consumed held b, past-consumed others c, past14 d)
+
+-- ---- kind 10
+module _ (state : Vault) (journal : List ℕ) (booked job rival : ℕ) where
+  booked? : Reflects (isBooked journal booked rival) (Booked journal booked rival)
+  booked? = reflect-booked journal booked rival
+
+  pub reflect-superseded : Reflects (supersededAt state journal booked job rival) (Supersedes state journal booked job rival)
+  unfolding supersededAt
+  reflect-superseded =
+      reflect-as
+      (reflect-and (reflect-not (reflect-eq job rival))
+      (reflect-and (reflect-true (jobHas (state .held) rival)) (reflect-conflicting (jobAt journal booked job) (jobAt journal booked rival))))
+      (λ h. record { different = h .0; held = h .1 .0; shares = h .1 .1 })
+      (λ h. (h .different, (h .held, h .shares)))
+
+  pub supersession-means : Supersession state journal booked job rival (supersession state journal booked job rival)
+  unfolding supersession
+  supersession-means = by _ refl _ refl _ refl
+    where
+      by : (a : Bool) → isBooked journal booked rival ≡ a → (b : Bool) → jobHas (state .signed) job ≡ b → (c : Bool)
+          → supersededAt state journal booked job rival ≡ c
+          → Supersession state journal booked job rival (cond a (cond b (cond c Pass (Fail NotSuperseded)) (Fail NotSignedHere)) (Fail NotBooked))
+      by false ea b eb c ec = unbooked (refuted booked? ea)
+      by true ea false eb c ec = unsigned (booked? .sound ea) eb
+      by true ea true eb false ec = standing (booked? .sound ea) eb (refuted reflect-superseded ec)
+      by true ea true eb true ec = superseded (booked? .sound ea) eb (reflect-superseded .sound ec)
+
+  -- and no other answer is meant
+  pub means-supersession : (v : Verdict) → Supersession state journal booked job rival v → supersession state journal booked job rival ≡ v
+  unfolding supersession
+  means-supersession v (unbooked n) = simp (refutes booked? n)
+  means-supersession v (unsigned b n) = simp (booked? .complete b, n)
+  means-supersession v (standing b s n) = simp (booked? .complete b, s, refutes reflect-superseded n)
+  means-supersession v (superseded b s h) = simp (booked? .complete b, s, reflect-superseded .complete h)

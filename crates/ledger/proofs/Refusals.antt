@@ -21,6 +21,8 @@ use Rattle.outcome.specs.declared.Refusal.the-variants.{
   NotCreated,
   NotHeld,
   NotSigned,
+  NotSignedHere,
+  NotSuperseded,
   OutputReserved,
   Repeated,
   Retired,
@@ -56,8 +58,11 @@ use Rattle.ledger.specs.Decisions.{
   preflighting,
   proposal,
   receiving,
+  releasing,
   settling,
   snapshotting,
+  supersededAt,
+  supersession,
 }
 use Rattle.ledger.specs.Steps.{
   bookedGate,
@@ -67,13 +72,14 @@ use Rattle.ledger.specs.Steps.{
   generationsDecision,
   preflightDecision,
   proposeDecision,
+  releaseDecision,
   saneGate,
   showDecision,
   snapshotDecision,
   vaultGate,
 }
 use Rattle.vaults.specs.Vaults.{consented, vaultPreflight}
-use Rattle.ledger.specs.Worlds.{Request, commit, faultyVote, generations, preflight, propose, show, snapshot, stepOf}
+use Rattle.ledger.specs.Worlds.{Request, commit, faultyVote, generations, preflight, propose, release, show, snapshot, stepOf}
 use Rattle.vaults.specs.declared.Consent.the-variants.{Already}
 use Rattle.ledger.specs.declared.Decision.{Decision}
 use Rattle.ledger.specs.declared.Ledger.{Ledger}
@@ -151,6 +157,15 @@ certifies s recorded signers =
     (choose (leb (thresholdOf s) (ones signers)) _ _ pass (fails TooFewSigners refl))
     (fails NotSigned refl)
 
+supersedes : (state : Vault) (journal : List ℕ) (booked job rival : ℕ) → NotOne (supersession state journal booked job rival)
+unfolding supersession
+supersedes state journal booked job rival =
+    choose (isBooked journal booked rival) _ _
+    (choose (jobHas (state .signed) job) _ _
+    (choose (supersededAt state journal booked job rival) _ _ pass (fails NotSuperseded refl))
+    (fails NotSignedHere refl))
+    (fails NotBooked refl)
+
 module _ (l : Ledger) (journal : List ℕ) (sane : isSane l ≡ true) where
   booked-or : (k : ℕ) → NotOne (cond (isBooked journal (l .booked) k) Pass (Fail NotBooked))
   booked-or k = choose (isBooked journal (l .booked) k) _ _ pass (fails NotBooked refl)
@@ -197,7 +212,7 @@ module _ (l : Ledger) (journal : List ℕ) (sane : isSane l ≡ true) where
 
   fine : (q : Request) → Fine (stepOf l journal q .outcome)
   unfolding proposeDecision proposal settling preflightDecision preflighting admissionAt commitDecision committing faultyVoteDecision showDecision
-      generationsDecision snapshotDecision snapshotting
+      generationsDecision snapshotDecision snapshotting releaseDecision releasing
   fine (propose bytes) = behind (saneGate l) _ sane-gate (behind (examined bytes) _ (examines bytes) (places _ _ _ _))
   fine (preflight v k) = behind (vaultGate l journal v k false) _ (vault-gate v k false) (consents _ _ _ _ _ (admits _ _ _ _ _))
   fine (commit v k signers) =
@@ -206,6 +221,8 @@ module _ (l : Ledger) (journal : List ℕ) (sane : isSane l ≡ true) where
   fine (show k) = behind (bookedGate l journal k) _ (gate k) (done _)
   fine (generations k) = behind (bookedGate l journal k) _ (gate k) (ages _ _)
   fine snapshot = behind (saneGate l) _ sane-gate (done _)
+  fine (release v k rival) =
+      behind (vaultGate l journal v k false) _ (vault-gate v k false) (behind (supersession _ _ _ _ _) _ (supersedes _ _ _ _ _) (done _))
 
   -- whatever the request
   pub never-one : (q : Request) → numberOf (stepOf l journal q .outcome) ≡ 1 → ⊥

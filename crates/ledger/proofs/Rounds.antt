@@ -17,8 +17,8 @@ use Rattle.sets.specs.declared.job_set.JobSet.{JobSet}
 use Rattle.snapshot.proofs.Visits.{begins-anew, goes-on, sees-held, sees-only, sees-still}
 use Rattle.snapshot.specs.Snapshot.{following}
 use Rattle.federation.specs.declared.Settings.{Settings}
-use Rattle.ledger.proofs.Changes.{Change, Idle, Shape, appends, changes, holds, idle, nothing, seenNext, sees, signs, votes}
-use Rattle.ledger.proofs.Changes.{shape-sane}
+use Rattle.ledger.proofs.Changes.{Change, Idle, Shape, appends, changes, holds, idle, nothing, releases}
+use Rattle.ledger.proofs.Changes.{seenNext, sees, shape-sane, signs, votes}
 use Rattle.ledger.proofs.Demand3.{along, first, kept, same-settings, settings-along, settings-first}
 use Rattle.ledger.proofs.Effects.{hold-next, hold-seen}
 use Rattle.ledger.proofs.Gates.{reflect-sane}
@@ -43,6 +43,7 @@ use Rattle.ledger.specs.Worlds.{
   generations,
   preflight,
   propose,
+  release,
   replyTo,
   show,
   snapshot,
@@ -72,6 +73,7 @@ is-snapshot (faultyVote c v k) e = absurd (true≢false (sym e))
 is-snapshot (show k) e = absurd (true≢false (sym e))
 is-snapshot (generations k) e = absurd (true≢false (sym e))
 is-snapshot snapshot e = refl
+is-snapshot (release v k rival) e = absurd (true≢false (sym e))
 
 turned : (w : World) (q : Request) (done : Bool) (w′ : World) → Change w q done w′ → Turned w (isSnapshot q) done w′
 unfolding booking voted withVault
@@ -82,6 +84,7 @@ turned w q done w′ (signs v k c h u) = record { next = refl; seen = refl }
 turned w q done w′ (votes d v k h f b) = record { next = refl; seen = refl }
 turned w q done w′ (holds v k signers c h e) = record { next = hold-next (w .ledger) v k; seen = hold-seen (w .ledger) v k }
 turned w q done w′ sees = λ _. refl
+turned w q done w′ (releases v k m c s h n) = record { next = refl; seen = refl }
 
 -- a sane ledger answers a visit with the number of jobs seen
 answered : (w : World) → Shape (w .ledger) (w .booked) → (e : Event) → e .request ≡ snapshot → replyTo w e .outcome ≡ Done (jobCount (seenNext (w .ledger)))

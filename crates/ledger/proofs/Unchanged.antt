@@ -25,8 +25,10 @@ use Rattle.ledger.specs.Decisions.{
   proposal,
   receiving,
   refusing,
+  releasing,
   settling,
   snapshotting,
+  supersession,
 }
 use Rattle.ledger.specs.Register.{isDone}
 use Rattle.ledger.specs.State.{applied}
@@ -38,13 +40,14 @@ use Rattle.ledger.specs.Steps.{
   journalAfter,
   preflightDecision,
   proposeDecision,
+  releaseDecision,
   saneGate,
   showDecision,
   snapshotDecision,
   vaultGate,
 }
 use Rattle.vaults.specs.Vaults.{vaultPreflight}
-use Rattle.ledger.specs.Worlds.{Request, commit, decisionOf, faultyVote, generations, leftBy, preflight, propose, show, snapshot, stepOf}
+use Rattle.ledger.specs.Worlds.{Request, commit, decisionOf, faultyVote, generations, leftBy, preflight, propose, release, show, snapshot, stepOf}
 use Rattle.ledger.specs.declared.Change.{Change}
 use Rattle.ledger.specs.declared.Change.the-variants.{Book, Nothing}
 use Rattle.vaults.specs.declared.Consent.{Consent}
@@ -97,7 +100,7 @@ aged b age = either b _ _ (quiet (answering age) refl) (quiet (refusing NotHeld)
 module _ (l : Ledger) (journal : List ℕ) where
   pub quiets : (q : Request) → Quiet (decisionOf l journal q)
   unfolding proposeDecision proposal settling preflightDecision preflighting commitDecision committing faultyVoteDecision showDecision generationsDecision
-      snapshotDecision snapshotting
+      snapshotDecision snapshotting releaseDecision releasing
   quiets (propose bytes) = behind (saneGate l) _ (behind (examined bytes) _ (placed _ _ _ _))
   quiets (preflight v k) = behind (vaultGate l journal v k false) _ (consents _ _ _ _ _)
   quiets (commit v k signers) = behind (vaultGate l journal v k false) _ (behind (certificate _ _ _) _ (received _ _ _ _))
@@ -105,6 +108,7 @@ module _ (l : Ledger) (journal : List ℕ) where
   quiets (show k) = behind (bookedGate l journal k) _ (quiet (answering _) refl)
   quiets (generations k) = behind (bookedGate l journal k) _ (aged _ _)
   quiets snapshot = behind (saneGate l) _ (done _ _)
+  quiets (release v k rival) = behind (vaultGate l journal v k false) _ (behind (supersession _ _ _ _ _) _ (done _ _))
 
   left : (q : Request) → decisionOf l journal q .change ≡ Nothing → leftBy l journal q ≡ journal
   unfolding journalAfter
@@ -115,6 +119,7 @@ module _ (l : Ledger) (journal : List ℕ) where
   left (show k) e = refl
   left (generations k) e = refl
   left snapshot e = refl
+  left (release v k rival) e = refl
 
   pub unchanged : (q : Request) → isDone (stepOf l journal q .outcome) ≡ false → (stepOf l journal q .ledger ≡ l) × (leftBy l journal q ≡ journal)
   unfolding applied

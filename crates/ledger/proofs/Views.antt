@@ -1,6 +1,6 @@
 -- What each change does to the ledger, in words of which vault holds, signed and acknowledged which job. A change of one set adds one
--- pair to one of these relations and leaves the others; one law over the list and the view says so for all of them.
-use mathlib.Core.Bool.{Bool, _||_, cond, false, true}
+-- pair to one of these relations, or takes one away, and leaves the others; one law over the list and the view says so for all of them.
+use mathlib.Core.Bool.{Bool, _||_, cond, false, true, true≢false}
 use mathlib.Core.List.{List, [], _++_, _∷_}
 use mathlib.Core.Logic.{_≢_, _⊎_, inl, inr, ⊎-elim}
 use mathlib.Core.Path.{_∙_, _≡_, ap, refl, subst, sym}
@@ -19,9 +19,9 @@ use Rattle.base.proofs.Search.{reflect-any}
 use Rattle.base.specs.Lists.{In}
 use Rattle.base.specs.Reflect.{Reflects}
 use Rattle.sets.proofs.Bits.{has-member-other, has-member-same, member-again, member-below, member-beyond, ones-member, with-lt}
-use Rattle.sets.proofs.Jobs.{job-with-other, job-with-same}
+use Rattle.sets.proofs.Jobs.{job-with-other, job-with-same, job-without-other, job-without-same}
 use Rattle.sets.specs.Bits.{hasBit, withMember}
-use Rattle.sets.specs.Jobs.{jobHas, jobWith}
+use Rattle.sets.specs.Jobs.{jobHas, jobWith, jobWithout}
 use Rattle.sets.specs.declared.job_set.JobSet.{JobSet}
 use Rattle.generations.specs.Generations.{isAt}
 use Rattle.ledger.specs.State.{arrived, arriving, enqueued, hasArrived, vaultAt, voted, votesAt, votesIn}
@@ -65,6 +65,11 @@ pub record Grown (s s′ : ℕ → ℕ → Bool) (i m : ℕ) : Type 0 where
   pub cases : (u k : ℕ) → s′ u k ≡ true → (s u k ≡ true) ⊎ ((u ≡ i) × (k ≡ m))
   pub new : s′ i m ≡ true
 
+-- s′ is s without, at most, the pair (i, m)
+pub record Shrunk (s s′ : ℕ → ℕ → Bool) (i m : ℕ) : Type 0 where
+  pub old : (u k : ℕ) → s′ u k ≡ true → s u k ≡ true
+  pub cases : (u k : ℕ) → s u k ≡ true → (s′ u k ≡ true) ⊎ ((u ≡ i) × (k ≡ m))
+
 plus-by : (s s′ : ℕ → Bool) (m : ℕ) → s′ m ≡ true → ((k : ℕ) → k ≢ m → s′ k ≡ s k) → Plus s s′ m
 plus-by s s′ m new other = record {
   old = λ k h. by-cases (λ _. s′ k ≡ true) (eqb k m) (λ e. rw (eqb-true k m e) new) (λ e. other k (eqb-false k m e) ∙ h);
@@ -77,6 +82,20 @@ plus-job s m h = plus-by (jobHas s) (jobHas (jobWith s m)) m (job-with-same s m 
 
 pub plus-member : (s m : ℕ) → m < 16 → Plus (hasBit s) (hasBit (withMember 16 s m)) m
 plus-member s m h = plus-by (hasBit s) (hasBit (withMember 16 s m)) m (has-member-same 16 s m h) (has-member-other 16 s m)
+
+-- s′ is s without m
+pub record Minus (s s′ : ℕ → Bool) (m : ℕ) : Type 0 where
+  pub old : (k : ℕ) → s′ k ≡ true → s k ≡ true
+  pub cases : (k : ℕ) → s k ≡ true → (s′ k ≡ true) ⊎ (k ≡ m)
+
+pub minus-job : (s : JobSet) (m : ℕ) → Minus (jobHas s) (jobHas (jobWithout s m)) m
+minus-job s m = record {
+  old = λ k h. by-cases (λ _. jobHas s k ≡ true) (eqb k m)
+      (λ e. absurd (true≢false (sym h ∙ ap (jobHas (jobWithout s m)) (eqb-true k m e) ∙ job-without-same s m)))
+      (λ e. sym (job-without-other s m k (eqb-false k m e)) ∙ h);
+  cases = λ k h. by-cases (λ _. (jobHas (jobWithout s m) k ≡ true) ⊎ (k ≡ m)) (eqb k m) (λ e. inr (eqb-true k m e))
+      (λ e. inl (job-without-other s m k (eqb-false k m e) ∙ h));
+}
 
 -- ---- a store in a list
 
@@ -98,6 +117,13 @@ module _ {A : Type 0} (f : A → ℕ → Bool) (d : A) (xs : List A) (i : ℕ) (
     cases = λ u k. at-store xs i a d (λ u x y. f y k ≡ true → (f x k ≡ true) ⊎ ((u ≡ i) × (k ≡ m))) (λ u x t. inl t)
         (λ t. ⊎-elim inl (λ e. inr (refl, e)) (p .cases k t)) u;
     new = ap (λ (x : A). f x m) (getD-set-same xs i a d h) ∙ p .new;
+  }
+
+  pub shrunk-row : (m : ℕ) → Minus (f (getD xs i d)) (f a) m → Shrunk (λ u. f (getD xs u d)) (λ u. f (getD (set xs i a) u d)) i m
+  shrunk-row m p = record {
+    old = λ u k. at-store xs i a d (λ u x y. f y k ≡ true → f x k ≡ true) (λ u x t. t) (p .old k) u;
+    cases = λ u k. at-store xs i a d (λ u x y. f x k ≡ true → (f y k ≡ true) ⊎ ((u ≡ i) × (k ≡ m))) (λ u x t. inl t)
+        (λ t. ⊎-elim inl (λ e. inr (refl, e)) (p .cases k t)) u;
   }
 
   -- a store that leaves the view of its element leaves every view

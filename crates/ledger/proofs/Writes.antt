@@ -22,7 +22,7 @@ use Rattle.ledger.specs.Decisions.{gated, isBook, placing, proposal, set
 use Rattle.ledger.specs.Given.{Searchable, Writable}
 use Rattle.ledger.specs.Steps.{journalWith}
 use Rattle.ledger.specs.declared.Change.{Change}
-use Rattle.ledger.specs.declared.Change.the-variants.{Book, Hold, Nothing, Record, See, Sign}
+use Rattle.ledger.specs.declared.Change.the-variants.{Book, Hold, Nothing, Record, Release, See, Sign}
 use Rattle.ledger.specs.declared.Decision.{Decision}
 
 -- ---- what is written
@@ -31,6 +31,7 @@ is-book Nothing r e t = absurd (true≢false (sym t ∙ e))
 is-book Book r e t = refl
 is-book (Sign state) r e t = absurd (true≢false (sym t ∙ e))
 is-book (Hold state) r e t = absurd (true≢false (sym t ∙ e))
+is-book (Release state) r e t = absurd (true≢false (sym t ∙ e))
 is-book (Record column) r e t = absurd (true≢false (sym t ∙ e))
 is-book (See seen) r e t = absurd (true≢false (sym t ∙ e))
 
@@ -43,6 +44,7 @@ unwritten Nothing r booked journal bytes e t = refl
 unwritten Book r booked journal bytes e t = absurd (true≢false (sym e ∙ t))
 unwritten (Sign state) r booked journal bytes e t = refl
 unwritten (Hold state) r booked journal bytes e t = refl
+unwritten (Release state) r booked journal bytes e t = refl
 unwritten (Record column) r booked journal bytes e t = refl
 unwritten (See seen) r booked journal bytes e t = refl
 

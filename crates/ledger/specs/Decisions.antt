@@ -1,12 +1,12 @@
 -- What a step decides behind checks 3 to 5, from the pieces that it names: an outcome, and what it changes. A refusal changes nothing.
-use mathlib.Core.Bool.{Bool, cond, false, true}
+use mathlib.Core.Bool.{Bool, _&&_, cond, false, not, true}
 use mathlib.Core.List.{List}
 use Prim.Native.Nat.{ℕ}
 use lib.Count.{ones}
-use lib.Dec.{leb, ltb}
+use lib.Dec.{eqb, leb, ltb}
 use Rattle.outcome.specs.declared.Outcome.the-variants.{Done, Refused}
 use Rattle.outcome.specs.declared.Refusal.{Refusal}
-use Rattle.outcome.specs.declared.Refusal.the-variants.{Full, NotHeld, NotSigned, TooFewSigners}
+use Rattle.outcome.specs.declared.Refusal.the-variants.{Full, NotBooked, NotHeld, NotSigned, NotSignedHere, NotSuperseded, TooFewSigners}
 use Rattle.outcome.specs.declared.Verdict.{Verdict}
 use Rattle.outcome.specs.declared.Verdict.the-variants.{Pass, Fail}
 use Rattle.sets.specs.Bits.{subsetOf, withMember}
@@ -16,16 +16,17 @@ use Rattle.snapshot.specs.Snapshot.{seenAfter}
 use Rattle.federation.specs.Federation.{thresholdOf}
 use Rattle.federation.specs.declared.Settings.{Settings}
 use Rattle.checks.specs.Checks.{examined}
+use Rattle.conflicts.specs.Conflicts.{conflicting}
 use Rattle.index.specs.Admission.{admission}
-use Rattle.journal.specs.Journal.{equalIn, hasRoom, insideOf, jobAt}
+use Rattle.journal.specs.Journal.{equalIn, hasRoom, insideOf, isBooked, jobAt}
 use Rattle.ledger.specs.declared.Change.{Change}
-use Rattle.ledger.specs.declared.Change.the-variants.{Book, Hold, Nothing, Record, See, Sign}
+use Rattle.ledger.specs.declared.Change.the-variants.{Book, Hold, Nothing, Record, Release, See, Sign}
 use Rattle.vaults.specs.declared.Consent.{Consent}
 use Rattle.vaults.specs.declared.Consent.the-variants.{Already, Denied, Fresh}
 use Rattle.ledger.specs.declared.Decision.{Decision}
 use Rattle.vaults.specs.declared.Vault.{Vault}
 use Rattle.vaults.specs.declared.Votes.{Votes}
-use Rattle.vaults.specs.Vaults.{holding, vaultPreflight}
+use Rattle.vaults.specs.Vaults.{holding, unsigning, vaultPreflight}
 
 -- "A refusal alters no set, book or order."
 abbrev pub refusing : Refusal → Decision
@@ -110,12 +111,34 @@ snapshotting s next seen held =
     let all = seenAfter s next seen held in
     record { outcome = Done (jobCount all); change = See all }
 
+-- ---- kind 10, a release (document 02)
+
+-- "Two different jobs are rivals if they share an input label or an output label." The vault holds the other.
+unfoldable pub supersededAt : Vault → List ℕ → ℕ → ℕ → ℕ → Bool
+supersededAt state journal booked job rival =
+    not (eqb job rival) && (jobHas (state .held) rival && conflicting (jobAt journal booked job) (jobAt journal booked rival))
+
+-- 4 of the rival, "then 19 if the job isn't signed there; then 20 if the other is no rival or isn't held there"
+unfoldable pub supersession : Vault → List ℕ → ℕ → ℕ → ℕ → Verdict
+supersession state journal booked job rival =
+    cond (isBooked journal booked rival)
+    (cond (jobHas (state .signed) job)
+    (cond (supersededAt state journal booked job rival) Pass (Fail NotSuperseded))
+    (Fail NotSignedHere))
+    (Fail NotBooked)
+
+-- "The signature already given stays valid and keeps its count." "The value is the job's signature count."
+unfoldable pub releasing : Vault → List ℕ → ℕ → ℕ → ℕ → ℕ → Decision
+releasing state journal booked signers job rival =
+    gated (supersession state journal booked job rival) (record { outcome = Done (ones signers); change = Release (unsigning state job) })
+
 -- ---- of a change
 abbrev pub isNothing : Change → Bool
 isNothing Nothing = true
 isNothing Book = false
 isNothing (Sign state) = false
 isNothing (Hold state) = false
+isNothing (Release state) = false
 isNothing (Record column) = false
 isNothing (See seen) = false
 
@@ -124,5 +147,6 @@ isBook Nothing = false
 isBook Book = true
 isBook (Sign state) = false
 isBook (Hold state) = false
+isBook (Release state) = false
 isBook (Record column) = false
 isBook (See seen) = false

@@ -51,7 +51,8 @@ module _ (job : ℕ → Job) (booked : ℕ) where
     pub fresh : (x : ℕ) → In x (labels (outputTapes j)) → Maker held x → ⊥
 
   -- Algorithm 1, where the member signs: the job is admissible, and no other job that the member signed has one of its inputs.
-  -- Mend: nor one of its outputs. Mend: marks are not cleared, so `others` are all other jobs that were ever signed.
+  -- Mend: nor one of its outputs. Mend: marks are not cleared, but for a release (document 02), which a vault makes only of a job that lost to one that it
+  -- holds; so `others` are all other jobs that were signed and not released.
   pub record Algorithm1 (held others : JobSet) (j : Job) : Type 0 where
     pub admissible : Admissible held j
     pub unmarked-inputs : (x : ℕ) → In x (labels (inputTapes j)) → Consumer others x → ⊥

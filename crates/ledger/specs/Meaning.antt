@@ -1,7 +1,7 @@
 -- What the checks of specs/ mean, said without a search. proofs/Meaning.antt shows that they decide these claims.
-use mathlib.Core.Bool.{Bool, true}
+use mathlib.Core.Bool.{Bool, false, true}
 use mathlib.Core.List.{List}
-use mathlib.Core.Logic.{_⊎_}
+use mathlib.Core.Logic.{_≢_, _⊎_}
 use mathlib.Core.Path.{_≡_}
 use Prim.Native.Nat.{_*_, _+_, _<_, _≤_, ℕ}
 use lib.Count.{ones}
@@ -9,7 +9,17 @@ use lib.ListN.{length}
 use Rattle.base.specs.Search.{Every, Least}
 use Rattle.outcome.specs.declared.Outcome.the-variants.{Done}
 use Rattle.outcome.specs.declared.Refusal.{Refusal}
-use Rattle.outcome.specs.declared.Refusal.the-variants.{Full, InputReserved, NotCreated, OutputReserved, Retired, Settings as BadSettings}
+use Rattle.outcome.specs.declared.Refusal.the-variants.{
+  Full,
+  InputReserved,
+  NotBooked,
+  NotCreated,
+  NotSignedHere,
+  NotSuperseded,
+  OutputReserved,
+  Retired,
+  Settings as BadSettings,
+}
 use Rattle.outcome.specs.declared.Verdict.{Verdict}
 use Rattle.outcome.specs.declared.Verdict.the-variants.{Fail, Pass}
 use Rattle.checks.specs.Checks.{examined}
@@ -18,17 +28,20 @@ use Rattle.record.specs.Entries.{framesOf, labelOf}
 use Rattle.checks.specs.Meaning.{Nowhere}
 use Rattle.record.specs.Meaning.{Used}
 use Rattle.record.specs.declared.Job.{Job}
+use Rattle.conflicts.specs.Meaning.{Conflicting}
 use Rattle.sets.specs.Bits.{hasBit}
+use Rattle.sets.specs.Jobs.{jobHas}
 use Rattle.sets.specs.Quorum.{AtLeast}
 use Rattle.sets.specs.declared.job_set.JobSet.{JobSet}
 use Rattle.federation.specs.Federation.{Lawful, thresholdOf}
 use Rattle.ledger.specs.Graph.{Consumer, Creator, Maker}
-use Rattle.journal.specs.Journal.{Booked, capacity, insideOf, slotAt}
+use Rattle.journal.specs.Journal.{Booked, capacity, insideOf, jobAt, slotAt}
 use Rattle.federation.specs.declared.Settings.{Settings}
 use Rattle.ledger.specs.Decisions.{answering, refusing}
 use Rattle.ledger.specs.declared.Change.the-variants.{Book}
 use Rattle.ledger.specs.declared.Decision.{Decision}
 use Rattle.ledger.specs.declared.Ledger.{Ledger}
+use Rattle.vaults.specs.declared.Vault.{Vault}
 use Rattle.vaults.specs.declared.Votes.{Votes}
 
 -- a state that check 1 lets through
@@ -115,3 +128,18 @@ pub data Status (s : Settings) (votes : Votes) : ℕ → Type 0 where
 pub record Certificate (s : Settings) (recorded signers : ℕ) : Type 0 where
   pub signed : (v : ℕ) → hasBit signers v ≡ true → hasBit recorded v ≡ true
   pub enough : thresholdOf s ≤ ones signers
+
+-- ---- kind 10, by jobs: the vault holds the other, which is a rival. "Two different jobs are rivals if they share an input label or an output label."
+pub record Supersedes (state : Vault) (journal : List ℕ) (booked job rival : ℕ) : Type 0 where
+  pub different : job ≢ rival
+  pub held : jobHas (state .held) rival ≡ true
+  pub shares : Conflicting (jobAt journal booked job) (jobAt journal booked rival)
+
+-- what each answer of checks 4, of the rival, 19 and 20 means
+pub data Supersession (state : Vault) (journal : List ℕ) (booked job rival : ℕ) : Verdict → Type 0 where
+  unbooked : (Booked journal booked rival → ⊥) → Supersession state journal booked job rival (Fail NotBooked)
+  unsigned : Booked journal booked rival → jobHas (state .signed) job ≡ false → Supersession state journal booked job rival (Fail NotSignedHere)
+  standing : Booked journal booked rival → jobHas (state .signed) job ≡ true → (Supersedes state journal booked job rival → ⊥)
+      → Supersession state journal booked job rival (Fail NotSuperseded)
+  superseded : Booked journal booked rival → jobHas (state .signed) job ≡ true → Supersedes state journal booked job rival
+      → Supersession state journal booked job rival Pass

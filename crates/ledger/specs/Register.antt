@@ -15,7 +15,7 @@ use Rattle.codec.specs.Codec.{jobOf}
 use Rattle.conflicts.specs.Tapes.{framesIn, inputTapes, labels, outputTapes, sameTape}
 use Rattle.record.specs.declared.Entry.{Entry}
 use Rattle.record.specs.declared.Job.{Job}
-use Rattle.ledger.specs.Worlds.{Event, Request, World, after, commit, faultyVote, generations, preflight, propose, replyTo, show, snapshot}
+use Rattle.ledger.specs.Worlds.{Event, Request, World, after, commit, faultyVote, generations, preflight, propose, release, replyTo, show, snapshot}
 
 -- "It keeps a table of records, the list of jobs taken, the standing tapes, the labels made and the frames accessioned."
 pub record Register : Type 0 where
@@ -114,6 +114,7 @@ feedDone r (faultyVote column v job) = r
 feedDone r (show job) = r
 feedDone r (generations job) = r
 feedDone r snapshot = r
+feedDone r (release v job rival) = r
 
 -- a stopped register stays as it is, and so does one that is fed a refused step
 abbrev pub feed : Register → Request → Bool → Register

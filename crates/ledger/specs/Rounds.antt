@@ -9,7 +9,8 @@ use Rattle.outcome.specs.declared.Outcome.the-variants.{Done}
 use Rattle.sets.specs.Jobs.{jobCount, jobHas}
 use Rattle.federation.specs.Federation.{Lawful}
 use Rattle.ledger.specs.Demand3.{Held}
-use Rattle.ledger.specs.Worlds.{Event, Request, World, afterAll, commit, faultyVote, generations, preflight, propose, replyTo, show, snapshot, start}
+use Rattle.ledger.specs.Worlds.{Event, World, afterAll, replyTo, start}
+use Rattle.ledger.specs.Worlds.{Request, commit, faultyVote, generations, preflight, propose, release, show, snapshot}
 
 abbrev pub isSnapshot : Request → Bool
 isSnapshot (propose bytes) = false
@@ -19,6 +20,7 @@ isSnapshot (faultyVote column v job) = false
 isSnapshot (show job) = false
 isSnapshot (generations job) = false
 isSnapshot snapshot = true
+isSnapshot (release v job rival) = false
 
 -- how many events are of kind 9
 abbrev pub visits : List Event → ℕ

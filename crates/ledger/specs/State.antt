@@ -11,7 +11,7 @@ use Rattle.sets.specs.declared.job_set.JobSet.{JobSet}
 use Rattle.snapshot.specs.Snapshot.{following}
 use Rattle.vaults.specs.declared.Vault.{Vault}
 use Rattle.ledger.specs.declared.Change.{Change}
-use Rattle.ledger.specs.declared.Change.the-variants.{Book, Hold, Nothing, Record, See, Sign}
+use Rattle.ledger.specs.declared.Change.the-variants.{Book, Hold, Nothing, Record, Release, See, Sign}
 use Rattle.ledger.specs.declared.Ledger.{Ledger}
 use Rattle.federation.specs.Federation.{isLawful}
 use Rattle.journal.specs.Journal.{capacity}
@@ -148,5 +148,6 @@ applied l Nothing v job = l
 applied l Book v job = booking l
 applied l (Sign state) v job = voted (withVault l v state) Signatures v job
 applied l (Hold state) v job = arriving (voted (withVault l v state) Acknowledgements v job) job
+applied l (Release state) v job = withVault l v state
 applied l (Record column) v job = voted l column v job
 applied l (See seen) v job = visited l seen

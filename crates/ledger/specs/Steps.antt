@@ -16,12 +16,12 @@ use Rattle.federation.specs.declared.Settings.{Settings}
 use Rattle.journal.specs.Journal.{isBooked, jobAt, putAt}
 use Rattle.generations.specs.Generations.{ageIn}
 use Rattle.ledger.specs.declared.Change.{Change}
-use Rattle.ledger.specs.declared.Change.the-variants.{Book, Hold, Nothing, Record, See, Sign}
+use Rattle.ledger.specs.declared.Change.the-variants.{Book, Hold, Nothing, Record, Release, See, Sign}
 use Rattle.vaults.specs.declared.Column.{Column}
 use Rattle.ledger.specs.declared.Decision.{Decision}
 use Rattle.ledger.specs.declared.Ledger.{Ledger}
 use Rattle.ledger.specs.declared.Reply.{Reply}
-use Rattle.ledger.specs.Decisions.{ageing, answering, committing, gated, preflighting, proposal, snapshotting, statusOf, voting}
+use Rattle.ledger.specs.Decisions.{ageing, answering, committing, gated, preflighting, proposal, releasing, snapshotting, statusOf, voting}
 use Rattle.ledger.specs.Holders.{isHeld}
 use Rattle.ledger.specs.State.{applied, isSane, newLedger, signersOf, vaultAt, votesAt, votesIn}
 
@@ -92,6 +92,11 @@ generationsDecision l journal job =
 unfoldable pub snapshotDecision : Ledger → Decision
 snapshotDecision l = gated (saneGate l) (snapshotting (l .settings) (l .next) (l .seen) (vaultAt l (l .next) .held))
 
+-- kind 10: "3, 5 as for preflight, 4 for either job", 19 and 20
+unfoldable pub releaseDecision : Ledger → List ℕ → ℕ → ℕ → ℕ → Decision
+releaseDecision l journal v job rival =
+    gated (vaultGate l journal v job false) (releasing (vaultAt l v) journal (l .booked) (signersOf l job) job rival)
+
 -- ---- a decision carried out
 
 abbrev pub carried : Ledger → Decision → ℕ → ℕ → Reply
@@ -107,6 +112,7 @@ journalWith Book booked journal bytes = putAt journal booked bytes
 journalWith Nothing booked journal bytes = journal
 journalWith (Sign state) booked journal bytes = journal
 journalWith (Hold state) booked journal bytes = journal
+journalWith (Release state) booked journal bytes = journal
 journalWith (Record column) booked journal bytes = journal
 journalWith (See seen) booked journal bytes = journal
 
@@ -128,6 +134,9 @@ faultyVoteOf l journal column v job = carried l (faultyVoteDecision l journal co
 
 unfoldable pub snapshotOf : Ledger → Reply
 snapshotOf l = carried l (snapshotDecision l) 0 0
+
+unfoldable pub releaseOf : Ledger → List ℕ → ℕ → ℕ → ℕ → Reply
+releaseOf l journal v job rival = carried l (releaseDecision l journal v job rival) v job
 
 -- the two that only read
 abbrev pub showOf : Ledger → List ℕ → ℕ → Outcome

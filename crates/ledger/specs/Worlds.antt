@@ -14,6 +14,7 @@ use Rattle.ledger.specs.Steps.{
   journalAfter,
   preflightDecision,
   proposeDecision,
+  releaseDecision,
   showDecision,
   snapshotDecision,
 }
@@ -22,7 +23,7 @@ use Rattle.ledger.specs.declared.Decision.{Decision}
 use Rattle.ledger.specs.declared.Ledger.{Ledger}
 use Rattle.ledger.specs.declared.Reply.{Reply}
 
--- kinds 1 to 6, 8 and 9. "A draw neither reads nor changes what the engine keeps and stays out".
+-- kinds 1 to 6 and 8 to 10. "A draw neither reads nor changes what the engine keeps and stays out".
 pub data Request : Type 0 where
   propose : List ℕ → Request
   preflight : ℕ → ℕ → Request
@@ -31,6 +32,8 @@ pub data Request : Type 0 where
   show : ℕ → Request
   generations : ℕ → Request
   snapshot : Request
+  -- the vault, the job, and the rival that it lost to
+  release : ℕ → ℕ → ℕ → Request
 
 -- the vault and the job that a step names, 0 where it names none
 abbrev pub vaultIn : Request → ℕ
@@ -41,6 +44,7 @@ vaultIn (faultyVote column v job) = v
 vaultIn (show job) = 0
 vaultIn (generations job) = 0
 vaultIn snapshot = 0
+vaultIn (release v job rival) = v
 
 abbrev pub jobIn : Request → ℕ
 jobIn (propose bytes) = 0
@@ -50,6 +54,7 @@ jobIn (faultyVote column v job) = job
 jobIn (show job) = job
 jobIn (generations job) = job
 jobIn snapshot = 0
+jobIn (release v job rival) = job
 
 abbrev pub decisionOf : Ledger → List ℕ → Request → Decision
 decisionOf l journal (propose bytes) = proposeDecision l journal bytes
@@ -59,6 +64,7 @@ decisionOf l journal (faultyVote column v job) = faultyVoteDecision l journal co
 decisionOf l journal (show job) = showDecision l journal job
 decisionOf l journal (generations job) = generationsDecision l journal job
 decisionOf l journal snapshot = snapshotDecision l
+decisionOf l journal (release v job rival) = releaseDecision l journal v job rival
 
 -- every step is a decision carried out: the right sides are those of `proposeOf` to `generationsOf`, which the contracts cite
 abbrev pub stepOf : Ledger → List ℕ → Request → Reply
@@ -73,6 +79,7 @@ leftBy l journal (faultyVote column v job) = journal
 leftBy l journal (show job) = journal
 leftBy l journal (generations job) = journal
 leftBy l journal snapshot = journal
+leftBy l journal (release v job rival) = journal
 
 -- "each step gets all that the engine keeps and the booked bytes as the step before left them"
 pub record World : Type 0 where

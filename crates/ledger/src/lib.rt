@@ -7,13 +7,14 @@ use vaults::Column;
 use vaults::Vault;
 use vaults::Votes;
 
-// What a step changes: a vault that signs or holds comes back in its new state; of a faulty vault only its vote is recorded; a snapshot's visit leaves the
-// jobs seen so far.
+// What a step changes: a vault that signs, holds or releases comes back in its new state; of a faulty vault only its vote is recorded; a snapshot's visit
+// leaves the jobs seen so far.
 pub enum Change {
     Nothing,
     Book,
     Sign(Vault),
     Hold(Vault),
+    Release(Vault),
     Record(Column),
     See(JobSet),
 }

@@ -2,6 +2,7 @@
 // the answer. Document 01 decides what they must be; `stdout` holds them.
 mod ages;
 mod checks;
+mod releases;
 mod run;
 mod settings;
 mod votes;
@@ -13,4 +14,5 @@ fn main() {
     checks::checks();
     votes::votes();
     ages::ages();
+    releases::releases();
 }

@@ -33,8 +33,10 @@ use Rattle.ledger.specs.Decisions.{
   preflighting,
   receiving,
   refusing,
+  releasing,
   snapshotting,
   statusOf,
+  supersession,
   voting,
 }
 use Rattle.ledger.specs.Holders.{isHeld}
@@ -49,15 +51,16 @@ use Rattle.ledger.specs.Steps.{
   journalAfter,
   preflightDecision,
   proposeDecision,
+  releaseDecision,
   saneGate,
   showDecision,
   snapshotDecision,
   vaultGate,
 }
-use Rattle.vaults.specs.Vaults.{holding, vaultPreflight}
-use Rattle.ledger.specs.Worlds.{Request, commit, decisionOf, faultyVote, generations, leftBy, preflight, propose, show, snapshot, stepOf}
+use Rattle.vaults.specs.Vaults.{holding, unsigning, vaultPreflight}
+use Rattle.ledger.specs.Worlds.{Request, commit, decisionOf, faultyVote, generations, leftBy, preflight, propose, release, show, snapshot, stepOf}
 use Rattle.ledger.specs.declared.Change.{Change}
-use Rattle.ledger.specs.declared.Change.the-variants.{Book, Hold, Nothing, Record, See, Sign}
+use Rattle.ledger.specs.declared.Change.the-variants.{Book, Hold, Nothing, Record, Release, See, Sign}
 use Rattle.vaults.specs.declared.Column.the-variants.{Acknowledgements}
 use Rattle.vaults.specs.declared.Consent.{Consent}
 use Rattle.vaults.specs.declared.Consent.the-variants.{Already, Denied, Fresh}
@@ -101,10 +104,11 @@ Other (faultyVote column v j) = Unit {0}
 Other (show j) = Unit {0}
 Other (generations j) = Unit {0}
 Other snapshot = Unit {0}
+Other (release v j rival) = Unit {0}
 
 other-calm : (l : Ledger) (journal : List ℕ) (q : Request) → Other q → Calm (decisionOf l journal q)
 unfolding preflightDecision preflighting consent commitDecision committing receiving faultyVoteDecision showDecision generationsDecision ageing
-    snapshotDecision snapshotting
+    snapshotDecision snapshotting releaseDecision releasing
 other-calm l journal (propose bytes) h = absurd h
 other-calm l journal (preflight v j) h =
     let a = vaultPreflight (vaultAt l v) (admissionAt (vaultAt l v) journal (l .booked) j) j in
@@ -123,6 +127,10 @@ other-calm l journal (generations j) h =
     let held = isHeld (l .settings) (l .vaults) j in
     gated-calm (bookedGate l journal j) (cond held (answering age) (refusing NotHeld)) (if-calm held (answering age) (refusing NotHeld) refl refl)
 other-calm l journal snapshot h = gated-calm (saneGate l) (snapshotting (l .settings) (l .next) (l .seen) (vaultAt l (l .next) .held)) refl
+other-calm l journal (release v j rival) h =
+    let test = supersession (vaultAt l v) journal (l .booked) j rival in
+    let released : Decision = record { outcome = Done (ones (signersOf l j)); change = Release (unsigning (vaultAt l v) j) } in
+    gated-calm (vaultGate l journal v j false) (gated test released) (gated-calm test released refl)
 
 record Same (l m : Ledger) : Type 0 where
   settings : m .settings ≡ l .settings
@@ -135,6 +143,7 @@ unfolding applied visited voted withVault
 calm-same l Nothing v j h = record { settings = refl; booked = refl; next = λ _ b. b; arrivals = λ a. a }
 calm-same l Book v j h = absurd (true≢false h)
 calm-same l (Sign state) v j h = record { settings = refl; booked = refl; next = λ _ b. b; arrivals = λ a. a }
+calm-same l (Release state) v j h = record { settings = refl; booked = refl; next = λ _ b. b; arrivals = λ a. a }
 calm-same l (Record column) v j h = record { settings = refl; booked = refl; next = λ _ b. b; arrivals = λ a. a }
 calm-same l (See seen) v j h = record { settings = refl; booked = refl; next = λ p _. stays-below (l .settings .n) (l .next) p; arrivals = λ a. a }
 calm-same l (Hold state) v j h =
@@ -158,6 +167,7 @@ other-left l journal (faultyVote column v j) h = refl
 other-left l journal (show j) h = refl
 other-left l journal (generations j) h = refl
 other-left l journal snapshot h = refl
+other-left l journal (release v j rival) h = refl
 
 module _ (first : ℕ) (s : Settings) (k : ℕ) (l : Ledger) (journal : List ℕ) (h : Standing first s k l journal) where
   pub other-standing : (q : Request) → Other q → Standing first s k (stepOf l journal q .ledger) (leftBy l journal q)

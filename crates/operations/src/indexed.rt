@@ -4,7 +4,7 @@ ghost use Prim.Native.Nat.{_≤_};
 ghost use lib.ListN.{length};
 ghost use Rattle.generations.specs.Generations.{ageIn};
 ghost use Rattle.journal.specs.Journal.{Booked, jobAt};
-ghost use Rattle.ledger.specs.Decisions.{ageing, preflighting, proposal};
+ghost use Rattle.ledger.specs.Decisions.{ageing, preflighting, proposal, releasing};
 ghost use Rattle.ledger.specs.Holders.{isHeld};
 use federation::Settings;
 use ledger::Decision;
@@ -48,6 +48,34 @@ pub(crate) fn preflight(
         signers,
         vault,
         job,
+    )
+}
+
+pub(crate) fn release(
+    state: Vault,
+    journal: &[u8],
+    booked: usize,
+    signers: u16,
+    job: usize,
+    rival: usize,
+) -> Decision
+    requires { ⌜ (booked ≤ 128) × Booked (now journal) booked job ⌝ }
+    ensures { λ r. ⌜ r ≡ releasing state (now (journal .entry)) booked signers job rival ⌝ }
+{
+    let mut numbers = [0u16; index::NUMBERS];
+    let mut sets = [0u64; index::SETS];
+    let mut records = [0u16; index::RECORDS];
+    index::build(&mut numbers, &mut sets, &mut records, journal, booked);
+    decisions::release(
+        Verdict::Pass,
+        state,
+        &numbers,
+        &sets,
+        journal,
+        booked,
+        signers,
+        job,
+        rival,
     )
 }
 

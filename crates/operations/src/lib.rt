@@ -13,6 +13,7 @@ ghost use Rattle.ledger.specs.Steps.{
   journalAfter,
   preflightOf,
   proposeOf,
+  releaseOf,
   showOf,
   snapshotOf,
 };
@@ -164,4 +165,29 @@ pub fn snapshot(ledger: Ledger) -> Reply
         );
     }
     gates::turn_back(ledger, Refusal::Settings)
+}
+
+// Kind 10: a correct vault releases a signature of a job that lost to a rival, which the vault holds. The value is the job's signatures, and none is lost.
+pub fn release(ledger: Ledger, journal: &[u8], vault: u8, job: u8, rival: u8) -> Reply
+    ensures { λ r. ⌜ r ≡ releaseOf ledger (now (journal .entry)) vault job rival ⌝ }
+{
+    let gate = gates::vault_gate(ledger, journal, vault, job, false);
+    match gate {
+        Verdict::Pass => {
+            let v = vault as usize;
+            let j = job as usize;
+            let state = ledger.vaults[v];
+            let votes = ledger.votes[j];
+            let decision = indexed::release(
+                state,
+                journal,
+                ledger.booked,
+                votes.signatures,
+                j,
+                rival as usize,
+            );
+            gates::carry(ledger, decision, vault, job)
+        }
+        Verdict::Fail(why) => gates::turn_back(ledger, why),
+    }
 }

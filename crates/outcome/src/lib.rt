@@ -40,6 +40,10 @@ pub enum Refusal {
     TooManyAbsent,
     // 18: no correct vault holds the job
     NotHeld,
+    // 19: the job that is to be released is not signed here
+    NotSignedHere,
+    // 20: the other job is no rival of it, or is not held here
+    NotSuperseded,
     // 24: an entry's lowest count exceeds its highest
     Reversed(u8),
     // 25: no choice of counts within their ranges balances
@@ -86,6 +90,8 @@ impl Refusal {
             Refusal::TooFewSigners => Figures(16, 0),
             Refusal::TooManyAbsent => Figures(17, 0),
             Refusal::NotHeld => Figures(18, 0),
+            Refusal::NotSignedHere => Figures(19, 0),
+            Refusal::NotSuperseded => Figures(20, 0),
             Refusal::Reversed(entry) => Figures(24, entry),
             Refusal::NoneBalances => Figures(25, 0),
             Refusal::NoContest => Figures(26, 0),

@@ -17,22 +17,24 @@ use Rattle.draw.specs.Draw.{drawOf}
 use Rattle.ledger.proofs.Gates.{booked-entered, entered, in-place, reflect-sane}
 use Rattle.ledger.proofs.Places.{proposed}
 use Rattle.ledger.proofs.Writes.{unwritten}
-use Rattle.ledger.specs.Decisions.{ageing, answering, committing, gated, isBook, isNothing, preflighting, refusing, snapshotting, statusOf, voting}
+use Rattle.ledger.specs.Decisions.{ageing, answering, committing, gated, isBook, isNothing, preflighting, refusing, releasing, snapshotting}
+use Rattle.ledger.specs.Decisions.{statusOf, voting}
 use Rattle.ledger.specs.Given.{Placed}
 use Rattle.ledger.specs.Meaning.{Proposed, Sane, failed, full, insane, known, new}
 use Rattle.ledger.specs.State.{applied, signersOf, vaultAt, votesAt, votesIn}
 use Rattle.ledger.specs.Steps.{bookedGate, commitDecision, faultyVoteDecision, gateOf, generationsDecision, journalAfter}
-use Rattle.ledger.specs.Steps.{journalWith, preflightDecision, proposeDecision, saneGate, showDecision, snapshotDecision, vaultGate}
+use Rattle.ledger.specs.Steps.{journalWith, preflightDecision, proposeDecision, releaseDecision, saneGate, showDecision, snapshotDecision, vaultGate}
 use Rattle.ledger.specs.Worlds.{decisionOf}
 use Rattle.ledger.specs.declared.Change.{Change}
-use Rattle.ledger.specs.declared.Change.the-variants.{Book, Hold, Nothing, Record, See, Sign}
+use Rattle.ledger.specs.declared.Change.the-variants.{Book, Hold, Nothing, Record, Release as Released, See, Sign}
 use Rattle.vaults.specs.declared.Column.the-variants.{Acknowledgements, Signatures}
 use Rattle.ledger.specs.declared.Decision.{Decision}
 use Rattle.ledger.specs.declared.Ledger.{Ledger}
 use Rattle.vaults.specs.declared.Vault.{Vault}
 use Rattle.runfile.specs.Steps.{Command, commandIn, draw, journalBy, replyOf, request, unreadable, wordAt}
 use Rattle.runfile.specs.declared.Kind.{Kind}
-use Rattle.runfile.specs.declared.Kind.the-variants.{Commit, Draw, FaultyAcknowledge, FaultySign, Generations, Preflight, Propose, Show, Snapshot, Unknown}
+use Rattle.runfile.specs.declared.Kind.the-variants.{Commit, Draw, FaultyAcknowledge, FaultySign, Generations, Preflight, Propose}
+use Rattle.runfile.specs.declared.Kind.the-variants.{Release, Show, Snapshot, Unknown}
 use Rattle.steps.proofs.Quiet.{Bookless}
 use Rattle.steps.specs.Decided.{bookedOr, decidedBy, jobOf, surveyed, vaultOf}
 use Rattle.steps.specs.Reading.{isWide}
@@ -87,6 +89,7 @@ isHold Nothing = false
 isHold Book = false
 isHold (Sign state) = false
 isHold (Hold state) = true
+isHold (Released state) = false
 isHold (Record column) = false
 isHold (See seen) = false
 
@@ -115,6 +118,7 @@ wide-kind Show w = cc
 wide-kind Draw w = cc
 wide-kind Generations w = refl
 wide-kind Snapshot w = cc
+wide-kind Release w = cc
 wide-kind Unknown w = cc
 
 module _ (l : Ledger) (s : Sane l) (journal : List ℕ) where
@@ -169,7 +173,7 @@ module _ (l : Ledger) (s : Sane l) (journal : List ℕ) where
     second = getD input (at + 1) 0
 
     pub decided-is : (k : Kind) → isWide k ≡ false → decidedBy (viewAt l (vaultOf (command k)) (jobOf (command k))) journal (command k) ≡ decision k
-    unfolding proposeDecision preflightDecision commitDecision faultyVoteDecision showDecision snapshotDecision saneGate votesIn
+    unfolding proposeDecision preflightDecision commitDecision faultyVoteDecision showDecision snapshotDecision saneGate votesIn releaseDecision
     decided-is Propose n = simp (reflect-sane l .complete s)
     decided-is Preflight n =
         at-vault first second false (λ v job. preflighting (vaultAt l v) journal (l .booked) (signersOf l job) first second)
@@ -184,6 +188,8 @@ module _ (l : Ledger) (s : Sane l) (journal : List ℕ) where
     decided-is Snapshot n =
         let a : l .next % 16 ≡ l .next = omega (arith, s .next, s .lawful .vaults) in
         simp (reflect-sane l .complete s, a)
+    decided-is Release n =
+        at-vault first second false (λ v job. releasing (vaultAt l v) journal (l .booked) (signersOf l job) second (getD input (at + 2) 0))
     decided-is Unknown n = refl
 
     -- ---- generations
@@ -216,6 +222,7 @@ module _ (l : Ledger) (s : Sane l) (journal : List ℕ) where
     bookless-left Draw b = untouched (decision Draw) b
     bookless-left Generations b = untouched (decision Generations) b
     bookless-left Snapshot b = untouched (decision Snapshot) b
+    bookless-left Release b = untouched (decision Release) b
     bookless-left Unknown b = untouched (decision Unknown) b
 
     pub left-by : (k : Kind) → (k ≡ Propose) ⊎ Bookless (decision k) → LeftBy k
@@ -255,7 +262,7 @@ module _ (l : Ledger) (s : Sane l) (journal : List ℕ) where
     quiet c q e = absurd (true≢false (sym (ap isNothing q) ∙ e))
 
     pub there : (k : Kind) → isNothing (decision k .change) ≡ false → There (vaultOf (command k)) (jobOf (command k)) (decision k)
-    unfolding preflightDecision commitDecision faultyVoteDecision showDecision
+    unfolding preflightDecision commitDecision faultyVoteDecision showDecision releaseDecision
     there Propose e = unnamed _ (proposal-holds-nothing _ (proposed l journal bytes))
     there Preflight e = gone-in first second false _ e
     there Commit e = gone-in first second false _ e
@@ -265,4 +272,5 @@ module _ (l : Ledger) (s : Sane l) (journal : List ℕ) where
     there Draw e = quiet _ refl e
     there Generations e = quiet _ (wide-quiet Generations refl) e
     there Snapshot e = unnamed _ visit-holds-nothing
+    there Release e = gone-in first second false _ e
     there Unknown e = quiet _ refl e

@@ -28,7 +28,7 @@ use Rattle.generations.specs.Memo.{Memo, Ready}
 use Rattle.ledger.specs.Given.{Writable}
 use Rattle.ledger.specs.State.{applied, arriving, booking, enqueued, hasArrived, newLedger, visited, voted, withVault}
 use Rattle.ledger.specs.declared.Change.{Change}
-use Rattle.ledger.specs.declared.Change.the-variants.{Book, Hold, Nothing, Record, See, Sign}
+use Rattle.ledger.specs.declared.Change.the-variants.{Book, Hold, Nothing, Record, Release, See, Sign}
 use Rattle.ledger.specs.declared.Ledger.{Ledger}
 use Rattle.vaults.specs.declared.Vault.{Vault}
 use Rattle.runfile.specs.Run.{journalSize}
@@ -133,6 +133,7 @@ module _ (l : Ledger) (journal numbers sets records memo : List ℕ) (k : Kept l
     kept-applied Book v job bytes w b t = kept-book bytes w t
     kept-applied (Sign state) v job bytes w b t = kept-same _ (search (k .sane .next)) (t .written) (t .indexed)
     kept-applied (Hold state) v job bytes w b t = kept-arrive _ job (b state refl) (kept-same _ (search (k .sane .next)) (t .written) (t .indexed))
+    kept-applied (Release state) v job bytes w b t = kept-same _ (search (k .sane .next)) (t .written) (t .indexed)
     kept-applied (Record column) v job bytes w b t = kept-same _ (search (k .sane .next)) (t .written) (t .indexed)
     kept-applied (See seen) v job bytes w b t =
         kept-same _ (search (stays-below (l .settings .n) (l .next) (omega (arith, k .sane .lawful .few)))) (t .written) (t .indexed)

@@ -15,7 +15,7 @@ use Rattle.ledger.specs.Given.{Placed, Writable}
 use Rattle.ledger.specs.State.{applied}
 use Rattle.ledger.specs.Steps.{journalWith}
 use Rattle.ledger.specs.declared.Change.{Change}
-use Rattle.ledger.specs.declared.Change.the-variants.{Book, Hold, Nothing, Record, See, Sign}
+use Rattle.ledger.specs.declared.Change.the-variants.{Book, Hold, Nothing, Record, Release, See, Sign}
 use Rattle.ledger.specs.declared.Decision.{Decision}
 use Rattle.ledger.specs.declared.Ledger.{Ledger}
 use Rattle.vaults.specs.declared.Vault.{Vault}
@@ -57,6 +57,7 @@ is-nothing Nothing e = refl
 is-nothing Book e = cc
 is-nothing (Sign state) e = cc
 is-nothing (Hold state) e = cc
+is-nothing (Release state) e = cc
 is-nothing (Record column) e = cc
 is-nothing (See seen) e = cc
 

@@ -25,6 +25,7 @@ use Rattle.runfile.specs.declared.Kind.the-variants.{
   Generations,
   Preflight,
   Propose,
+  Release,
   Show,
   Snapshot,
   Unknown,
@@ -87,6 +88,7 @@ reads-on Show pos size n h = omega arith
 reads-on Draw pos size n h = omega arith
 reads-on Generations pos size n h = omega arith
 reads-on Snapshot pos size n h = omega arith
+reads-on Release pos size n h = omega arith
 reads-on Unknown pos size n h = omega arith
 
 pub runs-out : (n : ℕ) (input : List ℕ) (r : Run) → length input ≤ r .pos + n → ended input (runNext n input r) ≡ true

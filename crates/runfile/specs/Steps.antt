@@ -10,7 +10,7 @@ use Rattle.outcome.specs.declared.Refusal.the-variants.{Unreadable}
 use Rattle.draw.specs.Draw.{drawOf}
 use Rattle.codec.specs.Codec.{recordSize}
 use Rattle.vaults.specs.declared.Column.the-variants.{Acknowledgements, Signatures}
-use Rattle.ledger.specs.Worlds.{Request, commit, faultyVote, generations, leftBy, preflight, propose, show, snapshot, stepOf}
+use Rattle.ledger.specs.Worlds.{Request, commit, faultyVote, generations, leftBy, preflight, propose, release, show, snapshot, stepOf}
 use Rattle.ledger.specs.declared.Ledger.{Ledger}
 use Rattle.ledger.specs.declared.Reply.{Reply}
 use Rattle.runfile.specs.declared.Kind.{Kind}
@@ -22,13 +22,14 @@ use Rattle.runfile.specs.declared.Kind.the-variants.{
   Generations,
   Preflight,
   Propose,
+  Release,
   Show,
   Snapshot,
   Unknown,
 }
 
 -- "1 propose (record); 2 preflight (vault, job); 3 commit (vault, job, signers); 4 faulty signature (vault, job); 5 faulty acknowledgement
--- (vault, job); 6 show (job); 7 draw (u); 8 generations (job)"; and document 02's 9, a snapshot, "without a body"
+-- (vault, job); 6 show (job); 7 draw (u); 8 generations (job)"; and document 02's 9, a snapshot, "without a body", and 10, a release "(vault, job, rival)"
 unfoldable pub kindOf : ℕ → Kind
 kindOf b =
     cond (eqb b 1) Propose
@@ -39,7 +40,8 @@ kindOf b =
     (cond (eqb b 6) Show
     (cond (eqb b 7) Draw
     (cond (eqb b 8) Generations
-    (cond (eqb b 9) Snapshot Unknown))))))))
+    (cond (eqb b 9) Snapshot
+    (cond (eqb b 10) Release Unknown)))))))))
 
 -- how long the body is
 abbrev pub bodySize : Kind → ℕ
@@ -52,6 +54,7 @@ bodySize Show = 1
 bodySize Draw = 1
 bodySize Generations = 1
 bodySize Snapshot = 0
+bodySize Release = 3
 bodySize Unknown = 0
 
 -- 16 bits, the low byte first
@@ -75,6 +78,7 @@ commandIn Show input at = request (show (getD input at 0))
 commandIn Draw input at = draw (getD input at 0)
 commandIn Generations input at = request (generations (getD input at 0))
 commandIn Snapshot input at = request snapshot
+commandIn Release input at = request (release (getD input at 0) (getD input (at + 1) 0) (getD input (at + 2) 0))
 commandIn Unknown input at = unreadable
 
 -- the kind of the step at pos, where its body is all there: "2: kind unknown or body cut short"
@@ -97,6 +101,7 @@ endOf Show pos size = pos + bodySize Show + 1
 endOf Draw pos size = pos + bodySize Draw + 1
 endOf Generations pos size = pos + bodySize Generations + 1
 endOf Snapshot pos size = pos + bodySize Snapshot + 1
+endOf Release pos size = pos + bodySize Release + 1
 endOf Unknown pos size = size
 
 abbrev pub nextAt : List ℕ → ℕ → ℕ

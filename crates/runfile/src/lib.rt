@@ -12,5 +12,6 @@ pub enum Kind {
     Draw,
     Generations,
     Snapshot,
+    Release,
     Unknown,
 }

@@ -1,6 +1,6 @@
 // Each kind of step, carried out and printed.
 ghost use mathlib.Core.Path.{_≡_};
-ghost use Rattle.ledger.specs.Steps.{commitOf, faultyVoteOf, journalAfter, preflightOf, proposeOf};
+ghost use Rattle.ledger.specs.Steps.{commitOf, faultyVoteOf, journalAfter, preflightOf, proposeOf, releaseOf};
 ghost use Rattle.vaults.specs.declared.Column.the-variants.{Acknowledgements, Signatures};
 ghost use Rattle.codec.specs.Codec.{written};
 ghost use lib.ListN.{replicate};
@@ -76,6 +76,14 @@ pub fn commit(l: Ledger, journal: &[u8], vault: u8, job: u8, signers: u16) -> Le
     named(b"commit", vault, job);
     argument(signers as u64);
     report(b"", operations::commit(l, journal, vault, job, signers))
+}
+
+pub fn release(l: Ledger, journal: &[u8], vault: u8, job: u8, rival: u8) -> Ledger
+    ensures { λ r. ⌜ r ≡ releaseOf l (now (journal .entry)) vault job rival .ledger ⌝ }
+{
+    named(b"release", vault, job);
+    argument(rival as u64);
+    report(b"", operations::release(l, journal, vault, job, rival))
 }
 
 pub fn sign(l: Ledger, journal: &[u8], vault: u8, job: u8) -> Ledger

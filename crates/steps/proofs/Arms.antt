@@ -6,7 +6,7 @@ use Prim.Native.Nat.{_+_, _-_, _≤_, ℕ}
 use native.Mathlib.Nat.{add-sub-cancel-left}
 use native.Mathlib.Omega.{arith}
 use lib.Dec.{ltb}
-use lib.ListN.{drop, length, take}
+use lib.ListN.{drop, getD, length, take}
 use Rattle.federation.specs.declared.Settings.{Settings}
 use Rattle.outcome.specs.declared.Outcome.{Outcome}
 use Rattle.outcome.specs.declared.Outcome.the-variants.{Refused}
@@ -21,18 +21,19 @@ use Rattle.generations.specs.Memo.{Memo}
 use Rattle.index.proofs.Tables.{records-part}
 use Rattle.index.specs.Index.{Indexed, IndexedRecords}
 use Rattle.ledger.proofs.Gates.{passed-rest, passed-test}
-use Rattle.ledger.specs.Decisions.{committing, gated}
+use Rattle.ledger.specs.Decisions.{committing, gated, releasing}
 use Rattle.ledger.specs.Given.{Aged, Known, Searchable}
 use Rattle.ledger.specs.Steps.{gateOf}
 use Rattle.vaults.specs.declared.Column.the-variants.{Acknowledgements, Signatures}
 use Rattle.vaults.specs.declared.Votes.{Votes}
-use Rattle.ledger.specs.Worlds.{commit, faultyVote, generations, preflight, propose, show, snapshot}
+use Rattle.ledger.specs.Worlds.{commit, faultyVote, generations, preflight, propose, release, show, snapshot}
 use Rattle.ledger.specs.declared.Change.the-variants.{Nothing}
 use Rattle.ledger.specs.declared.Decision.{Decision}
 use Rattle.vaults.specs.declared.Vault.{Vault}
 use Rattle.runfile.specs.Steps.{Command, commandIn, draw, request, unreadable, wordAt}
 use Rattle.runfile.specs.declared.Kind.{Kind}
-use Rattle.runfile.specs.declared.Kind.the-variants.{Commit, Draw, FaultyAcknowledge, FaultySign, Generations, Preflight, Propose, Show, Snapshot, Unknown}
+use Rattle.runfile.specs.declared.Kind.the-variants.{Commit, Draw, FaultyAcknowledge, FaultySign, Generations, Preflight, Propose}
+use Rattle.runfile.specs.declared.Kind.the-variants.{Release, Show, Snapshot, Unknown}
 use Rattle.steps.specs.Decided.{Answered, bookedOr, decidedBy, gateBy, jobOf, vaultOf}
 use Rattle.steps.specs.Reading.{Asked}
 use Rattle.steps.specs.declared.Books.{Books}
@@ -69,6 +70,7 @@ again Show v job input at = request (show job)
 again Draw v job input at = draw job
 again Generations v job input at = request (generations job)
 again Snapshot v job input at = request snapshot
+again Release v job input at = request (release v job (getD input (at + 2) 0))
 again Unknown v job input at = unreadable
 
 module _ (input : List ℕ) (at : ℕ) where
@@ -82,6 +84,7 @@ module _ (input : List ℕ) (at : ℕ) where
   same-command Draw = refl
   same-command Generations = refl
   same-command Snapshot = refl
+  same-command Release = refl
   same-command Unknown = refl
 
 module _ (w : View) (journal input : List ℕ) (s : Step) (a : Asked input s) where
@@ -105,10 +108,15 @@ pub with-signers : (g : Verdict) (s : Settings) (state : Vault) (votes : Votes) 
     → r ≡ gated g (committing s state votes v job x) → r ≡ gated g (committing s state votes v job y)
 with-signers g s state votes v job x y r e h = rw e at h
 
+-- with the rival that was read
+pub with-rival : (g : Verdict) (state : Vault) (journal : List ℕ) (booked signers job x y : ℕ) (r : Decision) → x ≡ y
+    → r ≡ gated g (releasing state journal booked signers job x) → r ≡ gated g (releasing state journal booked signers job y)
+with-rival g state journal booked signers job x y r e h = rw e at h
+
 pub drawn : (o o′ : Outcome) → o ≡ o′ → _≡_ {A = Decision} (record { outcome = o; change = Nothing }) (record { outcome = o′; change = Nothing })
 drawn o o′ e = rw e
 
-pub ruleset arms = (searched, known-behind, told, record-whole, regated, with-signers, drawn)
+pub ruleset arms = (searched, known-behind, told, record-whole, regated, with-signers, with-rival, drawn)
 
 -- ---- generations
 module _ (a : Books) (order journal memo : List ℕ) (job : ℕ) (b : Bool) (e : b ≡ isBooked journal (a .booked) job) where

@@ -12,7 +12,8 @@ use Rattle.outcome.specs.declared.Verdict.{Verdict}
 use Rattle.outcome.specs.declared.Verdict.the-variants.{Fail, Pass}
 use Rattle.sets.specs.Jobs.{jobHas}
 use Rattle.ledger.proofs.Writes.{writes}
-use Rattle.ledger.specs.Decisions.{admissionAt, answering, committing, consent, consenting, gated, isBook, preflighting, proposal, receiving, snapshotting, voting}
+use Rattle.ledger.specs.Decisions.{admissionAt, answering, committing, consent, consenting, gated, isBook, preflighting, proposal}
+use Rattle.ledger.specs.Decisions.{receiving, releasing, snapshotting, supersession, voting}
 use Rattle.ledger.specs.Given.{Writable}
 use Rattle.vaults.specs.Vaults.{holding, vaultPreflight}
 use Rattle.ledger.specs.declared.Change.{Change}
@@ -23,7 +24,8 @@ use Rattle.ledger.specs.declared.Decision.{Decision}
 use Rattle.vaults.specs.declared.Vault.{Vault}
 use Rattle.runfile.specs.Steps.{commandIn}
 use Rattle.runfile.specs.declared.Kind.{Kind}
-use Rattle.runfile.specs.declared.Kind.the-variants.{Commit, Draw, FaultyAcknowledge, FaultySign, Generations, Preflight, Propose, Show, Snapshot, Unknown}
+use Rattle.runfile.specs.declared.Kind.the-variants.{Commit, Draw, FaultyAcknowledge, FaultySign, Generations, Preflight, Propose}
+use Rattle.runfile.specs.declared.Kind.the-variants.{Release, Show, Snapshot, Unknown}
 use Rattle.steps.specs.Decided.{decidedBy}
 use Rattle.steps.specs.declared.View.{View}
 
@@ -51,7 +53,11 @@ received state acknowledgers v job =
     by-cases (λ b. Bookless (cond b (answering (ones acknowledgers)) (voting acknowledgers v (Hold (holding state job)))))
     (jobHas (state .held) job) (λ e. record { none = refl }) (λ e. record { none = refl })
 
-ruleset quiet = (behind, signed, received)
+released : (state : Vault) (journal : List ℕ) (booked signers job rival : ℕ) → Bookless (releasing state journal booked signers job rival)
+unfolding releasing
+released state journal booked signers job rival = behind (supersession state journal booked job rival) _ (record { none = refl })
+
+ruleset quiet = (behind, signed, received, released)
 
 module _ (w : View) (journal input : List ℕ) (at : ℕ) where
   abbrev decided : Kind → Decision
@@ -71,6 +77,7 @@ module _ (w : View) (journal input : List ℕ) (at : ℕ) where
   books Draw = inr (search quiet)
   books Generations = inr (search quiet)
   books Snapshot = inr (search quiet)
+  books Release = inr (search quiet)
   books Unknown = inr (search quiet)
 
   unbooked : (d : Decision) → Bookless d → Writable (d .change) (w .booked) journal bytes

@@ -17,7 +17,7 @@ use Rattle.ledger.proofs.Writes.{is-book, unwritten}
 use Rattle.ledger.specs.Decisions.{isBook}
 use Rattle.ledger.specs.Given.{Writable}
 use Rattle.ledger.specs.declared.Change.{Change}
-use Rattle.ledger.specs.declared.Change.the-variants.{Book, Hold, Nothing, Record, See, Sign}
+use Rattle.ledger.specs.declared.Change.the-variants.{Book, Hold, Nothing, Record, Release, See, Sign}
 use Rattle.steps.specs.Stored.{Stored, bookedAfter}
 
 module _ (change : Change) (r : Bool) (booked at : ℕ) (journal input : List ℕ) (e : r ≡ isBook change) (t : r ≡ true)
@@ -72,6 +72,7 @@ same-booked Nothing r n e t = refl
 same-booked Book r n e t = cc
 same-booked (Sign state) r n e t = refl
 same-booked (Hold state) r n e t = refl
+same-booked (Release state) r n e t = refl
 same-booked (Record column) r n e t = refl
 same-booked (See seen) r n e t = refl
 

@@ -9,7 +9,8 @@ use Rattle.codec.specs.Codec.{recordSize}
 use Rattle.runfile.specs.Run.{longest}
 use Rattle.runfile.specs.Steps.{bodySize, commandIn, endOf, kindAt, kindOf}
 use Rattle.runfile.specs.declared.Kind.{Kind}
-use Rattle.runfile.specs.declared.Kind.the-variants.{Commit, Draw, FaultyAcknowledge, FaultySign, Generations, Preflight, Propose, Show, Snapshot, Unknown}
+use Rattle.runfile.specs.declared.Kind.the-variants.{Commit, Draw, FaultyAcknowledge, FaultySign, Generations, Preflight, Propose}
+use Rattle.runfile.specs.declared.Kind.the-variants.{Release, Show, Snapshot, Unknown}
 use Rattle.steps.specs.Decided.{jobOf, vaultOf}
 use Rattle.steps.specs.Reading.{Read, formOf, formed, isWide, operationOf, rowOf, unread}
 use Rattle.steps.specs.declared.Operation.{Operation}
@@ -17,10 +18,11 @@ use Rattle.steps.specs.declared.Step.{Step}
 
 -- a byte that the table does not have
 pub unknown-row : (b : ℕ) (r : Operation) → (b ≡ 1 → ⊥) → (b ≡ 2 → ⊥) → (b ≡ 3 → ⊥) → (b ≡ 4 → ⊥) → (b ≡ 5 → ⊥) → (b ≡ 6 → ⊥) → (b ≡ 7 → ⊥)
-    → (b ≡ 8 → ⊥) → (b ≡ 9 → ⊥) → r ≡ rowOf Unknown → r ≡ operationOf b
+    → (b ≡ 8 → ⊥) → (b ≡ 9 → ⊥) → (b ≡ 10 → ⊥) → r ≡ rowOf Unknown → r ≡ operationOf b
 unfolding operationOf kindOf
-unknown-row b r a c d e f g h i j q =
-    q ∙ simp (ne-eqb b 1 a, ne-eqb b 2 c, ne-eqb b 3 d, ne-eqb b 4 e, ne-eqb b 5 f, ne-eqb b 6 g, ne-eqb b 7 h, ne-eqb b 8 i, ne-eqb b 9 j)
+unknown-row b r a c d e f g h i j k q =
+    q
+    ∙ simp (ne-eqb b 1 a, ne-eqb b 2 c, ne-eqb b 3 d, ne-eqb b 4 e, ne-eqb b 5 f, ne-eqb b 6 g, ne-eqb b 7 h, ne-eqb b 8 i, ne-eqb b 9 j, ne-eqb b 10 k)
 
 -- ---- the table of kinds
 module _ (input : List ℕ) (pos number : ℕ) where
@@ -51,6 +53,7 @@ module _ (input : List ℕ) (pos number : ℕ) where
   row Draw = search arith
   row Generations = search arith
   row Snapshot = search arith
+  row Release = search arith
   row Unknown = search arith
 
   -- a step of a kind whose body is all there

@@ -12,11 +12,11 @@ use Rattle.journal.specs.Journal.{capacity, isBooked, jobAt}
 use Rattle.generations.specs.Generations.{ageIn}
 use Rattle.generations.specs.Memo.{Memo}
 use Rattle.draw.specs.Draw.{drawOf}
-use Rattle.ledger.specs.Decisions.{ageing, answering, committing, gated, preflighting, proposal, refusing, snapshotting, statusOf, voting}
+use Rattle.ledger.specs.Decisions.{ageing, answering, committing, gated, preflighting, proposal, refusing, releasing, snapshotting, statusOf, voting}
 use Rattle.ledger.specs.Holders.{isHeld}
 use Rattle.ledger.specs.Steps.{gateOf}
 use Rattle.vaults.specs.Votes.{columnOf}
-use Rattle.ledger.specs.Worlds.{Request, commit, faultyVote, generations, jobIn, preflight, propose, show, snapshot, vaultIn}
+use Rattle.ledger.specs.Worlds.{Request, commit, faultyVote, generations, jobIn, preflight, propose, release, show, snapshot, vaultIn}
 use Rattle.ledger.specs.declared.Change.the-variants.{Nothing, Record}
 use Rattle.ledger.specs.declared.Decision.{Decision}
 use Rattle.runfile.specs.Steps.{Command, draw, request, unreadable}
@@ -54,6 +54,8 @@ requested w journal (show job) =
     gated (bookedOr (isBooked journal (w .booked) job)) (answering (statusOf (w .settings) (w .votes)))
 requested w journal (generations job) = refusing NotHeld
 requested w journal snapshot = snapshotting (w .settings) (w .next) (w .seen) (w .shown)
+requested w journal (release v job rival) =
+    gated (gateBy w journal v false job) (releasing (w .state) journal (w .booked) (w .votes .signatures) job rival)
 
 abbrev pub decidedBy : View → List ℕ → Command → Decision
 decidedBy w journal (request q) = requested w journal q

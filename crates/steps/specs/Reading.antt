@@ -8,7 +8,8 @@ use Rattle.codec.specs.Codec.{recordSize}
 use Rattle.runfile.specs.Run.{longest}
 use Rattle.runfile.specs.Steps.{bodySize, commandIn, kindAt, kindOf, nextAt}
 use Rattle.runfile.specs.declared.Kind.{Kind}
-use Rattle.runfile.specs.declared.Kind.the-variants.{Commit, Draw, FaultyAcknowledge, FaultySign, Generations, Preflight, Propose, Show, Snapshot, Unknown}
+use Rattle.runfile.specs.declared.Kind.the-variants.{Commit, Draw, FaultyAcknowledge, FaultySign, Generations, Preflight, Propose}
+use Rattle.runfile.specs.declared.Kind.the-variants.{Release, Show, Snapshot, Unknown}
 use Rattle.steps.specs.declared.Form.{Form}
 use Rattle.steps.specs.declared.Form.the-variants.{Bare, OfJob, OfVault, Unreadable}
 use Rattle.steps.specs.declared.Operation.{Operation}
@@ -26,6 +27,7 @@ formOf Show = OfJob
 formOf Draw = OfJob
 formOf Generations = OfJob
 formOf Snapshot = Bare
+formOf Release = OfVault
 formOf Unknown = Unreadable
 
 -- generations ask which vaults hold the job: all vaults are looked at
@@ -39,6 +41,7 @@ isWide Show = false
 isWide Draw = false
 isWide Generations = true
 isWide Snapshot = false
+isWide Release = false
 isWide Unknown = false
 
 abbrev pub rowOf : Kind → Operation

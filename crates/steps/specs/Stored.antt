@@ -5,7 +5,7 @@ use Prim.Native.Nat.{_+_, ℕ}
 use Rattle.index.specs.Index.{Indexed}
 use Rattle.ledger.specs.Steps.{journalWith}
 use Rattle.ledger.specs.declared.Change.{Change}
-use Rattle.ledger.specs.declared.Change.the-variants.{Book, Hold, Nothing, Record, See, Sign}
+use Rattle.ledger.specs.declared.Change.the-variants.{Book, Hold, Nothing, Record, Release, See, Sign}
 
 -- how many records are booked after a change
 abbrev pub bookedAfter : Change → ℕ → ℕ
@@ -13,6 +13,7 @@ bookedAfter Nothing n = n
 bookedAfter Book n = n + 1
 bookedAfter (Sign state) n = n
 bookedAfter (Hold state) n = n
+bookedAfter (Release state) n = n
 bookedAfter (Record column) n = n
 bookedAfter (See seen) n = n
 

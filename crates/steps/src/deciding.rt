@@ -99,6 +99,17 @@ pub(crate) fn decide(
         },
         Kind::Generations => decisions::refuse(Refusal::NotHeld),
         Kind::Snapshot => decisions::snapshot(view.settings, view.next, view.seen, view.shown),
+        Kind::Release => decisions::release(
+            view.gate(journal, vault, false, j),
+            view.state,
+            numbers,
+            sets,
+            journal,
+            view.booked,
+            votes.signatures,
+            j,
+            reading::byte_at(input, at + 2) as usize,
+        ),
         Kind::Unknown => decisions::refuse(Refusal::Unreadable),
     }
 }

@@ -19,7 +19,7 @@ fn wide(x: u8) -> u16
 }
 
 // Bytes past the end count as 0.
-fn byte_at(input: &[u8], at: usize) -> u8
+pub(crate) fn byte_at(input: &[u8], at: usize) -> u8
     ensures { λ r. ⌜ r ≡ getD (now (input .entry)) at 0 ⌝ }
 {
     if at < input.len() {
@@ -61,6 +61,7 @@ fn operation_of(byte: u8) -> Operation
         7 => row(Kind::Draw, 1, Form::OfJob, false),
         8 => row(Kind::Generations, 1, Form::OfJob, true),
         9 => row(Kind::Snapshot, 0, Form::Bare, false),
+        10 => row(Kind::Release, 3, Form::OfVault, false),
         _ => row(Kind::Unknown, 0, Form::Unreadable, false),
     }
 }

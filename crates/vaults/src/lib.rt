@@ -5,7 +5,7 @@ mod voting;
 use outcome::Refusal;
 use sets::JobSet;
 
-// The jobs that a vault holds and those that it signed.
+// The jobs that a vault holds and those that it has signed and not released.
 pub struct Vault {
     pub held: JobSet,
     pub signed: JobSet,

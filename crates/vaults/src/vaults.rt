@@ -1,6 +1,6 @@
-// A vault's own part of preflight and commit: its two sets go in and come back.
+// A vault's own part of preflight, commit and release: its two sets go in and come back.
 ghost use mathlib.Core.Path.{_≡_};
-ghost use Rattle.vaults.specs.Vaults.{newVault, signing, holding, vaultPreflight};
+ghost use Rattle.vaults.specs.Vaults.{newVault, signing, holding, unsigning, vaultPreflight};
 use crate::Consent;
 use crate::Signing;
 use crate::Vault;
@@ -33,6 +33,15 @@ impl Vault {
     {
         let held = self.held.with(job);
         let signed = self.signed;
+        Vault { held, signed }
+    }
+
+    // The vault without the job among those that it has signed.
+    pub fn release(self, job: usize) -> Vault
+        ensures { λ r. ⌜ r ≡ unsigning self job ⌝ }
+    {
+        let held = self.held;
+        let signed = self.signed.without(job);
         Vault { held, signed }
     }
 

@@ -2,6 +2,7 @@
 
 use super::build::Builder;
 use super::records::*;
+use super::releases::release_around;
 use super::traffic::{look_at_all, odd_commit, repeat};
 use crate::record::{medium, parse, reads, Bytes, Tape};
 use crate::settings::MOST_VAULTS;
@@ -216,7 +217,7 @@ fn hopeful_commits(builder: &mut Builder, jobs: &[u8], asked: &[u16; 256]) {
     }
 }
 
-/// Commits of all the rivals, and more preflights afterwards.
+/// Commits of all the rivals, perhaps releases, and more preflights afterwards.
 fn settle(builder: &mut Builder, jobs: &[u8]) {
     let held = *builder.random.pick(&[30, 60, 100]);
     for job in jobs {
@@ -224,6 +225,9 @@ fn settle(builder: &mut Builder, jobs: &[u8]) {
         if builder.random.chance(50) {
             odd_commit(builder, *job);
         }
+    }
+    if builder.random.chance(60) {
+        release_around(builder, jobs);
     }
     for job in jobs {
         builder.sign_around(*job, 60);

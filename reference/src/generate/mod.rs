@@ -9,6 +9,7 @@ mod damage;
 mod edges;
 mod orphans;
 mod records;
+mod releases;
 mod traffic;
 mod wild;
 

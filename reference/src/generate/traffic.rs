@@ -2,6 +2,7 @@
 
 use super::build::Builder;
 use super::records::{new_accession, new_migration, some_tapes};
+use super::releases::odd_release;
 use crate::settings::MOST_VAULTS;
 use crate::write::{
     draw, faulty_acknowledgement, faulty_signature, generations, preflight, show, snapshot,
@@ -40,6 +41,7 @@ pub fn action(builder: &mut Builder) {
         16 => repeat(builder, job),
         17 => misplaced(builder, job),
         18 | 19 => visit(builder),
+        20 => odd_release(builder, job),
         _ => look(builder, job),
     }
 }
@@ -115,20 +117,26 @@ pub fn repeat(builder: &mut Builder, job: u8) {
     }
 }
 
-/// Vaults and jobs out of range, and steps at vaults of the wrong sort.
-pub fn misplaced(builder: &mut Builder, job: u8) {
+/// A vault and a job: this one, or so often one out of range or any.
+pub fn misplaced_in(builder: &mut Builder, job: u8, percent: u64) -> (u8, u8) {
     let n = builder.engine.settings.n as u8;
     let booked = builder.engine.book.len() as u8;
-    let vault = match builder.random.below(4) {
-        0 => n,
-        1 => builder.random.byte(),
-        _ => builder.any_vault(),
+    let vault = match builder.random.chance(percent) {
+        true if builder.random.chance(50) => n,
+        true => builder.random.byte(),
+        false => builder.any_vault(),
     };
-    let job = match builder.random.below(4) {
-        0 => booked,
-        1 => builder.random.byte(),
-        _ => job,
+    let job = match builder.random.chance(percent) {
+        true if builder.random.chance(50) => booked,
+        true => builder.random.byte(),
+        false => job,
     };
+    (vault, job)
+}
+
+/// Vaults and jobs out of range, and steps at vaults of the wrong sort.
+pub fn misplaced(builder: &mut Builder, job: u8) {
+    let (vault, job) = misplaced_in(builder, job, 50);
     let signers = builder.signers(job);
     let _ = match builder.random.below(4) {
         0 => builder.step(preflight(vault, job)),

@@ -58,7 +58,7 @@ fn any_step(builder: &mut Builder) -> Step {
             builder.random.below(bound + 1) as u8
         }
     };
-    let first = if kind < kind::SHOW {
+    let first = if kind < kind::SHOW || kind == kind::RELEASE {
         near(builder, n)
     } else {
         near(builder, booked.max(n))
@@ -71,7 +71,12 @@ fn any_step(builder: &mut Builder) -> Step {
         _ => builder.random.word() as u16 & builder.random.word() as u16,
     };
     let [low, high] = signers.to_le_bytes();
-    let bytes = [kind, first, job, low, high];
+    let third = if kind == kind::RELEASE {
+        near(builder, booked)
+    } else {
+        low
+    };
+    let bytes = [kind, first, job, third, high];
     decode(&bytes)
         .expect("all but a proposal have short bodies")
         .0

@@ -20,12 +20,16 @@ unfolding applied voted withVault
 returns-4 c = simp (c .before .before .before .change2 .given .1, c .arrive .ensures, c .before .with2 .ensures)
 
 returns-5 : tie.Need-returns-5
-unfolding applied voted
-returns-5 c = simp (c .before .before .change3 .given .1, c .with3 .ensures)
+unfolding applied withVault
+returns-5 c = simp (c .before .change3 .given .1)
 
 returns-6 : tie.Need-returns-6
+unfolding applied voted
+returns-6 c = simp (c .before .before .change4 .given .1, c .with3 .ensures)
+
+returns-7 : tie.Need-returns-7
 unfolding applied visited
-returns-6 c = simp (c .before .before .change4 .given .1, c .following .ensures)
+returns-7 c = simp (c .before .before .change5 .given .1, c .following .ensures)
 
 pub apply-spec : {M : Type 1} → statement M
 apply-spec =
@@ -50,6 +54,9 @@ apply-spec =
     (λ c. search needs)
     (λ c κs. search needs)
     (λ c. search needs)
+    (λ c. search needs)
+    (λ c. search needs)
+    (λ c. search needs)
     (λ c κs. search needs)
     (λ c. search needs)
     (λ c. search needs)
@@ -60,4 +67,5 @@ apply-spec =
     returns-3
     returns-4
     returns-5
-    returns-6)
+    returns-6
+    returns-7)

@@ -21,6 +21,7 @@ operation-of-spec =
     (λ c κs. search needs)
     (λ c κs. search needs)
     (λ c κs. search needs)
+    (λ c κs. search needs)
     (λ c. simp (c .before .match .keys1, c .row .ensures))
     (λ c. simp (c .before .match .keys2, c .row2 .ensures))
     (λ c. simp (c .before .match .keys3, c .row3 .ensures))
@@ -30,4 +31,5 @@ operation-of-spec =
     (λ c. simp (c .before .match .keys7, c .row7 .ensures))
     (λ c. simp (c .before .match .keys8, c .row8 .ensures))
     (λ c. simp (c .before .match .keys9, c .row9 .ensures))
+    (λ c. simp (c .before .match .keys10, c .row10 .ensures))
     (λ c. search unknown-row))
