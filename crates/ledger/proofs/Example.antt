@@ -15,6 +15,7 @@ use Rattle.checks.specs.Checks.{
   checkOf,
   countsFormed,
   entryFormed,
+  trimmedFormed,
   examined,
   hasLabelOf,
   inputsFormed,
@@ -109,7 +110,7 @@ pub whole-run :
       accessioned = 1000;
     })
 unfolding sameList anyBelow allBelow firstBelow sumFrom hasBit withBit withMember withoutBit subsetOf jobHas jobWith jobWithout inputsFormed
-    countsFormed isFilled isBlank entryFormed wellFormed hasLabelOf repeatedAt isWritten unsupportedAt balanced checkOf examined leAt entryAt
+    countsFormed isFilled isBlank entryFormed trimmedFormed wellFormed hasLabelOf repeatedAt isWritten unsupportedAt balanced checkOf examined leAt entryAt
     entriesAt jobOf isLabelAt labelIn isTapeAt makesTape isDrive supports labelOf framesOf isUsed usedFrames isBetween charAt isAlphanumeric mediumOf
     isLabel usedFrom sameTape makesAt madeBy listsAt listedBy notCreatedAt consumedAt madeBefore remadeAt admission isLawful thresholdOf highest
     createdAt creatorOf generationFrom generationsBefore generationAt holdsAt isHeld isAt ageIn slotAt isBooked recordAt jobAt insideOf equalAt
