@@ -59,11 +59,11 @@ record Turn (job : ℕ → Job) (order : List ℕ) (len p k count : ℕ) (memo :
   is : most ≡ highest i (fromInput job (along order) p)
 
 abbrev generation-Inv-loop : generation-lts.InvT-loop
-generation-Inv-loop journal booked numbers sets order memo₀ p job known count most₀ i₀ memo most i =
-    Turn (jobAt journal booked) order (length memo₀) p job count memo most i
+generation-Inv-loop version journal booked numbers sets order memo₀ p job known count most₀ i₀ memo most i =
+    Turn (jobAt version journal booked) order (length memo₀) p job count memo most i
 
 abbrev generation-μ-loop : generation-lts.MeasureT-loop
-generation-μ-loop journal booked numbers sets order memo₀ p job known count most₀ i₀ memo most i = count - i
+generation-μ-loop version journal booked numbers sets order memo₀ p job known count most₀ i₀ memo most i = count - i
 
 pub +generation+parent-spec : {M : Type 1} → statement M
 +generation+parent-spec =
