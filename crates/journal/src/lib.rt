@@ -76,7 +76,7 @@ pub fn put_at(version: u16, journal: &mut [u8], k: usize, bytes: &[u8])
     requires { ⌜ (placeOf version k + recordSize version ≤ length (now journal)) × (length (now bytes) ≡ recordSize version) ⌝ }
     ensures { λ _. ⌜ now (journal .exit) ≡ putAt version (now (journal .entry)) k (now (bytes .entry)) ⌝ }
 {
-    let at = codec::place(version, k);
-    let end = at + codec::record_size(version);
-    bytes::copy(bytes, &mut journal[at..end]);
+    let from = codec::place(version, k);
+    let until = from + codec::record_size(version);
+    bytes::copy(bytes, &mut journal[from..until]);
 }
