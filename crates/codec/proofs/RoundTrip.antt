@@ -1,5 +1,5 @@
 -- A record and its job are one another's.
-use mathlib.Core.Bool.{cond}
+use mathlib.Core.Bool.{cond, false}
 use mathlib.Core.List.{List, [], _++_, _∷_, append-assoc, append-nil, map}
 use mathlib.Core.Path.{_∙_, _≡_, ap, ap₂, refl, sym}
 use Prim.Native.Nat.{_%_, _*_, _+_, _/_, _<_, _^_, _≤_, suc, zero, ℕ}
@@ -174,3 +174,10 @@ same-bytes version j r o out eight m n b q e =
     let all : length out ≡ recordSize version = ap length e ∙ length-written version j o eight ∙ n in
     sym (take-all (recordSize version) out (omega (arith, all))) ∙ ap (take (recordSize version)) e ∙ front-record version j o eight (omega (arith, n))
     ∙ ap (bytesOf version) (q ∙ front-whole version r m) ∙ record-job-record version r m b
+
+-- a record whose version has no place for trimmed frames says none
+pub plain-untrimmed : (version : ℕ) (r : List ℕ) → saysTrimmed version ≡ false → length r ≡ recordSize version → jobOf r .trimmed ≡ 0
+unfolding jobOf recordSize
+plain-untrimmed version r e n =
+    let plain : recordSize version ≡ 100 = simp e in
+    leAt-past 4 r bodySize (omega (arith, n, plain))

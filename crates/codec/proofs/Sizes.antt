@@ -66,3 +66,7 @@ module _ (version : ℕ) where
   pub room-whole : (k n : ℕ) → placeOf version k + recordSize version ≤ n → k < wholeIn version n
   unfolding placeOf wholeIn
   room-whole k n = sized (λ m. m * k + m ≤ n → k < n / m) version (λ h. omega (arith, h)) (λ h. omega (arith, h))
+
+  pub whole-short : (k n : ℕ) → wholeIn version n ≤ k → n < placeOf version k + recordSize version
+  unfolding placeOf wholeIn
+  whole-short k n = sized (λ m. n / m ≤ k → n < m * k + m) version (λ h. omega (arith, h)) (λ h. omega (arith, h))

@@ -50,11 +50,11 @@ placing equal inside booked room =
     cond (ltb equal inside) (answering equal)
     (cond room (record { outcome = Done booked; change = Book }) (refusing Full))
 
-unfoldable pub settling : List ℕ → ℕ → List ℕ → Decision
-settling journal booked bytes = placing (equalIn journal booked bytes) (insideOf journal booked) booked (hasRoom journal booked)
+unfoldable pub settling : ℕ → List ℕ → ℕ → List ℕ → Decision
+settling version journal booked bytes = placing (equalIn version journal booked bytes) (insideOf version journal booked) booked (hasRoom version journal booked)
 
-unfoldable pub proposal : List ℕ → ℕ → List ℕ → Decision
-proposal journal booked bytes = gated (examined bytes) (settling journal booked bytes)
+unfoldable pub proposal : ℕ → List ℕ → ℕ → List ℕ → Decision
+proposal version journal booked bytes = gated (examined version bytes) (settling version journal booked bytes)
 
 -- ---- kind 2, a preflight: "11 to 14"
 abbrev pub consenting : Consent → Vault → ℕ → ℕ → Decision
@@ -63,9 +63,9 @@ consenting Fresh state signers v = voting signers v (Sign state)
 consenting (Denied why) state signers v = refusing why
 
 -- checks 11 to 14 at a vault
-unfoldable pub admissionAt : Vault → List ℕ → ℕ → ℕ → Verdict
-admissionAt v journal booked k =
-    admission (jobAt journal booked) booked (v .held) (jobWithout (v .signed) k) (jobAt journal booked k)
+unfoldable pub admissionAt : Vault → ℕ → List ℕ → ℕ → ℕ → Verdict
+admissionAt v version journal booked k =
+    admission (jobAt version journal booked) booked (v .held) (jobWithout (v .signed) k) (jobAt version journal booked k)
 
 -- what a vault in this state decides on the verdict of checks 11 to 14
 unfoldable pub consent : Vault → Verdict → ℕ → ℕ → ℕ → Decision
@@ -73,8 +73,8 @@ consent state admission signers v job =
     let answer = vaultPreflight state admission job in
     consenting (answer .consent) (answer .vault) signers v
 
-unfoldable pub preflighting : Vault → List ℕ → ℕ → ℕ → ℕ → ℕ → Decision
-preflighting state journal booked signers v job = consent state (admissionAt state journal booked job) signers v job
+unfoldable pub preflighting : Vault → ℕ → List ℕ → ℕ → ℕ → ℕ → ℕ → Decision
+preflighting state version journal booked signers v job = consent state (admissionAt state version journal booked job) signers v job
 
 -- ---- kind 3, a commit: "15, 16"
 
