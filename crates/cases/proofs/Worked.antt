@@ -3,6 +3,7 @@ use mathlib.Core.Path.{_≡_, refl}
 use lib.Count.{ones}
 use Rattle.base.specs.Lists.{sameList}
 use Rattle.base.specs.Search.{allBelow, anyBelow, firstBelow, sumFrom}
+use Rattle.checks.specs.Checks.{trimmedFormed}
 use Rattle.checks.specs.Checks.{balanced, checkOf, countsFormed, entryFormed, examined, hasLabelOf, inputsFormed, isBlank}
 use Rattle.checks.specs.Checks.{isFilled, isWritten, repeatedAt, unsupportedAt, wellFormed}
 use Rattle.codec.specs.Codec.{entriesAt, entryAt, jobOf, leAt}
@@ -19,7 +20,7 @@ use Rattle.draw.specs.Draw.{drawOf, failing, thousandths, toEven}
 use Rattle.cases.specs.Table.{answered, given, table}
 
 pub cases : answered table ≡ given table
-unfolding sameList anyBelow allBelow firstBelow sumFrom inputsFormed countsFormed isFilled isBlank entryFormed wellFormed hasLabelOf repeatedAt
+unfolding sameList anyBelow allBelow firstBelow sumFrom inputsFormed countsFormed isFilled isBlank entryFormed trimmedFormed wellFormed hasLabelOf repeatedAt
     isWritten unsupportedAt balanced checkOf examined leAt entryAt entriesAt jobOf isDrive supports labelOf framesOf isUsed usedFrames isBetween
     charAt isAlphanumeric mediumOf isLabel isLawful thresholdOf equalAt equalIn hasRoom insideOf slotAt booking isSane newLedger applied placing
     settling proposal newOf proposeDecision proposeOf saneGate choose factorial drawOf failing thousandths toEven ones

@@ -128,7 +128,7 @@ other-calm l journal (generations j) h =
     gated-calm (bookedGate l journal j) (cond held (answering age) (refusing NotHeld)) (if-calm held (answering age) (refusing NotHeld) refl refl)
 other-calm l journal snapshot h = gated-calm (saneGate l) (snapshotting (l .settings) (l .next) (l .seen) (vaultAt l (l .next) .held)) refl
 other-calm l journal (release v j rival) h =
-    let test = supersession (vaultAt l v) journal (l .booked) j rival in
+    let test = supersession (vaultAt l v) (versionOf l) journal (l .booked) j rival in
     let released : Decision = record { outcome = Done (ones (signersOf l j)); change = Release (unsigning (vaultAt l v) j) } in
     gated-calm (vaultGate l journal v j false) (gated test released) (gated-calm test released refl)
 

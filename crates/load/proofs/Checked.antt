@@ -14,6 +14,7 @@ use Rattle.checks.specs.Checks.{
   checkOf,
   countsFormed,
   entryFormed,
+  trimmedFormed,
   examined,
   hasLabelOf,
   inputsFormed,
@@ -42,7 +43,7 @@ Fits e = (e .label < 2 ^ 64) × (e .frames < 2 ^ 32)
 
 -- ---- each kind of job, by computation; frames are known to be at least 1, and what is read to be what is written
 check-main : (f g r : ℕ) → r < 4 → 1 ≤ f → 1 ≤ g → checkOf (mainJob f g r) ≡ Pass
-unfolding mainJob labelFor leAt checkOf wellFormed isDrive countsFormed inputsFormed entryFormed isFilled isBlank isUsed isLabel mediumOf charAt
+unfolding mainJob labelFor leAt checkOf wellFormed isDrive countsFormed inputsFormed trimmedFormed entryFormed isFilled isBlank isUsed isLabel mediumOf charAt
     isAlphanumeric isBetween framesOf labelOf usedFrames repeatedAt hasLabelOf unsupportedAt isWritten supports balanced allBelow anyBelow firstBelow sumFrom
 check-main f g zero h p q = simp (le-leb 1 f p, le-leb 1 g q)
 check-main f g (suc zero) h p q = simp (le-leb 1 f p, le-leb 1 g q, eq-eqb (f + (g + 0)) (f + (g + 0)) refl)
@@ -51,7 +52,7 @@ check-main f g (suc (suc (suc zero))) h p q = simp (le-leb 1 f p, le-leb 1 g q, 
 check-main f g (suc (suc (suc (suc r)))) h p q = absurd (omega arith)
 
 check-rival : (f r : ℕ) → r < 4 → 1 ≤ f → checkOf (rivalJob f r) ≡ Pass
-unfolding rivalJob labelFor leAt checkOf wellFormed isDrive countsFormed inputsFormed entryFormed isFilled isBlank isUsed isLabel mediumOf charAt
+unfolding rivalJob labelFor leAt checkOf wellFormed isDrive countsFormed inputsFormed trimmedFormed entryFormed isFilled isBlank isUsed isLabel mediumOf charAt
     isAlphanumeric isBetween framesOf labelOf usedFrames repeatedAt hasLabelOf unsupportedAt isWritten supports balanced allBelow anyBelow firstBelow sumFrom
 check-rival f zero h p = simp (le-leb 1 f p)
 check-rival f (suc zero) h p = simp (le-leb 1 f p, eq-eqb (f + 0) (f + 0) refl)
@@ -64,7 +65,7 @@ pass-is Pass e = refl
 pass-is (Fail why) e = absurd (true≢false (sym e))
 
 side-checked : allBelow 40 (λ j. isPass (checkOf (sideJob j))) ≡ true
-unfolding sideJob labelFor leAt checkOf wellFormed isDrive countsFormed inputsFormed entryFormed isFilled isBlank isUsed isLabel mediumOf charAt
+unfolding sideJob labelFor leAt checkOf wellFormed isDrive countsFormed inputsFormed trimmedFormed entryFormed isFilled isBlank isUsed isLabel mediumOf charAt
     isAlphanumeric isBetween framesOf labelOf usedFrames repeatedAt hasLabelOf unsupportedAt isWritten supports balanced allBelow anyBelow firstBelow sumFrom
 side-checked = refl
 
