@@ -49,7 +49,7 @@ abbrev pub proposal : List ℕ → Outcome
 proposal bytes = proposeOf (newLedger 4 1 0) (replicate 100 0) bytes .outcome
 
 abbrev pub drawAt : ℕ → ℕ → ℕ → Outcome
-drawAt n b u = drawOf (record { n = n; b = b; faulty = 0 }) u
+drawAt n b u = drawOf (record { n = n; b = b; faulty = 0; version = 1 }) u
 
 -- ---- the table
 abbrev pub table : List Row

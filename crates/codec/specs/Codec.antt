@@ -20,6 +20,10 @@ saysTrimmed version = eqb version 2
 unfoldable pub recordSize : ℕ → ℕ
 recordSize version = cond (saysTrimmed version) 104 100
 
+-- the most bytes that a record has
+abbrev pub longestRecord : ℕ
+longestRecord = 104
+
 -- an entry has 12 bytes, what stands before the entries 4, and what stands before the trimmed frames 100
 abbrev pub entrySize : ℕ
 entrySize = 12

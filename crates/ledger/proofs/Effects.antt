@@ -40,7 +40,9 @@ use Rattle.ledger.proofs.Views.{
 }
 use Rattle.federation.specs.Federation.{Lawful}
 use Rattle.generations.specs.Generations.{isAt}
-use Rattle.ledger.specs.State.{arrived, arriving, booking, hasArrived, signersOf, vaultAt, versionOf, visited, voted, votesIn, withVault}
+use Rattle.ledger.specs.declared.Change.{Change}
+use Rattle.ledger.specs.declared.Change.the-variants.{Book, Hold, Nothing, Record, Release, See, Sign}
+use Rattle.ledger.specs.State.{applied, arrived, arriving, booking, hasArrived, signersOf, vaultAt, versionOf, visited, voted, votesIn, withVault}
 use Rattle.vaults.specs.Vaults.{holding, newVault, signing, unsigning}
 use Rattle.vaults.specs.Votes.{columnOf, noVotes}
 use Rattle.vaults.specs.declared.Column.{Column}
@@ -255,3 +257,14 @@ module _ {l : Ledger} {bs : List ℕ} (s : Shape l bs) (v k : ℕ) (hv : v < l .
   pub shape-hold : Shape (held l v k) bs
   unfolding held
   shape-hold = shape-arrive (shape-vote (shape-vault s v (holding (vaultAt l v) k)) Acknowledgements v k (still-vault _)) k
+
+-- no change touches the settings
+pub applied-settings : (l : Ledger) (c : Change) (v job : ℕ) → applied l c v job .settings ≡ l .settings
+unfolding applied booking voted withVault visited
+applied-settings l Nothing v job = refl
+applied-settings l Book v job = refl
+applied-settings l (Sign state) v job = refl
+applied-settings l (Hold state) v job = arrives (voted (withVault l v state) Acknowledgements v job) job .settings
+applied-settings l (Release state) v job = refl
+applied-settings l (Record column) v job = refl
+applied-settings l (See seen) v job = refl

@@ -69,24 +69,33 @@ pub(crate) fn preflight(
 
 pub(crate) fn release(
     state: Vault,
+    version: u16,
     journal: &[u8],
     booked: usize,
     signers: u16,
     job: usize,
     rival: usize,
 ) -> Decision
-    requires { ⌜ (booked ≤ 128) × Booked (now journal) booked job ⌝ }
-    ensures { λ r. ⌜ r ≡ releasing state (now (journal .entry)) booked signers job rival ⌝ }
+    requires { ⌜ (booked ≤ 128) × Booked version (now journal) booked job ⌝ }
+    ensures { λ r. ⌜ r ≡ releasing state version (now (journal .entry)) booked signers job rival ⌝ }
 {
     let mut numbers = [0u16; index::NUMBERS];
     let mut sets = [0u64; index::SETS];
     let mut records = [0u16; index::RECORDS];
-    index::build(&mut numbers, &mut sets, &mut records, journal, booked);
+    index::build(
+        &mut numbers,
+        &mut sets,
+        &mut records,
+        version,
+        journal,
+        booked,
+    );
     decisions::release(
         Verdict::Pass,
         state,
         &numbers,
         &sets,
+        version,
         journal,
         booked,
         signers,

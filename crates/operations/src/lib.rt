@@ -183,8 +183,10 @@ pub fn release(ledger: Ledger, journal: &[u8], vault: u8, job: u8, rival: u8) ->
             let j = job as usize;
             let state = ledger.vaults[v];
             let votes = ledger.votes[j];
+            let settings = ledger.settings;
             let decision = indexed::release(
                 state,
+                settings.version,
                 journal,
                 ledger.booked,
                 votes.signatures,
