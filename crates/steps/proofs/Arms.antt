@@ -21,7 +21,7 @@ use Rattle.generations.specs.Memo.{Memo}
 use Rattle.index.proofs.Tables.{records-part}
 use Rattle.index.specs.Index.{Indexed, IndexedRecords}
 use Rattle.ledger.proofs.Gates.{passed-rest, passed-test}
-use Rattle.ledger.specs.Decisions.{committing, gated}
+use Rattle.ledger.specs.Decisions.{committing, gated, proposal}
 use Rattle.ledger.specs.Given.{Aged, Known, Searchable}
 use Rattle.ledger.specs.Steps.{gateOf}
 use Rattle.vaults.specs.declared.Column.the-variants.{Acknowledgements, Signatures}
@@ -108,10 +108,15 @@ pub with-signers : (g : Verdict) (s : Settings) (state : Vault) (votes : Votes) 
     → r ≡ gated g (committing s state votes v job x) → r ≡ gated g (committing s state votes v job y)
 with-signers g s state votes v job x y r e h = rw e at h
 
+-- with the record that was read
+pub with-record : (version : ℕ) (journal : List ℕ) (booked : ℕ) (part bytes : List ℕ) (r : Decision) → part ≡ bytes
+    → r ≡ proposal version journal booked part → r ≡ proposal version journal booked bytes
+with-record version journal booked part bytes r e h = rw e at h
+
 pub drawn : (o o′ : Outcome) → o ≡ o′ → _≡_ {A = Decision} (record { outcome = o; change = Nothing }) (record { outcome = o′; change = Nothing })
 drawn o o′ e = rw e
 
-pub ruleset arms = (searched, known-behind, told, record-whole, regated, with-signers, drawn)
+pub ruleset arms = (searched, known-behind, told, record-whole, regated, with-record, with-signers, drawn)
 
 -- ---- generations
 module _ (a : Books) (order journal memo : List ℕ) (job : ℕ) (b : Bool) (e : b ≡ isBooked (a .settings .version) journal (a .booked) job) where

@@ -6,13 +6,12 @@ use Rattle.run.proofs.header.is_header.Statement.{statement}
 use Rattle.runfile.specs.Run.{isHeader}
 use Rattle.run.proofs.header.is_header.Tie as tie
 
-returns-5 : tie.Need-returns-5
+returns-4 : tie.Need-returns-4
 unfolding isHeader
-returns-5 c =
-    let t = c .before in
-    let l = t .before .before in
+returns-4 c =
+    let l = c .before in
     let v = l .before .before in
-    simp (le-leb _ _ (v .before .before .if1 .left), eq-eqb _ _ (v .if2 .left), eq-eqb _ _ (l .if3 .left), eq-eqb _ _ (t .if4 .left), c .word-at .ensures)
+    simp (le-leb _ _ (v .before .before .if1 .left), eq-eqb _ _ (v .if2 .left), eq-eqb _ _ (l .if3 .left))
 
 pub is-header-spec : {M : Type 1} → statement M
 unfolding isHeader
@@ -25,6 +24,4 @@ is-header-spec =
     (λ c. search needs)
     (λ c. search chain depth 8)
     (λ c. search needs)
-    (λ c. search chain depth 8)
-    (λ c κs. search needs)
-    returns-5)
+    returns-4)
