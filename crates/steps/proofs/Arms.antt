@@ -21,7 +21,7 @@ use Rattle.generations.specs.Memo.{Memo}
 use Rattle.index.proofs.Tables.{records-part}
 use Rattle.index.specs.Index.{Indexed, IndexedRecords}
 use Rattle.ledger.proofs.Gates.{passed-rest, passed-test}
-use Rattle.ledger.specs.Decisions.{committing, gated, releasing}
+use Rattle.ledger.specs.Decisions.{committing, gated, proposal, releasing}
 use Rattle.ledger.specs.Given.{Aged, Known, Searchable}
 use Rattle.ledger.specs.Steps.{gateOf}
 use Rattle.vaults.specs.declared.Column.the-variants.{Acknowledgements, Signatures}
@@ -111,15 +111,20 @@ pub with-signers : (g : Verdict) (s : Settings) (state : Vault) (votes : Votes) 
     → r ≡ gated g (committing s state votes v job x) → r ≡ gated g (committing s state votes v job y)
 with-signers g s state votes v job x y r e h = rw e at h
 
+-- with the record that was read
+pub with-record : (version : ℕ) (journal : List ℕ) (booked : ℕ) (part bytes : List ℕ) (r : Decision) → part ≡ bytes
+    → r ≡ proposal version journal booked part → r ≡ proposal version journal booked bytes
+with-record version journal booked part bytes r e h = rw e at h
+
 -- with the rival that was read
-pub with-rival : (g : Verdict) (state : Vault) (journal : List ℕ) (booked signers job x y : ℕ) (r : Decision) → x ≡ y
-    → r ≡ gated g (releasing state journal booked signers job x) → r ≡ gated g (releasing state journal booked signers job y)
-with-rival g state journal booked signers job x y r e h = rw e at h
+pub with-rival : (g : Verdict) (state : Vault) (version : ℕ) (journal : List ℕ) (booked signers job x y : ℕ) (r : Decision) → x ≡ y
+    → r ≡ gated g (releasing state version journal booked signers job x) → r ≡ gated g (releasing state version journal booked signers job y)
+with-rival g state version journal booked signers job x y r e h = rw e at h
 
 pub drawn : (o o′ : Outcome) → o ≡ o′ → _≡_ {A = Decision} (record { outcome = o; change = Nothing }) (record { outcome = o′; change = Nothing })
 drawn o o′ e = rw e
 
-pub ruleset arms = (searched, known-behind, told, record-whole, regated, with-signers, with-rival, drawn)
+pub ruleset arms = (searched, known-behind, told, record-whole, regated, with-record, with-signers, with-rival, drawn)
 
 -- ---- generations
 module _ (a : Books) (order journal memo : List ℕ) (job : ℕ) (b : Bool) (e : b ≡ isBooked (a .settings .version) journal (a .booked) job) where

@@ -53,9 +53,10 @@ received state acknowledgers v job =
     by-cases (λ b. Bookless (cond b (answering (ones acknowledgers)) (voting acknowledgers v (Hold (holding state job)))))
     (jobHas (state .held) job) (λ e. record { none = refl }) (λ e. record { none = refl })
 
-released : (state : Vault) (journal : List ℕ) (booked signers job rival : ℕ) → Bookless (releasing state journal booked signers job rival)
+released : (state : Vault) (version : ℕ) (journal : List ℕ) (booked signers job rival : ℕ)
+    → Bookless (releasing state version journal booked signers job rival)
 unfolding releasing
-released state journal booked signers job rival = behind (supersession state journal booked job rival) _ (record { none = refl })
+released state version journal booked signers job rival = behind (supersession state version journal booked job rival) _ (record { none = refl })
 
 ruleset quiet = (behind, signed, received, released)
 

@@ -7,6 +7,7 @@ use native.Mathlib.Nat.{add-sub-cancel-left}
 use native.Mathlib.Omega.{arith}
 use lib.ListN.{drop, length, length-drop, length-take, take}
 use Rattle.codec.proofs.RoundTrip.{front-whole}
+use Rattle.codec.proofs.Sizes.{size-least}
 use Rattle.codec.specs.Codec.{frontJob, jobOf, placeOf, recordSize}
 use Rattle.record.specs.declared.Job.{Job}
 use Rattle.journal.proofs.Putting.{put-length, slot-put}
@@ -26,13 +27,6 @@ module _ (change : Change) (r : Bool) (booked at version : ℕ) (journal input :
   abbrev bytes : List ℕ
   bytes = take (recordSize version) (drop at input)
 
-  -- the part of the input that is lent
-  abbrev part : List ℕ
-  part = take (recordSize version) (drop at input)
-
-  part-is : part ≡ bytes
-  part-is = refl
-
   booked-now : change ≡ Book
   booked-now = is-book change r e t
 
@@ -40,15 +34,16 @@ module _ (change : Change) (r : Bool) (booked at version : ℕ) (journal input :
   size = w .size booked-now
 
   pub record-inside : at + recordSize version ≤ length input
-  record-inside = omega (arith, size, length-take (recordSize version) (drop at input), length-drop at input)
+  record-inside = omega (arith, size-least version, size, length-take (recordSize version) (drop at input), length-drop at input)
 
   pub record-room : placeOf version booked + recordSize version ≤ length journal
   record-room = w .room booked-now
 
-  pub record-size : length part ≡ recordSize version
-  record-size = rw part-is size
+  -- the part of the input that is lent
+  pub record-size : (part : List ℕ) → part ≡ bytes → length part ≡ recordSize version
+  record-size part part-is = rw part-is size
 
-  module _ (journal′ : List ℕ) (p : journal′ ≡ putAt version journal booked part) where
+  module _ (part journal′ : List ℕ) (part-is : part ≡ bytes) (p : journal′ ≡ putAt version journal booked part) where
     put : journal′ ≡ putAt version journal booked bytes
     put = p ∙ ap (putAt version journal booked) part-is
 
@@ -57,7 +52,7 @@ module _ (change : Change) (r : Bool) (booked at version : ℕ) (journal input :
 
     pub says : (a : Job) → a ≡ frontJob version part → a ≡ slotJob version journal′ booked
     unfolding slotJob
-    says a h = h ∙ front-whole version bytes size ∙ rw put (ap jobOf (sym (slot-put version booked journal bytes size record-room)))
+    says a h = h ∙ ap (frontJob version) part-is ∙ front-whole version bytes size ∙ rw put (ap jobOf (sym (slot-put version booked journal bytes size record-room)))
 
     pub still-indexed : (numbers sets records : List ℕ) → Indexed version journal booked numbers sets records → Indexed version journal′ booked numbers sets records
     still-indexed numbers sets records i = rw put (indexed-put version journal booked numbers sets records i bytes size record-room)

@@ -55,7 +55,7 @@ requested w journal (show job) =
 requested w journal (generations job) = refusing NotHeld
 requested w journal snapshot = snapshotting (w .settings) (w .next) (w .seen) (w .shown)
 requested w journal (release v job rival) =
-    gated (gateBy w journal v false job) (releasing (w .state) journal (w .booked) (w .votes .signatures) job rival)
+    gated (gateBy w journal v false job) (releasing (w .state) (w .settings .version) journal (w .booked) (w .votes .signatures) job rival)
 
 abbrev pub decidedBy : View → List ℕ → Command → Decision
 decidedBy w journal (request q) = requested w journal q

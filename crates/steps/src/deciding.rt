@@ -116,6 +116,7 @@ pub(crate) fn decide(
             view.state,
             numbers,
             sets,
+            version,
             journal,
             view.booked,
             votes.signatures,

@@ -9,7 +9,7 @@ ruleset by = (rows, needs)
 
 -- no body is longer than a record
 add-end : tie.Need-add-end
-add-end c = omega (arith, size-most _, size-small _ _ _ (c .before .operation-of .ensures))
+add-end c = omega (arith, size-most (c .before .before .before .before .args .version), size-small _ _ _ (c .before .operation-of .ensures))
 
 pub step-at-spec : {M : Type 1} → statement M
 step-at-spec =
