@@ -22,6 +22,7 @@ operation-of-spec =
     (λ c κs. search needs)
     (λ c κs. search needs)
     (λ c κs. search needs)
+    (λ c κs. search needs)
     (λ c. simp (c .before .before .match .keys1, c .row .ensures, c .before .record-size .ensures .0))
     (λ c. simp (c .before .match .keys2, c .row2 .ensures))
     (λ c. simp (c .before .match .keys3, c .row3 .ensures))
