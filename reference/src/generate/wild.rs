@@ -72,7 +72,7 @@ fn any_step(builder: &mut Builder) -> Step {
     };
     let [low, high] = signers.to_le_bytes();
     let bytes = [kind, first, job, low, high];
-    decode(&bytes)
+    decode(builder.version(), &bytes)
         .expect("all but a proposal have short bodies")
         .0
 }
