@@ -27,7 +27,7 @@ use Rattle.checks.specs.Checks.{
 }
 use Rattle.codec.proofs.Jobs.{length-bytesOf}
 use Rattle.codec.proofs.RoundTrip.{job-record-job}
-use Rattle.codec.specs.Codec.{EntriesFit, JobFits, bytesOf, jobOf, leAt, saidOf, saysTrimmed}
+use Rattle.codec.specs.Codec.{EntriesFit, JobFits, bytesOf, jobOf, leAt, recordSize, saidOf, saysTrimmed}
 use Rattle.outcome.specs.declared.Verdict.{Verdict}
 use Rattle.outcome.specs.declared.Verdict.the-variants.{Fail, Pass}
 use Rattle.record.specs.Drives.{isDrive, supports}
@@ -153,5 +153,5 @@ record-reads first j b h = job-record-job 1 (jobFor first j) (fits-job first j b
 
 -- "Every record written passes checks 6 to 9"
 pub record-passes : (first j : ℕ) → first < 2 ^ 32 → j < 40 → examined 1 (bytesOf 1 (jobFor first j)) ≡ Pass
-unfolding examined
+unfolding examined recordSize saysTrimmed
 record-passes first j b h = simp (length-bytesOf 1 (jobFor first j) (eight first j), record-reads first j b h, check-job first j h)
