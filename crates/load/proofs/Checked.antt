@@ -27,14 +27,15 @@ use Rattle.checks.specs.Checks.{
 }
 use Rattle.codec.proofs.Jobs.{length-bytesOf}
 use Rattle.codec.proofs.RoundTrip.{job-record-job}
-use Rattle.codec.specs.Codec.{EntriesFit, JobFits, bytesOf, jobOf, leAt}
+use Rattle.codec.specs.Codec.{EntriesFit, JobFits, bytesOf, jobOf, leAt, recordSize, saidOf, saysTrimmed}
 use Rattle.outcome.specs.declared.Verdict.{Verdict}
 use Rattle.outcome.specs.declared.Verdict.the-variants.{Fail, Pass}
 use Rattle.record.specs.Drives.{isDrive, supports}
 use Rattle.record.specs.Entries.{framesOf, isUsed, labelOf, noEntry, usedFrames}
 use Rattle.record.specs.Labels.{charAt, isAlphanumeric, isBetween, isLabel, mediumOf}
 use Rattle.record.specs.declared.Entry.{Entry}
-use Rattle.load.proofs.Writes.{eight}
+use Rattle.record.specs.declared.Job.{Job}
+use Rattle.load.proofs.Writes.{eight, untrimmed}
 use Rattle.load.specs.Records.{A, B, accession, jobFor, labelFor, lowerFrames, mainJob, migration, rivalJob, sideJob, tape, upperFrames}
 use Rattle.load.specs.Visits.{isPass}
 
@@ -46,18 +47,18 @@ check-main : (f g r : ℕ) → r < 4 → 1 ≤ f → 1 ≤ g → checkOf (mainJo
 unfolding mainJob labelFor leAt checkOf wellFormed isDrive countsFormed inputsFormed trimmedFormed entryFormed isFilled isBlank isUsed isLabel mediumOf charAt
     isAlphanumeric isBetween framesOf labelOf usedFrames repeatedAt hasLabelOf unsupportedAt isWritten supports balanced allBelow anyBelow firstBelow sumFrom
 check-main f g zero h p q = simp (le-leb 1 f p, le-leb 1 g q)
-check-main f g (suc zero) h p q = simp (le-leb 1 f p, le-leb 1 g q, eq-eqb (f + (g + 0)) (f + (g + 0)) refl)
-check-main f g (suc (suc zero)) h p q = simp (le-leb 1 f p, le-leb 1 g q, eq-eqb (f + (g + 0)) (f + (g + 0)) refl)
-check-main f g (suc (suc (suc zero))) h p q = simp (le-leb 1 f p, le-leb 1 g q, eq-eqb (f + (g + 0)) (f + (g + 0)) refl)
+check-main f g (suc zero) h p q = simp (le-leb 1 f p, le-leb 1 g q, eq-eqb (f + (g + 0)) (f + (g + 0) + 0) (omega arith))
+check-main f g (suc (suc zero)) h p q = simp (le-leb 1 f p, le-leb 1 g q, eq-eqb (f + (g + 0)) (f + (g + 0) + 0) (omega arith))
+check-main f g (suc (suc (suc zero))) h p q = simp (le-leb 1 f p, le-leb 1 g q, eq-eqb (f + (g + 0)) (f + (g + 0) + 0) (omega arith))
 check-main f g (suc (suc (suc (suc r)))) h p q = absurd (omega arith)
 
 check-rival : (f r : ℕ) → r < 4 → 1 ≤ f → checkOf (rivalJob f r) ≡ Pass
 unfolding rivalJob labelFor leAt checkOf wellFormed isDrive countsFormed inputsFormed trimmedFormed entryFormed isFilled isBlank isUsed isLabel mediumOf charAt
     isAlphanumeric isBetween framesOf labelOf usedFrames repeatedAt hasLabelOf unsupportedAt isWritten supports balanced allBelow anyBelow firstBelow sumFrom
 check-rival f zero h p = simp (le-leb 1 f p)
-check-rival f (suc zero) h p = simp (le-leb 1 f p, eq-eqb (f + 0) (f + 0) refl)
-check-rival f (suc (suc zero)) h p = simp (le-leb 1 f p, eq-eqb (f + 0) (f + 0) refl)
-check-rival f (suc (suc (suc zero))) h p = simp (le-leb 1 f p, eq-eqb (f + 0) (f + 0) refl)
+check-rival f (suc zero) h p = simp (le-leb 1 f p, eq-eqb (f + 0) (f + 0 + 0) (omega arith))
+check-rival f (suc (suc zero)) h p = simp (le-leb 1 f p, eq-eqb (f + 0) (f + 0 + 0) (omega arith))
+check-rival f (suc (suc (suc zero))) h p = simp (le-leb 1 f p, eq-eqb (f + 0) (f + 0 + 0) (omega arith))
 check-rival f (suc (suc (suc (suc r)))) h p = absurd (omega arith)
 
 pass-is : (v : Verdict) → isPass v ≡ true → v ≡ Pass
@@ -138,12 +139,19 @@ fits-job first j b h = record {
       (λ e. by-cases (λ b. EntriesFit (cond b (rivalJob (lowerFrames first) (j / 10)) (sideJob j) .entries)) (eqb (j % 10) 1)
       (λ f. fits-rival (lowerFrames first) (j / 10) (omega arith) (omega arith))
       (λ f. fits-side j h));
+  trimmed = rw (untrimmed first j) (lit< tt);
 }
 
-pub record-reads : (first j : ℕ) → first < 2 ^ 32 → j < 40 → jobOf (bytesOf (jobFor first j)) ≡ jobFor first j
-record-reads first j b h = ap jobOf (sym (append-nil (bytesOf (jobFor first j)))) ∙ job-record-job (jobFor first j) [] (fits-job first j b h)
+-- a version 1 record says a job that trims nothing
+said-same : (j : Job) → j .trimmed ≡ 0 → saidOf 1 j ≡ j
+unfolding saidOf saysTrimmed
+said-same j e =
+    ap (λ (t : ℕ). record { kind = j .kind; drive = j .drive; inputs = j .inputs; outputs = j .outputs; entries = j .entries; trimmed = t }) (sym e)
+
+pub record-reads : (first j : ℕ) → first < 2 ^ 32 → j < 40 → jobOf (bytesOf 1 (jobFor first j)) ≡ jobFor first j
+record-reads first j b h = job-record-job 1 (jobFor first j) (fits-job first j b h) ∙ said-same (jobFor first j) (untrimmed first j)
 
 -- "Every record written passes checks 6 to 9"
-pub record-passes : (first j : ℕ) → first < 2 ^ 32 → j < 40 → examined (bytesOf (jobFor first j)) ≡ Pass
-unfolding examined
-record-passes first j b h = simp (length-bytesOf (jobFor first j) (eight first j), record-reads first j b h, check-job first j h)
+pub record-passes : (first j : ℕ) → first < 2 ^ 32 → j < 40 → examined 1 (bytesOf 1 (jobFor first j)) ≡ Pass
+unfolding examined recordSize saysTrimmed
+record-passes first j b h = simp (length-bytesOf 1 (jobFor first j) (eight first j), record-reads first j b h, check-job first j h)

@@ -59,12 +59,13 @@ pub(crate) fn decide(
     let j = step.job as usize;
     let votes = view.votes;
     let version = view.settings.version;
+    let booked = view.booked;
     match kind {
         Kind::Propose => decisions::propose(
             records,
             version,
             journal,
-            view.booked,
+            booked,
             reading::record_at(version, input, at),
         ),
         Kind::Preflight => decisions::preflight(
@@ -74,7 +75,7 @@ pub(crate) fn decide(
             sets,
             version,
             journal,
-            view.booked,
+            booked,
             votes.signatures,
             vault,
             j,
@@ -100,11 +101,7 @@ pub(crate) fn decide(
             Column::Acknowledgements,
             vault,
         ),
-        Kind::Show => decisions::show(
-            booked_or(version, view.booked, journal, j),
-            view.settings,
-            votes,
-        ),
+        Kind::Show => decisions::show(booked_or(version, booked, journal, j), view.settings, votes),
         Kind::Draw => Decision {
             outcome: draw::draw(view.settings, step.job),
             change: Change::Nothing,
