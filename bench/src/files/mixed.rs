@@ -1,4 +1,4 @@
-//! All kinds of step, as a federation with two faulty vaults might take them: jobs from proposal to acknowledgement,
+//! All of document 01's kinds of step, as a federation with two faulty vaults might take them: jobs from proposal to acknowledgement,
 //! with the mistakes and the repetitions of a careless network.
 use super::tapes::{with_frames, Reels};
 use super::writer::Run;

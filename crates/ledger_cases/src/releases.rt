@@ -13,7 +13,7 @@ fn b() -> Entry {
 }
 
 // Job 0 takes in a and b, 1 moves a, 2 moves both, 3 moves b.
-fn propose(l: Ledger, journal: &mut [u8]) -> Ledger {
+fn propose(l: Ledger, journal: &mut [u8; 400]) -> Ledger {
     let l = steps::propose(l, journal, b"ab", jobs::accession_two(a(), b()));
     let one = jobs::migration(a(), jobs::tape(b"CCCCCCL7", 1000));
     let l = steps::propose(l, journal, b"a-c", one);
@@ -65,13 +65,16 @@ fn turned_back(l: Ledger, journal: &[u8]) -> Ledger {
     steps::release(l, journal, 2, 3, 200)
 }
 
+fn rounds(l: Ledger, journal: &[u8; 400]) {
+    let l = master(l, journal);
+    let l = lost(l, journal);
+    let l = released(l, journal);
+    turned_back(l, journal);
+}
+
 pub(crate) fn releases() {
     let mut journal = [0u8; 400];
     steps::heading(b"releases");
     let l = propose(books::new(4, 1, 8).ledger, &mut journal);
-    let l = master(l, &journal);
-    let l = lost(l, &journal);
-    let l = released(l, &journal);
-    let l = turned_back(l, &journal);
-    steps::release(l, &journal[..399], 2, 3, 1);
+    rounds(l, &journal);
 }

@@ -2,7 +2,7 @@
 
 use super::build::Builder;
 use super::records::*;
-use super::releases::release_around;
+use super::releases::{outvote, release_around};
 use super::traffic::{look_at_all, odd_commit, repeat};
 use crate::record::{medium, parse, reads, Bytes, Tape};
 use crate::settings::MOST_VAULTS;
@@ -182,6 +182,11 @@ fn contest(builder: &mut Builder, rivals: &[Bytes]) {
         .collect();
     if jobs.is_empty() {
         return;
+    }
+    if builder.random.chance(30) {
+        outvote(builder, &jobs);
+        release_around(builder, &jobs);
+        return settle(builder, &jobs);
     }
     let first = jobs[0];
     // Where the first is favoured it is certified, else often none is.

@@ -7,6 +7,21 @@ use super::traffic::misplaced_in;
 use crate::record::Tape;
 use crate::write::release;
 
+/// Up to b of the sound vaults sign rivals of the first job, and all others the
+/// first, which is then held around: the rivals have lost.
+pub fn outvote(builder: &mut Builder, jobs: &[u8]) {
+    let mut vaults = builder.vaults();
+    vaults.sort_by_key(|vault| builder.is_faulty(*vault));
+    let dissenters = builder.random.between(0, builder.engine.settings.b) as usize;
+    for (i, vault) in vaults.into_iter().enumerate() {
+        let own = if i < dissenters { &jobs[1..] } else { jobs };
+        for job in own {
+            let _ = builder.sign(vault, *job);
+        }
+    }
+    builder.hold_around(jobs[0], 95);
+}
+
 /// Each of these jobs is released for each, itself among them, at some of the
 /// vaults; then they are asked for again, and so is what some of them gave up.
 pub fn release_around(builder: &mut Builder, jobs: &[u8]) {
