@@ -12,7 +12,8 @@ use Rattle.outcome.specs.declared.Verdict.{Verdict}
 use Rattle.outcome.specs.declared.Verdict.the-variants.{Fail, Pass}
 use Rattle.sets.specs.Jobs.{jobHas}
 use Rattle.ledger.proofs.Writes.{writes}
-use Rattle.ledger.specs.Decisions.{admissionAt, answering, committing, consent, consenting, gated, isBook, preflighting, proposal, receiving, snapshotting, voting}
+use Rattle.ledger.specs.Decisions.{admissionAt, answering, committing, consent, consenting, gated, isBook, preflighting, proposal, receiving, snapshotting}
+use Rattle.ledger.specs.Decisions.{voting}
 use Rattle.ledger.specs.Given.{Writable}
 use Rattle.vaults.specs.Vaults.{holding, vaultPreflight}
 use Rattle.ledger.specs.declared.Change.{Change}
