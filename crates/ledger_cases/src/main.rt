@@ -4,6 +4,7 @@ mod ages;
 mod checks;
 mod run;
 mod settings;
+mod versions;
 mod votes;
 
 fn main() {
@@ -13,4 +14,5 @@ fn main() {
     checks::checks();
     votes::votes();
     ages::ages();
+    versions::versions();
 }
