@@ -23,7 +23,7 @@ pub fn file() -> File {
         let moved = migration(6, &tapes, &copies);
         for record in [accession(7, &tapes), trimmed(moved, tapes.len() as u32)] {
             let job = run.book(&record);
-            run.carry_out(job, SIGNERS, 0..4);
+            run.carry_out(job, SIGNERS, SIGNERS);
             records.push(record);
         }
     }
