@@ -42,6 +42,20 @@ pub fn all() -> Vec<Edge> {
         edge("a draw of 937.5", a_half(1), &[(0, 938)]),
         edge("a draw of 812.5", a_half(3), &[(0, 812)]),
         edge("a draw of 687.5", a_half(5), &[(0, 688)]),
+        edge("trimmed frames", trimming(), &TRIMMING),
+        edge(
+            "128 records of 104 bytes",
+            full_long_book(),
+            &full_book_answers(),
+        ),
+        edge(
+            "a version 2 proposal of 100 bytes",
+            short_by_4(),
+            &[(0, 0), (2, 0)],
+        ),
+        version(0),
+        version(3),
+        version(258),
         one_run_whole(),
     ]
 }
@@ -421,6 +435,91 @@ const REMADE: [Answer; 13] = [
 /// One of 16 vaults is away: of 16 quorums 16 − b want it. No other draw is an exact half.
 fn a_half(b: u8) -> Vec<u8> {
     run_file(16, b, 0, &[draw(1)])
+}
+
+/// Document 02, M-102. A migration of 1000 frames to 990 with 10 trimmed, with 9 and with 11: of records that differ in the trimmed frames alone
+/// only one can balance. An accession with none trimmed and with one; sums above 32 bits; a whole life of the accession and of the job that trims.
+fn trimming() -> Vec<u8> {
+    let from = (b"VAA001L7", 1000);
+    let moved = |to: u32, cut: u32| {
+        let record = record(1, 7, &[from], &[(b"VAB001L7", to)]);
+        propose(trimmed(record, cut))
+    };
+    let accession = |cut: u32| propose(trimmed(record(0, 7, &[], &[from]), cut));
+    let wide = |cut: u32| {
+        let inputs: [Written; 2] = [(b"VAC001L7", u32::MAX), (b"VAD001L7", 5)];
+        propose(trimmed(record(1, 7, &inputs, &[(b"VAE001L7", 5)]), cut))
+    };
+    let steps = [
+        accession(0),
+        accession(1),
+        moved(990, 10),
+        moved(990, 9),
+        moved(990, 11),
+        moved(1000, 0),
+        moved(999, 1),
+        moved(990, 10),
+        wide(u32::MAX),
+        wide(0),
+        preflight(0, 0),
+        commit(0, 0, 1),
+        preflight(0, 1),
+        commit(0, 1, 1),
+        show(1),
+        generations(1),
+        preflight(0, 2),
+    ];
+    run_file_in(2, 1, 0, 0, &steps)
+}
+
+const TRIMMING: [Answer; 17] = [
+    (0, 0),
+    (6, 0),
+    (0, 1),
+    (9, 0),
+    (9, 0),
+    (0, 2),
+    (0, 3),
+    (0, 1),
+    (0, 4),
+    (9, 0),
+    (0, 1),
+    (0, 1),
+    (0, 1),
+    (0, 1),
+    (0, 2),
+    (0, 1),
+    (12, 0),
+];
+
+/// As `full_book`, of records that trim more and more.
+fn full_long_book() -> Vec<u8> {
+    let new = |i: u32| {
+        let record = record(1, 5, &[(b"VAA001L5", 1000)], &[(b"VAB001L5", 1000 - i)]);
+        propose(trimmed(record, i))
+    };
+    let mut steps: Vec<Step> = (0..129).map(new).collect();
+    steps.extend([new(0), new(127), show(127), show(128)]);
+    run_file_in(2, 1, 0, 0, &steps)
+}
+
+/// The second proposal lacks its trimmed frames.
+fn short_by_4() -> Vec<u8> {
+    let proposal = propose(record(0, 7, &[], &[(b"VAA001L7", 9)]));
+    let mut file = run_file_in(2, 1, 0, 0, &[proposal.clone(), proposal]);
+    file.truncate(file.len() - 4);
+    file
+}
+
+/// There are versions 1 and 2.
+fn version(version: u16) -> Edge {
+    let mut file = run_file(1, 0, 0, &[show(0)]);
+    file[3..5].copy_from_slice(&version.to_le_bytes());
+    Edge {
+        name: "another version",
+        file,
+        text: "0 1 0\n".to_string(),
+    }
 }
 
 fn one_run_whole() -> Edge {

@@ -1,8 +1,11 @@
-//! A job record: its hundred bytes, its tapes, and checks 6 to 9.
+//! A job record: its bytes, its tapes, and checks 6 to 9.
 
 use crate::refusal::{first_offender, plain, Refusal};
 
+/// A version 1 record.
 pub const RECORD_BYTES: usize = HEAD_BYTES + ENTRIES * ENTRY_BYTES;
+/// A version 2 record: "32 bits of trimmed frames follow the last entry".
+pub const LONG_RECORD_BYTES: usize = RECORD_BYTES + 4;
 /// Kind, drive, number of inputs, number of outputs.
 pub const HEAD_BYTES: usize = 4;
 pub const LABEL_BYTES: usize = 8;
@@ -11,7 +14,8 @@ pub const ENTRY_BYTES: usize = LABEL_BYTES + 4;
 pub const ENTRIES: usize = 2 * FIRST_OUTPUT;
 pub const FIRST_OUTPUT: usize = 4;
 
-pub type Bytes = [u8; RECORD_BYTES];
+/// A record of either version; "Version 1 stays readable and its jobs have 0 trimmed".
+pub type Bytes = [u8; LONG_RECORD_BYTES];
 pub type Label = [u8; LABEL_BYTES];
 
 /// The last two characters of a label.
@@ -47,6 +51,16 @@ pub struct Record {
     pub drive: u8,
     pub inputs: Vec<Entry>,
     pub outputs: Vec<Entry>,
+    pub trimmed: u64,
+}
+
+/// How many bytes a record has in a run file of the version.
+pub fn record_bytes(version: u16) -> usize {
+    match version {
+        1 => RECORD_BYTES,
+        2 => LONG_RECORD_BYTES,
+        _ => unreachable!("no run file has version {version}"),
+    }
 }
 
 impl Record {
@@ -101,6 +115,11 @@ pub fn parse(bytes: &Bytes) -> Option<Record> {
         Kind::Accession => inputs == 0,
         Kind::Migration => (1..=FIRST_OUTPUT).contains(&inputs),
     };
+    let trimmed = u32::from_le_bytes(bytes[RECORD_BYTES..].try_into().unwrap());
+    // "an accession has 0 trimmed, else 6"
+    if kind == Kind::Accession && trimmed != 0 {
+        return None;
+    }
     if !(5..=9).contains(&drive) || !inputs_right || !(1..=FIRST_OUTPUT).contains(&outputs) {
         return None;
     }
@@ -110,6 +129,7 @@ pub fn parse(bytes: &Bytes) -> Option<Record> {
         drive,
         inputs: parse_half(bytes, 0, inputs)?,
         outputs: parse_half(bytes, FIRST_OUTPUT, outputs)?,
+        trimmed: u64::from(trimmed),
     })
 }
 
@@ -214,11 +234,11 @@ fn drive_cannot(record: &Record) -> Option<u64> {
     None
 }
 
-/// Check 9: only a migration has frames to balance.
+/// Check 9: "In a migration input frames equal output frames plus trimmed".
 fn balanced(record: &Record) -> bool {
     match record.kind {
         Kind::Accession => true,
-        Kind::Migration => frames_of(&record.inputs) == frames_of(&record.outputs),
+        Kind::Migration => frames_of(&record.inputs) == frames_of(&record.outputs) + record.trimmed,
     }
 }
 

@@ -64,7 +64,7 @@ pub fn lines(input: &[u8], mut register: Option<Register>) -> Vec<Line> {
     let mut rest = &input[HEADER_BYTES..];
     while !rest.is_empty() {
         let number = lines.len() as u64 + 1;
-        let Some((step, length)) = decode(rest) else {
+        let Some((step, length)) = decode(settings.version, rest) else {
             lines.push(Line::new(number, rest[0], &Err(plain(2))));
             break;
         };

@@ -1,7 +1,8 @@
 //! The federation's settings, as the header of a run file gives them.
 
 pub const NAME: [u8; 3] = *b"VLT";
-pub const VERSION: u16 = 1;
+/// "a book and its sequence of steps have one version"
+pub const VERSIONS: [u16; 2] = [1, 2];
 pub const HEADER_BYTES: usize = 9;
 pub const LONGEST_FILE: usize = 65_536;
 pub const MOST_VAULTS: u64 = 16;
@@ -12,6 +13,7 @@ pub struct Settings {
     pub b: u64,
     /// Bit i for vault i.
     pub faulty: u16,
+    pub version: u16,
 }
 
 impl Settings {
@@ -44,13 +46,14 @@ pub fn read_header(input: &[u8]) -> Option<Settings> {
         return None;
     }
     let version = u16::from_le_bytes([input[3], input[4]]);
-    if input[..3] != NAME || version != VERSION {
+    if input[..3] != NAME || !VERSIONS.contains(&version) {
         return None;
     }
     let settings = Settings {
         n: u64::from(input[5]),
         b: u64::from(input[6]),
         faulty: u16::from_le_bytes([input[7], input[8]]),
+        version,
     };
     settings.right().then_some(settings)
 }

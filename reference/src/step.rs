@@ -1,6 +1,6 @@
 //! "Then steps, each a kind byte and its body".
 
-use crate::record::{Bytes, RECORD_BYTES};
+use crate::record::{record_bytes, Bytes, LONG_RECORD_BYTES, RECORD_BYTES};
 
 pub mod kind {
     pub const PROPOSE: u8 = 1;
@@ -15,7 +15,7 @@ pub mod kind {
     pub const RELEASE: u8 = 10;
 }
 
-/// Every kind and the length of its body.
+/// Every kind and the length of its body in a version 1 file.
 pub const KINDS: [(u8, usize); 10] = [
     (kind::PROPOSE, RECORD_BYTES),
     (kind::PREFLIGHT, 2),
@@ -72,14 +72,22 @@ pub enum Step {
 
 /// The length of a step, kind and body, or nothing if the kind is unknown.
 pub fn step_length(kind: u8) -> Option<usize> {
+    step_length_in(1, kind)
+}
+
+/// The same in a file of the version: only a record's length differs.
+pub fn step_length_in(version: u16, kind: u8) -> Option<usize> {
     let (_, body) = KINDS.iter().find(|(known, _)| *known == kind)?;
-    Some(1 + body)
+    match kind {
+        kind::PROPOSE => Some(1 + record_bytes(version)),
+        _ => Some(1 + body),
+    }
 }
 
 /// The first step of `bytes` and its whole length; nothing where refusal 2
 /// is due.
-pub fn decode(bytes: &[u8]) -> Option<(Step, usize)> {
-    let length = step_length(bytes[0])?;
+pub fn decode(version: u16, bytes: &[u8]) -> Option<(Step, usize)> {
+    let length = step_length_in(version, bytes[0])?;
     let body = bytes.get(1..length)?;
     Some((read_body(bytes[0], body), length))
 }
@@ -87,7 +95,7 @@ pub fn decode(bytes: &[u8]) -> Option<(Step, usize)> {
 fn read_body(kind: u8, body: &[u8]) -> Step {
     match (kind, body) {
         (kind::PROPOSE, record) => Step::Propose {
-            record: Box::new(record.try_into().expect("a record's length")),
+            record: Box::new(widened(record)),
         },
         (kind::PREFLIGHT, &[vault, job]) => Step::Preflight { vault, job },
         (kind::COMMIT, &[vault, job, low, high]) => Step::Commit {
@@ -106,6 +114,13 @@ fn read_body(kind: u8, body: &[u8]) -> Step {
     }
 }
 
+/// A record as it is kept: one of version 1 has 0 trimmed.
+fn widened(record: &[u8]) -> Bytes {
+    let mut bytes = [0; LONG_RECORD_BYTES];
+    bytes[..record.len()].copy_from_slice(record);
+    bytes
+}
+
 impl Step {
     pub fn kind(&self) -> u8 {
         match self {
@@ -122,11 +137,16 @@ impl Step {
         }
     }
 
-    /// The step as a run file has it.
+    /// The step as a version 1 run file has it.
     pub fn encode(&self) -> Vec<u8> {
+        self.encode_in(1)
+    }
+
+    /// The step as a run file of the version has it.
+    pub fn encode_in(&self, version: u16) -> Vec<u8> {
         let mut bytes = vec![self.kind()];
         match self {
-            Step::Propose { record } => bytes.extend(record.iter()),
+            Step::Propose { record } => bytes.extend(&record[..record_bytes(version)]),
             Step::Preflight { vault, job }
             | Step::FaultySignature { vault, job }
             | Step::FaultyAcknowledgement { vault, job } => bytes.extend([*vault, *job]),

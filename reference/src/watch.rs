@@ -26,7 +26,7 @@ pub fn in_full(number: u64, engine: &Engine, register: &Register) {
     let taken: BTreeSet<usize> = register.taken.iter().copied().collect();
     must_agree(number, "jobs held", &jobs_held(engine), &taken);
 
-    let (standing, accessioned) = along_arrival(engine);
+    let (standing, accessioned, trimmed) = along_arrival(engine);
     must_agree(number, "standing tapes", &standing, &register.standing);
     let register_accessioned = register.frames_accessioned;
     must_agree(
@@ -36,10 +36,11 @@ pub fn in_full(number: u64, engine: &Engine, register: &Register) {
         &register_accessioned,
     );
     let frames_standing: u64 = standing.iter().map(|tape| tape.frames).sum();
+    // "frames standing plus frames trimmed by the jobs in arrival order equal frames accessioned"
     must_agree(
         number,
-        "frames standing and accessioned",
-        &frames_standing,
+        "frames standing with those trimmed, and accessioned",
+        &(frames_standing + trimmed),
         &register_accessioned,
     );
 }
@@ -61,11 +62,12 @@ fn jobs_held(engine: &Engine) -> BTreeSet<usize> {
         .collect()
 }
 
-/// Standing tapes and frames accessioned, anew along the arrival order:
+/// Standing tapes, frames accessioned and frames trimmed, anew along the arrival order:
 /// "a tape stands once a job has made it and until one retires its label".
-pub fn along_arrival(engine: &Engine) -> (BTreeSet<Tape>, u64) {
+pub fn along_arrival(engine: &Engine) -> (BTreeSet<Tape>, u64, u64) {
     let mut standing: Vec<Tape> = Vec::new();
     let mut accessioned = 0;
+    let mut trimmed = 0;
     for job in &engine.arrival {
         let record = &engine.book[*job];
         standing.retain(|tape| !record.takes_label(&tape.label));
@@ -73,6 +75,7 @@ pub fn along_arrival(engine: &Engine) -> (BTreeSet<Tape>, u64) {
         if record.kind == Kind::Accession {
             accessioned += record.output_frames();
         }
+        trimmed += record.trimmed;
     }
-    (standing.into_iter().collect(), accessioned)
+    (standing.into_iter().collect(), accessioned, trimmed)
 }

@@ -1,22 +1,31 @@
 //! The bytes of a run file. Nothing written here need pass any check.
 
 use crate::record::{entry_start, Bytes, Label, Tape, ENTRY_BYTES, FIRST_OUTPUT};
-use crate::record::{HEAD_BYTES, LABEL_BYTES, RECORD_BYTES};
-use crate::settings::{NAME, VERSION};
+use crate::record::{HEAD_BYTES, LABEL_BYTES, LONG_RECORD_BYTES, RECORD_BYTES};
+use crate::settings::NAME;
 use crate::step::Step;
 
-/// The run file of these settings and steps.
+/// The version 1 run file of these settings and steps.
 pub fn run_file(n: u8, b: u8, faulty: u16, steps: &[Step]) -> Vec<u8> {
-    let mut file = header(n, b, faulty);
+    run_file_in(1, n, b, faulty, steps)
+}
+
+/// The run file of the version.
+pub fn run_file_in(version: u16, n: u8, b: u8, faulty: u16, steps: &[Step]) -> Vec<u8> {
+    let mut file = header_in(version, n, b, faulty);
     for step in steps {
-        file.extend(step.encode());
+        file.extend(step.encode_in(version));
     }
     file
 }
 
 pub fn header(n: u8, b: u8, faulty: u16) -> Vec<u8> {
+    header_in(1, n, b, faulty)
+}
+
+pub fn header_in(version: u16, n: u8, b: u8, faulty: u16) -> Vec<u8> {
     let mut bytes = NAME.to_vec();
-    bytes.extend(VERSION.to_le_bytes());
+    bytes.extend(version.to_le_bytes());
     bytes.extend([n, b]);
     bytes.extend(faulty.to_le_bytes());
     bytes
@@ -31,7 +40,7 @@ pub fn set_of(vaults: impl IntoIterator<Item = u8>) -> u16 {
 pub type Written<'a> = (&'a Label, u32);
 
 pub fn record(kind: u8, drive: u8, inputs: &[Written], outputs: &[Written]) -> Bytes {
-    let mut bytes = [0; RECORD_BYTES];
+    let mut bytes = [0; LONG_RECORD_BYTES];
     let head = [kind, drive, inputs.len() as u8, outputs.len() as u8];
     bytes[..HEAD_BYTES].copy_from_slice(&head);
     for (i, tape) in inputs.iter().enumerate() {
@@ -41,6 +50,12 @@ pub fn record(kind: u8, drive: u8, inputs: &[Written], outputs: &[Written]) -> B
         write_entry(&mut bytes, FIRST_OUTPUT + i, tape);
     }
     bytes
+}
+
+/// The record with so many frames trimmed, which a version 1 file does not show.
+pub fn trimmed(mut record: Bytes, frames: u32) -> Bytes {
+    record[RECORD_BYTES..].copy_from_slice(&frames.to_le_bytes());
+    record
 }
 
 fn write_entry(bytes: &mut Bytes, number: usize, (label, frames): &Written) {

@@ -89,6 +89,7 @@ fn one_vault() -> Engine {
         n: 1,
         b: 0,
         faulty: 0,
+        version: 1,
     })
 }
 

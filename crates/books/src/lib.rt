@@ -39,10 +39,15 @@ fn has_arrived(order: &[u8], n: usize, job: u8) -> bool
     false
 }
 
-fn empty(n: u8, b: u8, faulty: u16) -> Ledger
-    ensures { λ r. ⌜ r ≡ newLedger n b faulty ⌝ }
+fn empty(n: u8, b: u8, faulty: u16, version: u16) -> Ledger
+    ensures { λ r. ⌜ r ≡ newLedger n b faulty version ⌝ }
 {
-    let settings = Settings { n, b, faulty };
+    let settings = Settings {
+        n,
+        b,
+        faulty,
+        version,
+    };
     let none = Votes {
         signatures: 0,
         acknowledgements: 0,
@@ -65,10 +70,10 @@ fn empty(n: u8, b: u8, faulty: u16) -> Ledger
 
 // A ledger with nothing in it. Where the settings are lawful the value is the threshold; else the answer is refusal 1,
 // and every step on this ledger is answered so too.
-pub fn new(n: u8, b: u8, faulty: u16) -> Reply
-    ensures { λ r. ⌜ r ≡ newOf n b faulty ⌝ }
+pub fn new(n: u8, b: u8, faulty: u16, version: u16) -> Reply
+    ensures { λ r. ⌜ r ≡ newOf n b faulty version ⌝ }
 {
-    let ledger = empty(n, b, faulty);
+    let ledger = empty(n, b, faulty, version);
     let settings = ledger.settings;
     if settings.is_lawful() {
         return Reply {

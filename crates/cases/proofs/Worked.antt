@@ -4,12 +4,12 @@ use lib.Count.{ones}
 use Rattle.base.specs.Lists.{sameList}
 use Rattle.base.specs.Search.{allBelow, anyBelow, firstBelow, sumFrom}
 use Rattle.checks.specs.Checks.{balanced, checkOf, countsFormed, entryFormed, examined, hasLabelOf, inputsFormed, isBlank}
-use Rattle.checks.specs.Checks.{isFilled, isWritten, repeatedAt, unsupportedAt, wellFormed}
-use Rattle.codec.specs.Codec.{entriesAt, entryAt, jobOf, leAt}
+use Rattle.checks.specs.Checks.{isFilled, isWritten, repeatedAt, trimmedFormed, unsupportedAt, wellFormed}
+use Rattle.codec.specs.Codec.{entriesAt, entryAt, jobOf, leAt, placeOf, recordSize, saysTrimmed, wholeIn}
 use Rattle.record.specs.Drives.{isDrive, supports}
 use Rattle.record.specs.Entries.{framesOf, isUsed, labelOf, usedFrames}
 use Rattle.record.specs.Labels.{charAt, isAlphanumeric, isBetween, isLabel, mediumOf}
-use Rattle.federation.specs.Federation.{isLawful, thresholdOf}
+use Rattle.federation.specs.Federation.{isFederation, isKnown, isLawfulUpTo, thresholdOf}
 use Rattle.journal.specs.Journal.{equalAt, equalIn, hasRoom, insideOf, slotAt}
 use Rattle.ledger.specs.State.{applied, booking, isSane, newLedger}
 use Rattle.ledger.specs.Decisions.{placing, proposal, settling}
@@ -19,8 +19,9 @@ use Rattle.draw.specs.Draw.{drawOf, failing, thousandths, toEven}
 use Rattle.cases.specs.Table.{answered, given, table}
 
 pub cases : answered table ≡ given table
-unfolding sameList anyBelow allBelow firstBelow sumFrom inputsFormed countsFormed isFilled isBlank entryFormed wellFormed hasLabelOf repeatedAt
-    isWritten unsupportedAt balanced checkOf examined leAt entryAt entriesAt jobOf isDrive supports labelOf framesOf isUsed usedFrames isBetween
-    charAt isAlphanumeric mediumOf isLabel isLawful thresholdOf equalAt equalIn hasRoom insideOf slotAt booking isSane newLedger applied placing
-    settling proposal newOf proposeDecision proposeOf saneGate choose factorial drawOf failing thousandths toEven ones
+unfolding sameList anyBelow allBelow firstBelow sumFrom inputsFormed countsFormed isFilled isBlank entryFormed trimmedFormed wellFormed hasLabelOf
+    repeatedAt isWritten unsupportedAt balanced checkOf examined recordSize saysTrimmed placeOf wholeIn leAt entryAt entriesAt jobOf isDrive supports
+    labelOf framesOf isUsed usedFrames isBetween charAt isAlphanumeric mediumOf isLabel isKnown isFederation isLawfulUpTo thresholdOf equalAt equalIn
+    hasRoom insideOf slotAt booking isSane newLedger applied placing settling proposal newOf proposeDecision proposeOf saneGate choose factorial
+    drawOf failing thousandths toEven ones
 cases = refl

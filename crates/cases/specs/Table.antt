@@ -46,18 +46,18 @@ migration drive m o = (1 ∷ drive ∷ 1 ∷ 1 ∷ []) ++ (tape 86 m thousand ++
 
 -- the record proposed to a new ledger, with room for one in the journal
 abbrev pub proposal : List ℕ → Outcome
-proposal bytes = proposeOf (newLedger 4 1 0) (replicate 100 0) bytes .outcome
+proposal bytes = proposeOf (newLedger 4 1 0 1) (replicate 100 0) bytes .outcome
 
 abbrev pub drawAt : ℕ → ℕ → ℕ → Outcome
-drawAt n b u = drawOf (record { n = n; b = b; faulty = 0 }) u
+drawAt n b u = drawOf (record { n = n; b = b; faulty = 0; version = 1 }) u
 
 -- ---- the table
 abbrev pub table : List Row
 table =
     -- n 3, b 1 refused; n 4, b 1 and n 6, b 1 accepted, thresholds 3 and 5
-    row 1 (newOf 3 1 0 .outcome) 1 0
-    ∷ row 2 (newOf 4 1 0 .outcome) 0 3
-    ∷ row 3 (newOf 6 1 0 .outcome) 0 5
+    row 1 (newOf 3 1 0 1 .outcome) 1 0
+    ∷ row 2 (newOf 4 1 0 1 .outcome) 0 3
+    ∷ row 3 (newOf 6 1 0 1 .outcome) 0 5
     -- frames 0 refused; frames 4,294,967,295 accepted
     ∷ row 4 (proposal (accession 7 (tape 86 5 none))) 6 0
     ∷ row 5 (proposal (accession 7 (tape 86 5 most))) 0 0

@@ -22,6 +22,7 @@ formed-as j f h = record {
   drive = h .drive;
   inputs = h .inputs;
   outputs = h .outputs;
+  trimmed = h .trimmed;
   used = λ i l u. let e = h .used i l u in (f i l u (e .0), e .1);
   unused = h .unused;
 }

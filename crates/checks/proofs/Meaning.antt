@@ -3,7 +3,7 @@
 use mathlib.Core.Bool.{Bool, cond, false, not, true}
 use mathlib.Core.Logic.{_⊎_, inl, inr, ⊎-elim}
 use mathlib.Core.Path.{_≡_, refl}
-use Prim.Native.Nat.{_<_, _≤_, ℕ}
+use Prim.Native.Nat.{_+_, _<_, _≤_, ℕ}
 use native.Mathlib.Omega.{arith}
 use lib.Dec.{ltb}
 use borrow.Author.Tests.{lt-ltb, ltb-true}
@@ -17,7 +17,7 @@ use Rattle.outcome.specs.declared.Verdict.{Verdict}
 use Rattle.outcome.specs.declared.Verdict.the-variants.{Fail, Pass}
 use Rattle.record.proofs.Ranges.{reflect-between}
 use Rattle.checks.specs.Checks.{balanced, checkOf, countsFormed, entryFormed, hasLabelOf, inputsFormed, isBlank, isFilled, isWritten, repeatedAt}
-use Rattle.checks.specs.Checks.{unsupportedAt, wellFormed}
+use Rattle.checks.specs.Checks.{trimmedFormed, unsupportedAt, wellFormed}
 use Rattle.record.specs.Drives.{isDrive}
 use Rattle.record.specs.Entries.{framesOf, labelOf, usedFrames}
 use Rattle.record.specs.Meaning.{Label, Used}
@@ -43,14 +43,27 @@ reflect-entry j i =
     (reflect-and (reflect-label (labelOf j i)) (reflect-le 1 (framesOf j i)))
     (reflect-and (reflect-eq (labelOf j i) 0) (reflect-eq (framesOf j i) 0))
 
+reflect-trimmed : (j : Job) → Reflects (trimmedFormed j) (j .kind ≡ 0 → j .trimmed ≡ 0)
+unfolding trimmedFormed
+reflect-trimmed j =
+    reflect-as (reflect-if (reflect-eq (j .kind) 0) (reflect-eq (j .trimmed) 0) (reflect-true true)) (λ h. h .0) (λ h. (h, λ _. refl))
+
 pub reflect-formed : (j : Job) → Reflects (wellFormed j) (WellFormed Label j)
 unfolding wellFormed isDrive countsFormed
 reflect-formed j =
     reflect-as
     (reflect-and (reflect-between 5 9 (j .drive))
-    (reflect-and (reflect-and (reflect-inputs j) (reflect-between 1 4 (j .outputs))) (reflect-all 8 (λ i h. reflect-entry j i))))
-    (λ h. record { drive = h .0; inputs = h .1 .0 .0; outputs = h .1 .0 .1; used = λ i l. h .1 .1 i l .0; unused = λ i l. h .1 .1 i l .1 })
-    (λ h. (h .drive, ((h .inputs, h .outputs), λ i l. (h .used i l, h .unused i l))))
+    (reflect-and (reflect-and (reflect-inputs j) (reflect-between 1 4 (j .outputs)))
+    (reflect-and (reflect-trimmed j) (reflect-all 8 (λ i h. reflect-entry j i)))))
+    (λ h. record {
+      drive = h .0;
+      inputs = h .1 .0 .0;
+      outputs = h .1 .0 .1;
+      trimmed = h .1 .1 .0;
+      used = λ i l. h .1 .1 .1 i l .0;
+      unused = λ i l. h .1 .1 .1 i l .1;
+    })
+    (λ h. (h .drive, ((h .inputs, h .outputs), (h .trimmed, λ i l. (h .used i l, h .unused i l)))))
 
 -- ---- 7
 pub reflect-repeated : (j : Job) (i : ℕ) → Reflects (repeatedAt j i) (RepeatedAt j i)
@@ -74,7 +87,7 @@ reflect-unsupported j i =
 pub reflect-balanced : (j : Job) → Reflects (balanced j) (Balanced j)
 unfolding balanced
 reflect-balanced j =
-    reflect-as (reflect-if (reflect-eq (j .kind) 1) (reflect-eq (sumFrom (usedFrames j) 0 4) (sumFrom (usedFrames j) 4 4)) (reflect-true true))
+    reflect-as (reflect-if (reflect-eq (j .kind) 1) (reflect-eq (sumFrom (usedFrames j) 0 4) (sumFrom (usedFrames j) 4 4 + j .trimmed)) (reflect-true true))
     (λ h. h .0)
     (λ h. (h, λ _. refl))
 

@@ -1,7 +1,7 @@
 -- Checks 6 to 9 ("Records" and "Turned back"), each of which needs the record alone.
 use mathlib.Core.Bool.{Bool, true, cond, not, _&&_}
 use mathlib.Core.List.{List}
-use Prim.Native.Nat.{ℕ}
+use Prim.Native.Nat.{ℕ, _+_}
 use lib.Dec.{eqb, leb, ltb}
 use lib.ListN.{length}
 use Rattle.base.specs.Search.{anyBelow, allBelow, firstBelow, sumFrom}
@@ -32,8 +32,12 @@ isBlank j i = eqb (labelOf j i) 0 && eqb (framesOf j i) 0
 unfoldable pub entryFormed : Job → ℕ → Bool
 entryFormed j i = cond (isUsed j i) (isFilled j i) (isBlank j i)
 
+-- "an accession has 0 trimmed, else 6" (M-102)
+unfoldable pub trimmedFormed : Job → Bool
+trimmedFormed j = cond (eqb (j .kind) 0) (eqb (j .trimmed) 0) true
+
 unfoldable pub wellFormed : Job → Bool
-wellFormed j = isDrive (j .drive) && (countsFormed j && allBelow 8 (entryFormed j))
+wellFormed j = isDrive (j .drive) && (countsFormed j && (trimmedFormed j && allBelow 8 (entryFormed j)))
 
 -- ---- 7: "a used entry's label equals an earlier used entry's"
 
@@ -51,9 +55,9 @@ isWritten j i = leb 4 i && eqb (j .kind) 1
 unfoldable pub unsupportedAt : Job → ℕ → Bool
 unsupportedAt j i = isUsed j i && not (supports (isWritten j i) (j .drive) (mediumOf (labelOf j i)))
 
--- ---- 9: "In a migration the input frames add up to the output frames."
+-- ---- 9: "In a migration input frames equal output frames plus trimmed" (M-102)
 unfoldable pub balanced : Job → Bool
-balanced j = cond (eqb (j .kind) 1) (eqb (sumFrom (usedFrames j) 0 4) (sumFrom (usedFrames j) 4 4)) true
+balanced j = cond (eqb (j .kind) 1) (eqb (sumFrom (usedFrames j) 0 4) (sumFrom (usedFrames j) 4 4 + j .trimmed)) true
 
 -- ---- the first refusal, in the table's order
 unfoldable pub checkOf : Job → Verdict
@@ -66,6 +70,6 @@ checkOf j =
     (cond (balanced j) Pass (Fail Unbalanced))))
     (Fail Malformed)
 
--- of bytes: any other number of them is malformed
-unfoldable pub examined : List ℕ → Verdict
-examined bytes = cond (eqb (length bytes) recordSize) (checkOf (jobOf bytes)) (Fail Malformed)
+-- of bytes: any other number of them than the version's records have is malformed
+unfoldable pub examined : ℕ → List ℕ → Verdict
+examined version bytes = cond (eqb (length bytes) (recordSize version)) (checkOf (jobOf bytes)) (Fail Malformed)

@@ -2,7 +2,7 @@
 use mathlib.Core.Bool.{Bool, false, true}
 use mathlib.Core.Logic.{_⊎_}
 use mathlib.Core.Path.{_≡_}
-use Prim.Native.Nat.{_≤_, ℕ}
+use Prim.Native.Nat.{_+_, _≤_, ℕ}
 use Rattle.base.specs.Search.{Every, Least, Some, sumFrom}
 use Rattle.outcome.specs.declared.Refusal.the-variants.{Malformed, Repeated, Unbalanced, Unsupported}
 use Rattle.outcome.specs.declared.Verdict.{Verdict}
@@ -19,6 +19,7 @@ pub record WellFormed (Claim : ℕ → Type 0) (j : Job) : Type 0 where
   pub inputs : ((j .kind ≡ 0) × (j .inputs ≡ 0)) ⊎ ((j .kind ≡ 1) × ((1 ≤ j .inputs) × (j .inputs ≤ 4)))
   pub outputs : (1 ≤ j .outputs) × (j .outputs ≤ 4)
   pub used : Every 8 (λ i. Used j i → Claim (labelOf j i) × (1 ≤ framesOf j i))
+  pub trimmed : j .kind ≡ 0 → j .trimmed ≡ 0
   pub unused : Every 8 (λ i. (Used j i → ⊥) → (labelOf j i ≡ 0) × (framesOf j i ≡ 0))
 
 -- 7, at entry i: it is used, and an earlier used entry has its label
@@ -36,9 +37,9 @@ UnsupportedAt can j i =
     × ((((4 ≤ i) × (j .kind ≡ 1)) × (can true (j .drive) (labelOf j i) ≡ false))
     ⊎ ((((4 ≤ i) × (j .kind ≡ 1)) → ⊥) × (can false (j .drive) (labelOf j i) ≡ false)))
 
--- 9: in a migration the frames of the inputs are those of the outputs
+-- 9: in a migration the frames of the inputs are those of the outputs and those that are trimmed
 abbrev pub Balanced : Job → Type 0
-Balanced j = j .kind ≡ 1 → sumFrom (usedFrames j) 0 4 ≡ sumFrom (usedFrames j) 4 4
+Balanced j = j .kind ≡ 1 → sumFrom (usedFrames j) 0 4 ≡ sumFrom (usedFrames j) 4 4 + j .trimmed
 
 -- none of 8 entries has P
 abbrev pub Nowhere : (ℕ → Type 0) → Type 0

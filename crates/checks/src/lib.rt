@@ -1,6 +1,7 @@
 // Checks 6 to 9, in the order of document 01's table.
+ghost use mathlib.Core.Bool.{_&&_};
 ghost use mathlib.Core.Path.{_≡_};
-ghost use Prim.Native.Nat.{_≤_, _<_};
+ghost use Prim.Native.Nat.{_≤_, _<_, _^_};
 ghost use Rattle.base.specs.Search.{anyBelow, allBelow, firstBelow, sumFrom};
 ghost use Rattle.record.specs.Entries.{usedFrames};
 ghost use Rattle.checks.specs.Checks.{
@@ -9,6 +10,7 @@ ghost use Rattle.checks.specs.Checks.{
   isFilled,
   isBlank,
   entryFormed,
+  trimmedFormed,
   wellFormed,
   hasLabelOf,
   repeatedAt,
@@ -18,7 +20,6 @@ ghost use Rattle.checks.specs.Checks.{
   checkOf,
   examined,
 };
-use codec::RECORD;
 use outcome::Refusal;
 use outcome::Verdict;
 use record::Job;
@@ -87,13 +88,32 @@ fn entries_formed(job: Job) -> bool
     true
 }
 
+// An accession trims nothing.
+fn trimmed_formed(job: Job) -> bool
+    ensures { λ r. ⌜ r ≡ trimmedFormed job ⌝ }
+{
+    if job.kind == 0 {
+        return job.trimmed == 0;
+    }
+    true
+}
+
+fn filled(job: Job) -> bool
+    ensures { λ r. ⌜ r ≡ (trimmedFormed job && allBelow 8 (entryFormed job)) ⌝ }
+{
+    if trimmed_formed(job) {
+        return entries_formed(job);
+    }
+    false
+}
+
 // Check 6.
 fn well_formed(job: Job) -> bool
     ensures { λ r. ⌜ r ≡ wellFormed job ⌝ }
 {
     if drives::is_drive(job.drive) {
         if counts_formed(job) {
-            return entries_formed(job);
+            return filled(job);
         }
         return false;
     }
@@ -177,7 +197,7 @@ fn first_unsupported(job: Job) -> u8
 // The frames of a half's used entries, exactly: four numbers of 32 bits fit 64.
 fn total(job: Job, half: usize) -> u64
     requires { ⌜ half ≤ 4 ⌝ }
-    ensures { λ r. ⌜ r ≡ sumFrom (usedFrames job) half 4 ⌝ }
+    ensures { λ r. ⌜ (r ≡ sumFrom (usedFrames job) half 4) × (r < 2 ^ 34) ⌝ }
 {
     let mut sum: u64 = 0;
     for i in 0..4 {
@@ -186,12 +206,12 @@ fn total(job: Job, half: usize) -> u64
     sum
 }
 
-// Check 9.
+// Check 9. Five numbers of 32 bits fit 64.
 fn is_balanced(job: Job) -> bool
     ensures { λ r. ⌜ r ≡ balanced job ⌝ }
 {
     if job.kind == 1 {
-        return total(job, 0) == total(job, 4);
+        return total(job, 0) == total(job, 4) + job.trimmed as u64;
     }
     true
 }
@@ -217,12 +237,12 @@ pub fn check(job: Job) -> Verdict
     Verdict::Fail(Refusal::Unbalanced)
 }
 
-// The same of a record's bytes; any other number of bytes is malformed.
-pub fn examine(bytes: &[u8]) -> Verdict
-    ensures { λ r. ⌜ r ≡ examined (now (bytes .entry)) ⌝ }
+// The same of a record's bytes; any other number of bytes than the version's records have is malformed.
+pub fn examine(version: u16, bytes: &[u8]) -> Verdict
+    ensures { λ r. ⌜ r ≡ examined version (now (bytes .entry)) ⌝ }
 {
-    if bytes.len() == RECORD {
-        return check(codec::read(bytes));
+    if bytes.len() == codec::record_size(version) {
+        return check(codec::read(version, bytes));
     }
     Verdict::Fail(Refusal::Malformed)
 }

@@ -1,15 +1,19 @@
 -- Records: a step of each loop over the entries.
-use mathlib.Core.List.{List, [], _++_, _∷_}
+use mathlib.Core.Bool.{cond, false, true}
+use mathlib.Core.List.{List, [], _++_, _∷_, append-nil}
 use mathlib.Core.Path.{_∙_, _≡_, ap, refl, sym}
 use Prim.Native.Nat.{_*_, _+_, _-_, _<_, _≤_, suc, zero, ℕ}
-use native.Mathlib.Nat.{not-suc-le-zero}
+use native.Mathlib.Nat.{not-suc-le-zero, zero-add}
 use native.Mathlib.Numerals.{add-one}
 use native.Mathlib.Omega.{arith}
-use lib.ListN.{drop, drop-of-length-le, getD, length, length-append, set}
+use lib.Dec.{leb}
+use lib.ListN.{drop, drop-of-length-le, getD, length, length-append, length-drop, set}
 use lib.Seq.{drop-cons, sets, sets-eq}
-use borrow.Author.Tests.{le-leb}
+use borrow.Author.Tests.{le-leb, leb-true}
+use Rattle.base.proofs.Reflect.{by-cases}
 use Rattle.codec.proofs.Numbers.{length-leBytes, sets-append}
-use Rattle.codec.specs.Codec.{bytesOf, entriesAt, entriesBytes, entryAt, entryBytes, entrySize, fitsRecord, headSize, jobOf, leBytes, written}
+use Rattle.codec.specs.Codec.{bodyOf, bytesOf, entriesAt, entriesBytes, entryAt, entryBytes, entrySize, fitsRecord, headSize, jobOf, leBytes}
+use Rattle.codec.specs.Codec.{frontJob, recordSize, saysTrimmed, written}
 use Rattle.record.specs.Entries.{noEntry}
 use Rattle.record.specs.declared.Entry.{Entry}
 use Rattle.record.specs.declared.Job.{Job}
@@ -50,19 +54,56 @@ unfolding entriesBytes
 length-entriesBytes [] = refl
 length-entriesBytes (e ∷ es) = rw (length-append, length-entryBytes, length-entriesBytes es) (omega arith)
 
-pub length-bytesOf : (j : Job) → length (j .entries) ≡ 8 → length (bytesOf j) ≡ 100
-unfolding bytesOf
-length-bytesOf j h = omega (arith, length-entriesBytes (j .entries))
+pub length-bodyOf : (j : Job) → length (j .entries) ≡ 8 → length (bodyOf j) ≡ 100
+unfolding bodyOf
+length-bodyOf j h = omega (arith, length-entriesBytes (j .entries))
+
+pub length-bytesOf : (version : ℕ) (j : Job) → length (j .entries) ≡ 8 → length (bytesOf version j) ≡ recordSize version
+unfolding bytesOf recordSize
+length-bytesOf version j h =
+    by-cases (λ t. length (bodyOf j ++ cond t (leBytes 4 (j .trimmed)) []) ≡ cond t 104 100) (saysTrimmed version)
+    (λ _. length-append (bodyOf j) (leBytes 4 (j .trimmed)) ∙ rw (length-bodyOf j h, length-leBytes 4 (j .trimmed)))
+    (λ _. length-append (bodyOf j) [] ∙ rw (length-bodyOf j h))
+
+-- all entries stored after the head
+pub body-done : (o out : List ℕ) (j : Job) (i : ℕ) → 8 ≤ i → length (j .entries) ≡ 8
+    → sets out (4 + 12 * i) (entriesBytes (drop i (j .entries))) ≡ sets o 0 (bodyOf j) → out ≡ sets o 0 (bodyOf j)
+unfolding entriesBytes
+body-done o out j i hi n e =
+    let none : drop i (j .entries) ≡ [] = drop-of-length-le (j .entries) {i = i} (omega arith) in
+    rw none at e
 
 -- the whole record stored at the front
-pub write-done : (o out : List ℕ) (j : Job) (i : ℕ) → 8 ≤ i → length (j .entries) ≡ 8 → 100 ≤ length o
-    → sets out (4 + 12 * i) (entriesBytes (drop i (j .entries))) ≡ sets o 0 (bytesOf j) → out ≡ written j o
-unfolding written fitsRecord entriesBytes
-write-done o out j i hi n h e =
-    let none : drop i (j .entries) ≡ [] = drop-of-length-le (j .entries) {i = i} (omega arith) in
-    let all : length (bytesOf j) ≡ 100 = length-bytesOf j n in
-    let stored : sets o 0 (bytesOf j) ≡ bytesOf j ++ drop 100 o = sets-eq (bytesOf j) o 0 (omega arith) ∙ rw all in
-    simp (le-leb 100 (length o) h) (rw none at e ∙ stored)
+pub whole-record : (version : ℕ) (o : List ℕ) (j : Job) → length (j .entries) ≡ 8 → recordSize version ≤ length o
+    → sets o 0 (bytesOf version j) ≡ written version j o
+unfolding written fitsRecord
+whole-record version o j n h =
+    let all = length-bytesOf version j n in
+    simp (le-leb (recordSize version) (length o) h) (sets-eq (bytesOf version j) o 0 (omega (arith, all, h)) ∙ rw (all, zero-add))
+
+pub length-written : (version : ℕ) (j : Job) (o : List ℕ) → length (j .entries) ≡ 8 → length (written version j o) ≡ length o
+unfolding written fitsRecord
+length-written version j o n =
+    let all = length-bytesOf version j n in
+    by-cases (λ t. length (cond t (bytesOf version j ++ drop (recordSize version) o) o) ≡ length o) (leb (recordSize version) (length o))
+    (λ t. rw (length-append, all, length-drop) (omega (arith, leb-true (recordSize version) (length o) t)))
+    (λ _. refl)
+
+pub write-plain : (version : ℕ) (o out : List ℕ) (j : Job) → saysTrimmed version ≡ false → length (j .entries) ≡ 8 → recordSize version ≤ length o
+    → out ≡ sets o 0 (bodyOf j) → out ≡ written version j o
+unfolding bytesOf
+write-plain version o out j t n h e =
+    let plain : bytesOf version j ≡ bodyOf j = simp (t, append-nil) in
+    e ∙ ap (λ (l : List ℕ). sets o 0 l) (sym plain) ∙ whole-record version o j n h
+
+pub write-trimmed : (version : ℕ) (o mid out : List ℕ) (j : Job) → saysTrimmed version ≡ true → length (j .entries) ≡ 8 → recordSize version ≤ length o
+    → mid ≡ sets o 0 (bodyOf j) → out ≡ sets mid 100 (leBytes 4 (j .trimmed)) → out ≡ written version j o
+unfolding bytesOf
+write-trimmed version o mid out j t n h a b =
+    let more : bytesOf version j ≡ bodyOf j ++ leBytes 4 (j .trimmed) = simp t in
+    b ∙ ap (λ (l : List ℕ). sets l 100 (leBytes 4 (j .trimmed))) a
+    ∙ sym (sets-append (bodyOf j) o 0 (leBytes 4 (j .trimmed)) ∙ rw (length-bodyOf j n))
+    ∙ ap (λ (l : List ℕ). sets o 0 l) (sym more) ∙ whole-record version o j n h
 
 -- ---- an entry of the job that some bytes say
 entries-get : (s : List ℕ) (at n e : ℕ) → e < n → getD (entriesAt s at n) e noEntry ≡ entryAt s (at + entrySize * e)
@@ -80,3 +121,7 @@ job-entry s e l = entries-get s headSize 8 e l
 pub no-entry : (s : List ℕ) (e : ℕ) → 8 ≤ e → noEntry ≡ getD (jobOf s .entries) e noEntry
 unfolding jobOf entriesAt
 no-entry s e h = entry-past (jobOf s) e refl h
+
+pub front-eight : (version : ℕ) (s : List ℕ) (j : Job) → j ≡ frontJob version s → length (j .entries) ≡ 8
+unfolding frontJob jobOf entriesAt
+front-eight version s j e = ap (λ (x : Job). length (x .entries)) e

@@ -1,21 +1,24 @@
 -- A record and its job are one another's.
+use mathlib.Core.Bool.{cond, false, true, true≢false}
 use mathlib.Core.List.{List, [], _++_, _∷_, append-assoc, append-nil, map}
+use mathlib.Core.Logic.{_⊎_, ⊎-elim}
 use mathlib.Core.Path.{_∙_, _≡_, ap, ap₂, refl, sym}
 use Prim.Native.Nat.{_%_, _*_, _+_, _/_, _<_, _^_, _≤_, suc, zero, ℕ}
 use native.Mathlib.Nat.{add-assoc, add-zero}
 use native.Mathlib.Numerals.{add-one}
 use native.Mathlib.Omega.{arith}
-use lib.ListN.{drop, drop-of-length-le, getD, length, length-drop, take}
+use lib.ListN.{List·getD-eq-default, drop, getD, length, length-append, take}
 use lib.Pow.{pow-add}
 use mir.Val.{Val}
 use denote.Array.{each}
 use denote.Shadow.{shadow}
 use borrow.Author.Tests.{le-leb}
-use lib.Seq.{drop-cons, drop-drop, getD-append-add, take-add, take-all}
-use Rattle.codec.proofs.Jobs.{length-entryBytes}
+use lib.Seq.{drop-cons, drop-drop, getD-append-add, take-add, take-all, take-append-seam}
+use Rattle.base.proofs.Reflect.{by-cases}
+use Rattle.codec.proofs.Jobs.{length-bodyOf, length-bytesOf, length-entryBytes, length-written}
 use Rattle.codec.proofs.Numbers.{length-leBytes}
-use Rattle.codec.specs.Codec.{AreBytes, EntriesFit, JobFits, bytesOf, entriesAt, entriesBytes, entryAt, entryBytes, fitsRecord, jobOf, leAt}
-use Rattle.codec.specs.Codec.{leBytes, written}
+use Rattle.codec.specs.Codec.{AreBytes, EntriesFit, JobFits, bodyOf, bodySize, bytesOf, entriesAt, entriesBytes, entryAt, entryBytes, fitsRecord}
+use Rattle.codec.specs.Codec.{frontJob, jobOf, leAt, leBytes, recordSize, saidOf, saysTrimmed, written}
 use Rattle.record.proofs.Entry.{the-field}
 use Rattle.record.specs.declared.Entry.{Entry}
 use Rattle.record.specs.declared.Job.{Job}
@@ -64,12 +67,36 @@ entriesAt-bytes (e ∷ es) s h =
     rw at12 at (entriesAt-append (entryBytes e) (entriesBytes es ++ s) 0 (length es)) ∙ entriesAt-bytes es s (h .2) in
     rw append-assoc (ap₂ (λ (x : Entry) (xs : List Entry). x ∷ xs) first rest)
 
-pub job-record-job : (j : Job) (rest : List ℕ) → JobFits j → jobOf (bytesOf j ++ rest) ≡ j
-unfolding jobOf bytesOf
-job-record-job j rest h =
-    let e : entriesAt (entriesBytes (j .entries) ++ rest) 0 8 ≡ j .entries = rw (h .eight) at (entriesAt-bytes (j .entries) rest (h .fit)) in
-    ap (λ (es : List Entry). record { kind = j .kind; drive = j .drive; inputs = j .inputs; outputs = j .outputs; entries = es })
-    (entriesAt-append (j .kind ∷ j .drive ∷ j .inputs ∷ j .outputs ∷ []) (entriesBytes (j .entries) ++ rest) 0 8 ∙ e)
+-- a number that begins where the bytes end is 0
+leAt-past : (k : ℕ) (s : List ℕ) (at : ℕ) → length s ≤ at → leAt s at k ≡ 0
+unfolding leAt
+leAt-past zero s at h = refl
+leAt-past (suc k) s at h = omega (arith, List·getD-eq-default s 0 {n = at} h, leAt-past k s (at + 1) (omega arith))
+
+trimmed-read : (version : ℕ) (j : Job) → JobFits j → leAt (bytesOf version j) bodySize 4 ≡ cond (saysTrimmed version) (j .trimmed) 0
+unfolding bytesOf
+trimmed-read version j h =
+    let n : length (bodyOf j) ≡ 100 = length-bodyOf j (h .eight) in
+    let at : length (bodyOf j) + 0 ≡ 100 = add-zero _ ∙ n in
+    by-cases (λ t. leAt (bodyOf j ++ cond t (leBytes 4 (j .trimmed)) []) bodySize 4 ≡ cond t (j .trimmed) 0) (saysTrimmed version)
+    (λ _. rw at at (leAt-append (bodyOf j) (leBytes 4 (j .trimmed)) 0 4) ∙ ap (λ (l : List ℕ). leAt l 0 4) (sym (append-nil (leBytes 4 (j .trimmed))))
+    ∙ leAt-bytes 4 (j .trimmed) [] (h .trimmed))
+    (λ _. leAt-past 4 (bodyOf j ++ []) bodySize (omega (arith, n, length-append (bodyOf j) [])))
+
+entries-read : (version : ℕ) (j : Job) → JobFits j → entriesAt (bytesOf version j) 4 8 ≡ j .entries
+unfolding bytesOf bodyOf
+entries-read version j h =
+    let rest = cond (saysTrimmed version) (leBytes 4 (j .trimmed)) [] in
+    entriesAt-append (j .kind ∷ j .drive ∷ j .inputs ∷ j .outputs ∷ []) (entriesBytes (j .entries) ++ rest) 0 8
+    ∙ rw (h .eight) at (entriesAt-bytes (j .entries) rest (h .fit))
+
+-- of a record's own bytes
+pub job-record-job : (version : ℕ) (j : Job) → JobFits j → jobOf (bytesOf version j) ≡ saidOf version j
+unfolding jobOf saidOf bytesOf bodyOf
+job-record-job version j h =
+    ap₂ (λ (es : List Entry) (t : ℕ). record { kind = j .kind; drive = j .drive; inputs = j .inputs; outputs = j .outputs; entries = es; trimmed = t })
+    (entries-read version j h)
+    (trimmed-read version j h)
 
 -- ---- from a record to its job and back
 
@@ -95,13 +122,24 @@ entriesBytes-entriesAt (suc n) s at b h =
     rw (entryBytes-entryAt s at b (omega arith), entriesBytes-entriesAt n s (at + 12) b (omega arith), m)
     (sym (take-add 12 (12 * n) (drop at s) ∙ rw (drop-drop 12 at s)))
 
-pub record-job-record : (r : List ℕ) → length r ≡ 100 → AreBytes r → bytesOf (jobOf r) ≡ r
-unfolding jobOf bytesOf
-record-job-record r n b =
-    let body : entriesBytes (entriesAt r 4 8) ≡ drop 4 r =
-    entriesBytes-entriesAt 8 r 4 b (omega arith) ∙ take-all 96 (drop 4 r) (simp length-drop (omega arith)) in
-    rw body (sym (drop-cons r 0 0 (omega arith) ∙ ap (λ (l : List ℕ). getD r 0 0 ∷ l) (drop-cons r 1 0 (omega arith)
-    ∙ ap (λ (l : List ℕ). getD r 1 0 ∷ l) (drop-cons r 2 0 (omega arith) ∙ ap (λ (l : List ℕ). getD r 2 0 ∷ l) (drop-cons r 3 0 (omega arith))))))
+body-record : (r : List ℕ) → 100 ≤ length r → AreBytes r → bodyOf (jobOf r) ≡ take 100 r
+unfolding jobOf bodyOf
+body-record r n b =
+    let body : entriesBytes (entriesAt r 4 8) ≡ take 96 (drop 4 r) = entriesBytes-entriesAt 8 r 4 b (omega arith) in
+    rw body (sym (ap (take 100) (drop-cons r 0 0 (omega arith) ∙ ap (λ (l : List ℕ). getD r 0 0 ∷ l) (drop-cons r 1 0 (omega arith)
+    ∙ ap (λ (l : List ℕ). getD r 1 0 ∷ l) (drop-cons r 2 0 (omega arith) ∙ ap (λ (l : List ℕ). getD r 2 0 ∷ l) (drop-cons r 3 0 (omega arith)))))))
+
+last-record : (r : List ℕ) → length r ≡ 104 → AreBytes r → leBytes 4 (jobOf r .trimmed) ≡ take 4 (drop 100 r)
+unfolding jobOf
+last-record r m b = leBytes-leAt 4 r 100 b (omega (arith, m))
+
+pub record-job-record : (version : ℕ) (r : List ℕ) → length r ≡ recordSize version → AreBytes r → bytesOf version (jobOf r) ≡ r
+unfolding bytesOf recordSize
+record-job-record version r n b =
+    by-cases (λ t. length r ≡ cond t 104 100 → bodyOf (jobOf r) ++ cond t (leBytes 4 (jobOf r .trimmed)) [] ≡ r) (saysTrimmed version)
+    (λ _ m. rw (body-record r (omega (arith, m)) b, last-record r m b) (sym (take-add 100 4 r) ∙ take-all 104 r (omega (arith, m))))
+    (λ _ m. append-nil _ ∙ body-record r (omega (arith, m)) b ∙ take-all 100 r (omega (arith, m)))
+    n
 
 -- ---- as the code asks them
 
@@ -112,13 +150,44 @@ entries-fit [] us s = tt
 entries-fit (e ∷ es) [] s = absurd s
 entries-fit (e ∷ es) (u ∷ us) s = (s .0 .1 .1 .0 .1, s .0 .1 .1 .1 .0 .1, entries-fit es us (s .1))
 
-stored : (j : Job) (o out : List ℕ) → length o ≡ 100 → out ≡ written j o → out ≡ bytesOf j
+-- what stands at the front of a buffer with room for it is the record
+pub front-record : (version : ℕ) (j : Job) (o : List ℕ) → length (j .entries) ≡ 8 → recordSize version ≤ length o
+    → take (recordSize version) (written version j o) ≡ bytesOf version j
 unfolding written fitsRecord
-stored j o out n e =
-    e ∙ simp (le-leb 100 (length o) (omega arith), drop-of-length-le o {i = 100} (omega arith), append-nil)
+front-record version j o n h =
+    let size = length-bytesOf version j n in
+    simp (le-leb (recordSize version) (length o) h) (rw (sym size) (take-append-seam (bytesOf version j) _))
 
-pub same-job : (j : Job) (o out : List ℕ) → JobFits j → length o ≡ 100 → out ≡ written j o → jobOf out ≡ j
-same-job j o out h n e = ap jobOf (stored j o out n e ∙ sym (append-nil (bytesOf j))) ∙ job-record-job j [] h
+pub same-job : (version : ℕ) (j : Job) (o out : List ℕ) → JobFits j → recordSize version ≤ length o → out ≡ written version j o
+    → frontJob version out ≡ saidOf version j
+unfolding frontJob
+same-job version j o out h n e =
+    ap (λ (l : List ℕ). jobOf (take (recordSize version) l)) e ∙ ap jobOf (front-record version j o (h .eight) n) ∙ job-record-job version j h
 
-pub same-bytes : (j : Job) (r o out : List ℕ) → length r ≡ 100 → length o ≡ 100 → AreBytes r → j ≡ jobOf r → out ≡ written j o → out ≡ r
-same-bytes j r o out m n b q e = stored j o out n e ∙ ap bytesOf q ∙ record-job-record r m b
+-- a record alone is its own front
+pub front-whole : (version : ℕ) (r : List ℕ) → length r ≡ recordSize version → frontJob version r ≡ jobOf r
+unfolding frontJob
+front-whole version r n = ap jobOf (take-all (recordSize version) r (omega (arith, n)))
+
+pub same-bytes : (version : ℕ) (j : Job) (r o out : List ℕ) → length (j .entries) ≡ 8 → length r ≡ recordSize version → length o ≡ recordSize version
+    → AreBytes r → j ≡ frontJob version r → out ≡ written version j o → out ≡ r
+same-bytes version j r o out eight m n b q e =
+    let all : length out ≡ recordSize version = ap length e ∙ length-written version j o eight ∙ n in
+    sym (take-all (recordSize version) out (omega (arith, all))) ∙ ap (take (recordSize version)) e ∙ front-record version j o eight (omega (arith, n))
+    ∙ ap (bytesOf version) (q ∙ front-whole version r m) ∙ record-job-record version r m b
+
+-- a record whose version has no place for trimmed frames says none
+pub plain-untrimmed : (version : ℕ) (r : List ℕ) → saysTrimmed version ≡ false → length r ≡ recordSize version → jobOf r .trimmed ≡ 0
+unfolding jobOf recordSize
+plain-untrimmed version r e n =
+    let plain : recordSize version ≡ 100 = simp e in
+    leAt-past 4 r bodySize (omega (arith, n, plain))
+
+-- what a record says of a job is the job, in version 2, and in version 1 if it trims nothing
+pub said-same : (version : ℕ) (j : Job) → (saysTrimmed version ≡ true) ⊎ (j .trimmed ≡ 0) → saidOf version j ≡ j
+unfolding saidOf
+said-same version j h =
+    ap (λ (t : ℕ). record { kind = j .kind; drive = j .drive; inputs = j .inputs; outputs = j .outputs; entries = j .entries; trimmed = t })
+    (by-cases (λ t. saysTrimmed version ≡ t → cond t (j .trimmed) 0 ≡ j .trimmed) (saysTrimmed version)
+    (λ _ e. refl)
+    (λ _ e. ⊎-elim (λ t. absurd (true≢false (sym t ∙ e))) (λ z. sym z) h) refl)

@@ -1,19 +1,54 @@
 // Reading a record and writing one.
 ghost use mathlib.Core.Path.{_≡_};
 ghost use Prim.Native.Nat.{_+_, _*_, _≤_, _<_, _^_};
-ghost use lib.ListN.{length, getD};
+ghost use lib.ListN.{length, getD, take};
 ghost use lib.Seq.{sets};
-ghost use Rattle.codec.specs.Codec.{leAt, leBytes, entryAt, entryBytes, jobOf, fitsRecord, written};
+ghost use Rattle.codec.specs.Codec.{leAt, leBytes, entryAt, entryBytes, jobOf, frontJob, bodyOf, fitsRecord, written, saidOf};
+ghost use Rattle.codec.specs.Codec.{saysTrimmed, recordSize, placeOf, wholeIn};
 ghost use Rattle.record.specs.Entries.{noEntry};
 use record::Entry;
 use record::Job;
 
-// How many bytes a record has, an entry, and what stands before the entries.
-pub const RECORD: usize = 100;
+// How many bytes the longest record has, an entry, what stands before the entries, and what before the trimmed frames.
+pub const LONGEST: usize = 104;
 
 const ENTRY: usize = 12;
 
 const HEAD: usize = 4;
+
+const BODY: usize = 100;
+
+// Whether records of the version say how many frames are trimmed.
+fn says_trimmed(version: u16) -> bool
+    ensures { λ r. ⌜ r ≡ saysTrimmed version ⌝ }
+{
+    version == 2
+}
+
+// How many bytes a record has.
+pub fn record_size(version: u16) -> usize
+    ensures { λ r. ⌜ (r ≡ recordSize version) × ((100 ≤ r) × (r ≤ 104)) ⌝ }
+{
+    if says_trimmed(version) {
+        return LONGEST;
+    }
+    BODY
+}
+
+// Where record k begins in a row of records. Asked only of records that lie in memory, so their places are numbers of 64 bits.
+pub fn place(version: u16, k: usize) -> usize
+    requires { ⌜ placeOf version k < 2 ^ 64 ⌝ }
+    ensures { λ r. ⌜ r ≡ placeOf version k ⌝ }
+{
+    record_size(version) * k
+}
+
+// How many whole records n bytes hold.
+pub fn whole_in(version: u16, n: usize) -> usize
+    ensures { λ r. ⌜ r ≡ wholeIn version n ⌝ }
+{
+    n / record_size(version)
+}
 
 // The byte at i; past the end it counts as 0.
 fn byte_at(s: &[u8], i: usize) -> u8
@@ -105,8 +140,8 @@ pub fn outputs_of(bytes: &[u8]) -> u8
     byte_at(bytes, 3)
 }
 
-// The job that the bytes say; bytes past the end count as 0.
-pub fn read(bytes: &[u8]) -> Job
+// The job of a record's own bytes; bytes past the end count as 0.
+fn said(bytes: &[u8]) -> Job
     ensures { λ r. ⌜ r ≡ jobOf (now (bytes .entry)) ⌝ }
 {
     let mut entries = [Entry {
@@ -122,7 +157,26 @@ pub fn read(bytes: &[u8]) -> Job
         inputs: byte_at(bytes, 2),
         outputs: byte_at(bytes, 3),
         entries,
+        trimmed: number_at(bytes, BODY, 4) as u32,
     }
+}
+
+// The bytes of the record at the front.
+fn front(version: u16, bytes: &[u8]) -> &[u8]
+    ensures { λ r. ⌜ now r ≡ take (recordSize version) (now (bytes .entry)) ⌝ }
+{
+    let size = record_size(version);
+    if size < bytes.len() {
+        return &bytes[..size];
+    }
+    bytes
+}
+
+// The job of the record at the front; bytes past the end count as 0, and what follows the record is not read.
+pub fn read(version: u16, bytes: &[u8]) -> Job
+    ensures { λ r. ⌜ r ≡ frontJob version (now (bytes .entry)) ⌝ }
+{
+    said(front(version, bytes))
 }
 
 fn put_number(out: &mut [u8], at: usize, count: usize, value: u64)
@@ -144,13 +198,11 @@ fn put_entry(out: &mut [u8], at: usize, entry: Entry)
     put_number(out, at + 8, 4, entry.frames as u64);
 }
 
-// Puts the job's record at the front of out. An out that is too short is left as it was, and the answer is false.
-pub fn write(job: Job, out: &mut [u8]) -> bool
-    ensures { λ r. ⌜ (r ≡ fitsRecord (now (out .entry))) × (now (out .exit) ≡ written job (now (out .entry))) ⌝ }
+// Puts at the front what records of both versions have.
+fn put_body(job: Job, out: &mut [u8])
+    requires { ⌜ 100 ≤ length (now out) ⌝ }
+    ensures { λ _. ⌜ now (out .exit) ≡ sets (now (out .entry)) 0 (bodyOf job) ⌝ }
 {
-    if out.len() < RECORD {
-        return false;
-    }
     out[0] = job.kind;
     out[1] = job.drive;
     out[2] = job.inputs;
@@ -158,28 +210,48 @@ pub fn write(job: Job, out: &mut [u8]) -> bool
     for i in 0..8 {
         put_entry(out, HEAD + ENTRY * i, job.entries[i]);
     }
+}
+
+// Puts the job's record at the front of out. An out that is too short is left as it was, and the answer is false.
+pub fn write(version: u16, job: Job, out: &mut [u8]) -> bool
+    ensures { λ r. ⌜ (r ≡ fitsRecord version (now (out .entry))) × (now (out .exit) ≡ written version job (now (out .entry))) ⌝ }
+{
+    if out.len() < record_size(version) {
+        return false;
+    }
+    put_body(job, out);
+    if says_trimmed(version) {
+        put_number(out, BODY, 4, job.trimmed as u64);
+        return true;
+    }
     true
 }
 
-// The job's record, read again: it says the same job.
-pub fn reread(job: Job) -> Job
-    ensures { λ r. ⌜ r ≡ job ⌝ }
+// The job's record, read again: it says the same job, but for frames trimmed where the version has no place for them.
+pub fn reread(version: u16, job: Job) -> Job
+    ensures { λ r. ⌜ r ≡ saidOf version job ⌝ }
 {
-    let mut bytes = [0u8; RECORD];
-    write(job, &mut bytes);
-    read(&bytes)
+    let mut bytes = [0u8; LONGEST];
+    write(version, job, &mut bytes);
+    read(version, &bytes)
 }
 
-fn again(bytes: &[u8], out: &mut [u8])
-    requires { ⌜ (length (now bytes) ≡ 100) × (length (now out) ≡ 100) ⌝ }
+fn again(version: u16, bytes: &[u8], out: &mut [u8])
+    requires { ⌜ (length (now bytes) ≡ recordSize version) × (length (now out) ≡ recordSize version) ⌝ }
     ensures { λ _. ⌜ now (out .exit) ≡ now (bytes .entry) ⌝ }
 {
-    write(read(bytes), out);
+    write(version, read(version, bytes), out);
 }
 
-// The record of the job that the bytes say: it is the same bytes.
-pub fn rewrite(bytes: &[u8; 100], out: &mut [u8; 100])
+// The record of the job that the bytes say: it is the same bytes, in version 1 and in version 2.
+pub fn rewrite_first(bytes: &[u8; 100], out: &mut [u8; 100])
     ensures { λ _. ⌜ now (out .exit) ≡ now (bytes .entry) ⌝ }
 {
-    again(bytes, out);
+    again(1, bytes, out);
+}
+
+pub fn rewrite_second(bytes: &[u8; 104], out: &mut [u8; 104])
+    ensures { λ _. ⌜ now (out .exit) ≡ now (bytes .entry) ⌝ }
+{
+    again(2, bytes, out);
 }

@@ -165,7 +165,7 @@ accessionFrames j = cond (eqb (j .kind) 0) (framesIn (outputTapes j)) 0
 
 pub record WellFormed (j : Job) : Type 0 where
   pub distinct : Distinct (labels (inputTapes j ++ outputTapes j))
-  pub balance : framesIn (inputTapes j) + accessionFrames j ≡ framesIn (outputTapes j)
+  pub balance : framesIn (inputTapes j) + accessionFrames j ≡ framesIn (outputTapes j) + j .trimmed
   -- some tape is made
   pub made : In (getD (j .entries) 4 noEntry) (outputTapes j)
 
@@ -174,15 +174,15 @@ unfolding usedFrom isUsed
 no-inputs j e = rw e
 
 balanced-by : (j : Job) → ((j .kind ≡ 0) × (j .inputs ≡ 0)) ⊎ ((j .kind ≡ 1) × ((1 ≤ j .inputs) × (j .inputs ≤ 4))) → Balanced j
-    → framesIn (inputTapes j) + accessionFrames j ≡ framesIn (outputTapes j)
-balanced-by j (inl h) b = rw (eq-eqb (j .kind) 0 (h .0), no-inputs j (h .1)) (omega arith)
-balanced-by j (inr h) b =
+    → (j .kind ≡ 0 → j .trimmed ≡ 0) → framesIn (inputTapes j) + accessionFrames j ≡ framesIn (outputTapes j) + j .trimmed
+balanced-by j (inl h) b t = rw (eq-eqb (j .kind) 0 (h .0), no-inputs j (h .1)) (omega (arith, t (h .0)))
+balanced-by j (inr h) b t =
     rw (ne-eqb (j .kind) 0 (λ q. absurd (omega (arith, h .0, q)))) (omega (arith, used-frames j 0 4, used-frames j 4 4, b (h .0)))
 
 answered-well-formed : (j : Job) (v : Verdict) → v ≡ Pass → Answer j v → WellFormed j
 answered-well-formed j v e (passes f r u b) = record {
   distinct = subst (λ (l : List Entry). Distinct (labels l)) (used-append j 0 4 4) (distinct-from j r 0 8 (le-refl 8));
-  balance = balanced-by j (f .inputs) b;
+  balance = balanced-by j (f .inputs) b (f .trimmed);
   made = at-used j 4 4 4 (le-refl 4) (omega arith) (reflect-used j 4 .complete (inr (le-refl 4, f .outputs .0)));
 }
 answered-well-formed j v e (malformed f) = let z : _≡_ {A = ℕ} 0 1 = cc in absurd (omega arith)

@@ -33,7 +33,6 @@ ghost use Rattle.ledger.specs.Holders.{isHeld};
 ghost use Rattle.ledger.specs.Steps.{gateOf};
 ghost use Rattle.vaults.specs.Votes.{columnOf};
 ghost use Rattle.ledger.specs.declared.Change.the-variants.{Record};
-use codec::RECORD;
 use federation::Settings;
 use ledger::Change;
 use ledger::Decision;
@@ -236,27 +235,45 @@ pub fn snapshot(settings: Settings, next: u8, seen: JobSet, held: JobSet) -> Dec
 // ---- the steps that look into the index, which is the journal's: the operations make it, and the run keeps it.
 
 // A record that passes checks 6 to 9, which says `job`.
-fn settle(records: &[u16], journal: &[u8], booked: usize, bytes: &[u8], job: Job) -> Decision
-    requires { ⌜ (job ≡ jobOf (now bytes)) × Searchable (now journal) booked (now records) ⌝ }
-    ensures { λ r. ⌜ r ≡ settling (now (journal .entry)) booked (now (bytes .entry)) ⌝ }
+fn settle(
+    records: &[u16],
+    version: u16,
+    journal: &[u8],
+    booked: usize,
+    bytes: &[u8],
+    job: Job,
+) -> Decision
+    requires { ⌜ (job ≡ jobOf (now bytes)) × Searchable version (now journal) booked (now records) ⌝ }
+    ensures { λ r. ⌜ r ≡ settling version (now (journal .entry)) booked (now (bytes .entry)) ⌝ }
 {
-    let inside = journal::inside(journal, booked);
-    let equal = index::find(records, journal, bytes, job, inside);
-    place(equal, inside, booked, journal::has_room(journal, booked))
+    let inside = journal::inside(version, journal, booked);
+    let equal = index::find(records, version, journal, bytes, job, inside);
+    place(
+        equal,
+        inside,
+        booked,
+        journal::has_room(version, journal, booked),
+    )
 }
 
 // Kind 1. The index is that of the booked records that lie inside.
-pub fn propose(records: &[u16], journal: &[u8], booked: usize, bytes: &[u8]) -> Decision
-    requires { ⌜ Searchable (now journal) booked (now records) ⌝ }
-    ensures { λ r. ⌜ r ≡ proposal (now (journal .entry)) booked (now (bytes .entry)) ⌝ }
+pub fn propose(
+    records: &[u16],
+    version: u16,
+    journal: &[u8],
+    booked: usize,
+    bytes: &[u8],
+) -> Decision
+    requires { ⌜ Searchable version (now journal) booked (now records) ⌝ }
+    ensures { λ r. ⌜ r ≡ proposal version (now (journal .entry)) booked (now (bytes .entry)) ⌝ }
 {
-    if bytes.len() != RECORD {
+    if bytes.len() != codec::record_size(version) {
         return refuse(Refusal::Malformed);
     }
-    let job = codec::read(bytes);
+    let job = codec::read(version, bytes);
     let verdict = checks::check(job);
     match verdict {
-        Verdict::Pass => settle(records, journal, booked, bytes, job),
+        Verdict::Pass => settle(records, version, journal, booked, bytes, job),
         Verdict::Fail(why) => refuse(why),
     }
 }
@@ -266,20 +283,30 @@ fn consult(
     state: Vault,
     numbers: &[u16],
     sets: &[u64],
+    version: u16,
     journal: &[u8],
     booked: usize,
     signers: u16,
     vault: u8,
     job: usize,
 ) -> Decision
-    requires { ⌜ (job < booked) × IndexedEntries (now journal) booked (now numbers) (now sets) ⌝ }
-    ensures { λ r. ⌜ r ≡ preflighting state (now (journal .entry)) booked signers vault job ⌝ }
+    requires { ⌜ (job < booked) × IndexedEntries version (now journal) booked (now numbers) (now sets) ⌝ }
+    ensures { λ r. ⌜ r ≡ preflighting state version (now (journal .entry)) booked signers vault job ⌝ }
 {
     if state.signed.has(job) {
         return answer(sets::vaults::size(signers));
     }
     let others = state.signed.without(job);
-    let verdict = index::admission(numbers, sets, journal, booked, state.held, others, job);
+    let verdict = index::admission(
+        numbers,
+        sets,
+        version,
+        journal,
+        booked,
+        state.held,
+        others,
+        job,
+    );
     consent(state, verdict, signers, vault, job)
 }
 
@@ -289,17 +316,28 @@ pub fn preflight(
     state: Vault,
     numbers: &[u16],
     sets: &[u64],
+    version: u16,
     journal: &[u8],
     booked: usize,
     signers: u16,
     vault: u8,
     job: usize,
 ) -> Decision
-    requires { ⌜ Known gate booked job × IndexedEntries (now journal) booked (now numbers) (now sets) ⌝ }
-    ensures { λ r. ⌜ r ≡ gated gate (preflighting state (now (journal .entry)) booked signers vault job) ⌝ }
+    requires { ⌜ Known gate booked job × IndexedEntries version (now journal) booked (now numbers) (now sets) ⌝ }
+    ensures { λ r. ⌜ r ≡ gated gate (preflighting state version (now (journal .entry)) booked signers vault job) ⌝ }
 {
     match gate {
-        Verdict::Pass => consult(state, numbers, sets, journal, booked, signers, vault, job),
+        Verdict::Pass => consult(
+            state,
+            numbers,
+            sets,
+            version,
+            journal,
+            booked,
+            signers,
+            vault,
+            job,
+        ),
         Verdict::Fail(why) => refuse(why),
     }
 }
@@ -342,11 +380,21 @@ pub fn generations(
     memo: &mut [u8],
     job: usize,
 ) -> Decision
-    requires { ⌜ (settings .n ≤ 16) × Ready (now journal) booked (now numbers) (now sets) (now order) arrivals (now memo) ⌝ }
+    requires { ⌜ (settings .n ≤ 16) × Ready (settings .version) (now journal) booked (now numbers) (now sets) (now order) arrivals (now memo) ⌝ }
     ensures { λ r. ⌜ Aged settings vaults (now (order .entry)) arrivals (now (journal .entry)) booked (now (memo .exit)) job r ⌝ }
 {
     if is_held(settings, vaults, job) {
-        return answer(generations::age(journal, booked, numbers, sets, order, arrivals, memo, job));
+        return answer(generations::age(
+            settings.version,
+            journal,
+            booked,
+            numbers,
+            sets,
+            order,
+            arrivals,
+            memo,
+            job,
+        ));
     }
     refuse(Refusal::NotHeld)
 }

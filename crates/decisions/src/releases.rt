@@ -16,19 +16,20 @@ fn is_superseded(
     state: Vault,
     numbers: &[u16],
     sets: &[u64],
+    version: u16,
     journal: &[u8],
     booked: usize,
     job: usize,
     rival: usize,
 ) -> bool
-    requires { ⌜ (job < booked) × (rival < booked) × IndexedEntries (now journal) booked (now numbers) (now sets) ⌝ }
-    ensures { λ r. ⌜ r ≡ supersededAt state (now (journal .entry)) booked job rival ⌝ }
+    requires { ⌜ (job < booked) × (rival < booked) × IndexedEntries version (now journal) booked (now numbers) (now sets) ⌝ }
+    ensures { λ r. ⌜ r ≡ supersededAt state version (now (journal .entry)) booked job rival ⌝ }
 {
     if job == rival {
         return false;
     }
     if state.held.has(rival) {
-        return index::conflict(numbers, sets, journal, booked, job, rival);
+        return index::conflict(numbers, sets, version, journal, booked, job, rival);
     }
     false
 }
@@ -38,17 +39,18 @@ fn supersession(
     state: Vault,
     numbers: &[u16],
     sets: &[u64],
+    version: u16,
     journal: &[u8],
     booked: usize,
     job: usize,
     rival: usize,
 ) -> Verdict
-    requires { ⌜ (job < booked) × IndexedEntries (now journal) booked (now numbers) (now sets) ⌝ }
-    ensures { λ r. ⌜ r ≡ supersession state (now (journal .entry)) booked job rival ⌝ }
+    requires { ⌜ (job < booked) × IndexedEntries version (now journal) booked (now numbers) (now sets) ⌝ }
+    ensures { λ r. ⌜ r ≡ supersession state version (now (journal .entry)) booked job rival ⌝ }
 {
-    if journal::is_booked(journal, booked, rival) {
+    if journal::is_booked(version, journal, booked, rival) {
         if state.signed.has(job) {
-            if is_superseded(state, numbers, sets, journal, booked, job, rival) {
+            if is_superseded(state, numbers, sets, version, journal, booked, job, rival) {
                 return Verdict::Pass;
             }
             return Verdict::Fail(Refusal::NotSuperseded);
@@ -62,16 +64,17 @@ fn give_up(
     state: Vault,
     numbers: &[u16],
     sets: &[u64],
+    version: u16,
     journal: &[u8],
     booked: usize,
     signers: u16,
     job: usize,
     rival: usize,
 ) -> Decision
-    requires { ⌜ (job < booked) × IndexedEntries (now journal) booked (now numbers) (now sets) ⌝ }
-    ensures { λ r. ⌜ r ≡ releasing state (now (journal .entry)) booked signers job rival ⌝ }
+    requires { ⌜ (job < booked) × IndexedEntries version (now journal) booked (now numbers) (now sets) ⌝ }
+    ensures { λ r. ⌜ r ≡ releasing state version (now (journal .entry)) booked signers job rival ⌝ }
 {
-    let verdict = supersession(state, numbers, sets, journal, booked, job, rival);
+    let verdict = supersession(state, numbers, sets, version, journal, booked, job, rival);
     match verdict {
         Verdict::Pass => Decision {
             outcome: Outcome::Done(sets::vaults::size(signers)),
@@ -87,17 +90,28 @@ pub fn release(
     state: Vault,
     numbers: &[u16],
     sets: &[u64],
+    version: u16,
     journal: &[u8],
     booked: usize,
     signers: u16,
     job: usize,
     rival: usize,
 ) -> Decision
-    requires { ⌜ Known gate booked job × IndexedEntries (now journal) booked (now numbers) (now sets) ⌝ }
-    ensures { λ r. ⌜ r ≡ gated gate (releasing state (now (journal .entry)) booked signers job rival) ⌝ }
+    requires { ⌜ Known gate booked job × IndexedEntries version (now journal) booked (now numbers) (now sets) ⌝ }
+    ensures { λ r. ⌜ r ≡ gated gate (releasing state version (now (journal .entry)) booked signers job rival) ⌝ }
 {
     match gate {
-        Verdict::Pass => give_up(state, numbers, sets, journal, booked, signers, job, rival),
+        Verdict::Pass => give_up(
+            state,
+            numbers,
+            sets,
+            version,
+            journal,
+            booked,
+            signers,
+            job,
+            rival,
+        ),
         Verdict::Fail(why) => crate::refuse(why),
     }
 }

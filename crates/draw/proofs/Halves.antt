@@ -44,7 +44,7 @@ by-rounding round s u = round (failing s u) (choose (s .n) (thresholdOf s))
 -- the settings are not lawful, or more vaults are away than there are, or it is C9, or the two roundings agree
 agrees : ℕ → ℕ → ℕ → Bool
 agrees n b u =
-    let s : Settings = record { n = n; b = b; faulty = 0 } in
+    let s : Settings = record { n = n; b = b; faulty = 0; version = 1 } in
     leb n (3 * b) || (ltb n u || (isC9 n b u || eqb (by-rounding thousandths s u) (by-rounding halvesUp s u)))
 
 all-agree : allBelow 17 (λ n. allBelow 6 (λ b. allBelow 17 (agrees n b))) ≡ true

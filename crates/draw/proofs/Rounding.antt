@@ -9,7 +9,7 @@ use lib.Count.{ones}
 use lib.Dec.{eqb, leb, ltb}
 use borrow.Author.Tests.{eqb-false, eqb-true, leb-false, leb-true, ltb-false, ltb-true}
 use Rattle.base.proofs.Reflect.{by-cases}
-use Rattle.federation.specs.Federation.{isLawful, thresholdOf}
+use Rattle.federation.specs.Federation.{isFederation, isKnown, isLawfulUpTo, thresholdOf}
 use Rattle.federation.specs.declared.Settings.{Settings}
 use Rattle.outcome.specs.declared.Outcome.the-variants.{Done, Refused}
 use Rattle.outcome.specs.declared.Refusal.the-variants.{TooManyAbsent}
@@ -141,10 +141,10 @@ complement part whole h l =
 
 -- ---- worked values: every quorum failing, and refusal 17
 abbrev four : Settings
-four = record { n = 4; b = 1; faulty = 0 }
+four = record { n = 4; b = 1; faulty = 0; version = 1 }
 
 pub worked : (drawOf four 2 ≡ Done 1000) × (drawOf four 5 ≡ Refused TooManyAbsent)
-unfolding drawOf failing thousandths toEven choose factorial isLawful thresholdOf ones
+unfolding drawOf failing thousandths toEven choose factorial isLawfulUpTo isKnown isFederation thresholdOf ones
 worked = (refl, refl)
 
 -- halves: 0.5 gives 0 and 1.5 gives 2

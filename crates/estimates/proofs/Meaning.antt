@@ -1,13 +1,13 @@
 -- The call's answer is right about choices of counts, and no other answer is. That there are eight ranges is what the struct says of every estimate
 -- that a program can hand in.
-use mathlib.Core.Bool.{_&&_, cond, false, true}
+use mathlib.Core.Bool.{cond, false, true}
 use mathlib.Core.Path.{_≡_, refl}
 use Prim.Native.Nat.{_<_, _≤_, ℕ}
 use native.Mathlib.Omega.{arith}
 use lib.Dec.{ltb}
 use lib.ListN.{length}
 use borrow.Author.Tests.{lt-ltb, ltb-true, ne-eqb}
-use Rattle.base.proofs.Reflect.{by-cases, by-test, reflect-and, reflect-as, reflect-eq, reflect-if, reflect-lt, reflect-true, refuted, refutes}
+use Rattle.base.proofs.Reflect.{by-cases, by-test, reflect-as, reflect-eq, reflect-if, reflect-lt, reflect-true, refuted, refutes}
 use Rattle.base.proofs.Search.{first-complete, first-end-complete, first-end-sound, first-sound, found-none, reflect-all, unfound}
 use Rattle.base.specs.Reflect.{Reflects}
 use Rattle.base.specs.Search.{Every, allBelow, firstBelow}
@@ -21,7 +21,7 @@ use Rattle.checks.proofs.Meaning.{answers-check, check-answers, reflect-balance
 use Rattle.checks.specs.Checks.{balanced, checkOf}
 use Rattle.checks.specs.Meaning as checks
 use Rattle.estimates.proofs.Exact.{one-tightest, reflect-balance, tightest}
-use Rattle.estimates.specs.Form.{formOf, isBounded, trimmedFormed, lowestJob, withoutBalance}
+use Rattle.estimates.specs.Form.{formOf, isBounded, lowestJob, withoutBalance}
 use Rattle.estimates.specs.Meaning.{Balancing, Fit, Formed, ReversedAt, Told, malformed, none-balances, repeated, reversed, tightened, unsupported}
 use Rattle.estimates.specs.Ranges.{high, low}
 use Rattle.estimates.specs.Tighten.{balanceOf, canBalance, checksOf, firstFailing, isReversed, orderOf, settle, tightenOf, tightestOf}
@@ -34,18 +34,16 @@ module _ (e : Estimate) where
 
   -- ---- what 6 asks beyond the job of the lowest counts
   abbrev Bounds : Type 0
-  Bounds = Every 8 (λ i. (Used Lowest i → ⊥) → high e i ≡ 0) × (e .kind ≡ 0 → e .trimmed ≡ 0)
+  Bounds = Every 8 (λ i. (Used Lowest i → ⊥) → high e i ≡ 0)
 
-  reflect-bounds : Reflects (allBelow 8 (isBounded e Lowest) && trimmedFormed e) Bounds
-  unfolding isBounded trimmedFormed
+  reflect-bounds : Reflects (allBelow 8 (isBounded e Lowest)) Bounds
+  unfolding isBounded
   reflect-bounds =
-      reflect-and
-      (reflect-all 8 (λ i q.
-      reflect-as (reflect-if (reflect-used Lowest i) (reflect-true true) (reflect-eq (high e i) 0)) (λ h. h .1) (λ h. ((λ _. refl), h))))
-      (reflect-as (reflect-if (reflect-eq (e .kind) 0) (reflect-eq (e .trimmed) 0) (reflect-true true)) (λ h. h .0) (λ h. (h, λ _. refl)))
+      reflect-all 8 (λ i q.
+      reflect-as (reflect-if (reflect-used Lowest i) (reflect-true true) (reflect-eq (high e i) 0)) (λ h. h .1) (λ h. ((λ _. refl), h)))
 
   formed : Bounds → checks.WellFormed Label Lowest → Formed e
-  formed b w = record { job = w; unused = b .0; accession = b .1 }
+  formed b w = record { job = w; unused = b }
 
   -- ---- 24
   reverses : (i : ℕ) → i < 8 → Reflects (isReversed e i) (ReversedAt e i)
@@ -84,13 +82,13 @@ module _ (e : Estimate) where
   tighten-told n =
       by-cases
       (λ b. Told e (settle (firstFailing (cond b (withoutBalance (checkOf Lowest)) (Fail Malformed)) Later) e))
-      (allBelow 8 (isBounded e Lowest) && trimmedFormed e)
+      (allBelow 8 (isBounded e Lowest))
       (λ d. answered n (reflect-bounds .sound d) (checkOf Lowest) (check-answers Lowest))
-      (λ d. malformed (λ f. refuted reflect-bounds d (f .unused, f .accession)))
+      (λ d. malformed (λ f. refuted reflect-bounds d (f .unused)))
 
   -- ---- no other answer is right
-  bounded : Formed e → (allBelow 8 (isBounded e Lowest) && trimmedFormed e) ≡ true
-  bounded f = reflect-bounds .complete (f .unused, f .accession)
+  bounded : Formed e → allBelow 8 (isBounded e Lowest) ≡ true
+  bounded f = reflect-bounds .complete (f .unused)
 
   formed-form : Formed e → (v : Verdict) → checks.Answer Lowest v → formOf e ≡ withoutBalance v
   unfolding formOf
@@ -99,7 +97,7 @@ module _ (e : Estimate) where
   malformed-form : (Formed e → ⊥) → formOf e ≡ Fail Malformed
   unfolding formOf
   malformed-form f =
-      by-test (allBelow 8 (isBounded e Lowest) && trimmedFormed e)
+      by-test (allBelow 8 (isBounded e Lowest))
       (λ t. simp (t, answers-check Lowest _ (checks.malformed (λ w. f (formed (reflect-bounds .sound t) w)))))
       (λ t. simp t)
 

@@ -9,9 +9,10 @@ use Rattle.outcome.specs.declared.Refusal.the-variants.{Malformed, NoneBalances
 use Rattle.record.specs.Drives.{isDrive, supports}
 use Rattle.record.specs.Entries.{framesOf, isUsed, labelOf, usedFrames}
 use Rattle.record.specs.Labels.{charAt, isAlphanumeric, isBetween, isLabel, mediumOf}
+use Rattle.checks.specs.Checks.{trimmedFormed}
 use Rattle.checks.specs.Checks.{balanced, checkOf, countsFormed, entryFormed, hasLabelOf, inputsFormed, isBlank}
 use Rattle.checks.specs.Checks.{isFilled, isWritten, repeatedAt, unsupportedAt, wellFormed}
-use Rattle.estimates.specs.Form.{formOf, isBounded, trimmedFormed, lowestEntry, lowestJob}
+use Rattle.estimates.specs.Form.{formOf, isBounded, lowestEntry, lowestJob}
 use Rattle.estimates.specs.Ranges.{listFrom, noRange}
 use Rattle.estimates.specs.Tighten.{balanceOf, canBalance, checksOf, inflow, isReversed, lowerEnd, meets, orderOf, outflow, spanOf, tightenOf}
 use Rattle.estimates.specs.Tighten.{tightestAt, tightestBy, tightestIn, tightestOf, upperEnd}
@@ -75,8 +76,8 @@ given [] = []
 given (r ∷ rs) = record { outcome = r .outcome; ranges = r .ranges } ∷ given rs
 
 pub worked : answered rows ≡ given rows
-unfolding anyBelow allBelow firstBelow sumFrom inputsFormed countsFormed isFilled isBlank entryFormed wellFormed hasLabelOf repeatedAt isWritten
+unfolding anyBelow allBelow firstBelow sumFrom inputsFormed countsFormed isFilled isBlank entryFormed trimmedFormed wellFormed hasLabelOf repeatedAt isWritten
     unsupportedAt balanced checkOf isDrive supports labelOf framesOf isUsed usedFrames isBetween charAt isAlphanumeric mediumOf isLabel lowestEntry
-    lowestJob isBounded trimmedFormed formOf listFrom isReversed spanOf inflow outflow meets canBalance orderOf balanceOf checksOf lowerEnd upperEnd tightestIn
+    lowestJob isBounded formOf listFrom isReversed spanOf inflow outflow meets canBalance orderOf balanceOf checksOf lowerEnd upperEnd tightestIn
     tightestBy tightestAt tightestOf tightenOf
 worked = refl

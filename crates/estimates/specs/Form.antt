@@ -1,5 +1,5 @@
 -- "6 to 8, with frames read as the lowest count" (M-110). The checks are document 01's, of the job that has the lowest counts.
-use mathlib.Core.Bool.{Bool, true, cond, _&&_}
+use mathlib.Core.Bool.{Bool, true, cond}
 use Prim.Native.Nat.{ℕ}
 use lib.Dec.{eqb}
 use lib.ListN.{getD}
@@ -26,15 +26,12 @@ lowestJob e = record {
   inputs = e .inputs;
   outputs = e .outputs;
   entries = listFrom (lowestEntry e) 0 8;
+  trimmed = e .trimmed;
 }
 
 -- "An unused entry's highest is 0, else 6."
 unfoldable pub isBounded : Estimate → Job → ℕ → Bool
 isBounded e j i = cond (isUsed j i) true (eqb (high e i) 0)
-
--- "an accession has 0 trimmed, else 6" (M-102)
-unfoldable pub trimmedFormed : Estimate → Bool
-trimmedFormed e = cond (eqb (e .kind) 0) (eqb (e .trimmed) 0) true
 
 -- whether the lowest counts balance is not asked
 abbrev pub withoutBalance : Verdict → Verdict
@@ -42,5 +39,4 @@ withoutBalance Pass = Pass
 withoutBalance (Fail r) = cond (eqb (refusalNumber r) 9) Pass (Fail r)
 
 unfoldable pub formOf : Estimate → Verdict
-formOf e =
-    cond (allBelow 8 (isBounded e (lowestJob e)) && trimmedFormed e) (withoutBalance (checkOf (lowestJob e))) (Fail Malformed)
+formOf e = cond (allBelow 8 (isBounded e (lowestJob e))) (withoutBalance (checkOf (lowestJob e))) (Fail Malformed)

@@ -19,7 +19,6 @@ use Rattle.estimates.specs.Tighten.{refuse}
 pub record Formed (e : Estimate) : Type 0 where
   pub job : WellFormed Label (lowestJob e)
   pub unused : Every 8 (λ i. (Used (lowestJob e) i → ⊥) → high e i ≡ 0)
-  pub accession : e .kind ≡ 0 → e .trimmed ≡ 0
 
 -- 6 to 8 pass
 pub record Fit (e : Estimate) : Type 0 where

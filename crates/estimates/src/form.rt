@@ -2,7 +2,7 @@
 ghost use mathlib.Core.Path.{_≡_};
 ghost use Prim.Native.Nat.{_<_};
 ghost use Rattle.base.specs.Search.{allBelow};
-ghost use Rattle.estimates.specs.Form.{lowestJob, isBounded, trimmedFormed, withoutBalance, formOf};
+ghost use Rattle.estimates.specs.Form.{lowestJob, isBounded, withoutBalance, formOf};
 use crate::Estimate;
 use outcome::Refusal;
 use outcome::Verdict;
@@ -28,6 +28,7 @@ fn lowest_job(e: Estimate) -> Job
         inputs: e.inputs,
         outputs: e.outputs,
         entries,
+        trimmed: e.trimmed,
     }
 }
 
@@ -53,16 +54,6 @@ fn all_bounded(e: Estimate, job: Job) -> bool
     true
 }
 
-// An accession's trimmed is 0.
-fn trimmed_formed(e: Estimate) -> bool
-    ensures { λ r. ⌜ r ≡ trimmedFormed e ⌝ }
-{
-    if e.kind == 0 {
-        return e.trimmed == 0;
-    }
-    true
-}
-
 fn without_balance(verdict: Verdict) -> Verdict
     ensures { λ r. ⌜ r ≡ withoutBalance verdict ⌝ }
 {
@@ -81,10 +72,7 @@ pub(crate) fn check(e: Estimate) -> Verdict
     ensures { λ r. ⌜ r ≡ formOf e ⌝ }
 {
     let job = lowest_job(e);
-    if !all_bounded(e, job) {
-        return Verdict::Fail(Refusal::Malformed);
-    }
-    if trimmed_formed(e) {
+    if all_bounded(e, job) {
         return without_balance(checks::check(job));
     }
     Verdict::Fail(Refusal::Malformed)

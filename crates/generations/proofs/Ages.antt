@@ -186,11 +186,11 @@ half a b rest = a ∷ b ∷ noEntry ∷ noEntry ∷ rest
 
 three : ℕ → Job
 three zero =
-    record { kind = 0; drive = 7; inputs = 0; outputs = 2; entries = half noEntry noEntry (half (tape 1) (tape 2) []) }
+    record { kind = 0; drive = 7; inputs = 0; outputs = 2; entries = half noEntry noEntry (half (tape 1) (tape 2) []); trimmed = 0 }
 three (suc zero) =
-    record { kind = 1; drive = 7; inputs = 1; outputs = 1; entries = half (tape 1) noEntry (half (tape 3) noEntry []) }
+    record { kind = 1; drive = 7; inputs = 1; outputs = 1; entries = half (tape 1) noEntry (half (tape 3) noEntry []); trimmed = 0 }
 three (suc (suc k)) =
-    record { kind = 1; drive = 7; inputs = 2; outputs = 1; entries = half (tape 2) (tape 3) (half (tape 4) noEntry []) }
+    record { kind = 1; drive = 7; inputs = 2; outputs = 1; entries = half (tape 2) (tape 3) (half (tape 4) noEntry []); trimmed = 0 }
 
 worked : generationsBefore three (λ q. q) 3 ≡ 0 ∷ 1 ∷ 2 ∷ []
 unfolding generationsBefore generationFrom highest creatorOf createdAt firstBelow anyBelow makesTape isTapeAt isLabelAt isUsed labelOf framesOf three half tape

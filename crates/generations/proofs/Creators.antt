@@ -15,7 +15,7 @@ use Rattle.base.specs.Search.{firstBelow}
 use Rattle.sets.proofs.Jobs.{job-beyond}
 use Rattle.sets.specs.Jobs.{jobHas}
 use Rattle.sets.specs.declared.job_set.JobSet.{JobSet}
-use Rattle.codec.specs.Codec.{jobOf, recordSize}
+use Rattle.codec.specs.Codec.{jobOf, placeOf}
 use Rattle.conflicts.specs.Conflicts.{isLabelAt, isTapeAt, makesTape}
 use Rattle.record.specs.Entries.{isUsed}
 use Rattle.record.specs.declared.Job.{Job}
@@ -29,57 +29,57 @@ use Rattle.generations.specs.Generations.{along, createdAt, creatorOf, g
 use Rattle.generations.specs.Memo.{FirstAt, Input, inputsOf, isMaker}
 
 -- ---- a job that is not booked
-module _ (journal : List ℕ) (booked k : ℕ) (past : booked ≤ k) where
-  empty : jobAt journal booked k ≡ jobOf []
+module _ (version : ℕ) (journal : List ℕ) (booked k : ℕ) (past : booked ≤ k) where
+  empty : jobAt version journal booked k ≡ jobOf []
   unfolding jobAt recordAt isBooked
   empty = rw (le-ltb k booked past, and-false) refl
 
-  pub past-unused : (i : ℕ) → i < 4 → isUsed (jobAt journal booked k) i ≡ false
+  pub past-unused : (i : ℕ) → i < 4 → isUsed (jobAt version journal booked k) i ≡ false
   unfolding isUsed jobOf
   past-unused i l = rw empty (simp (lt-ltb i 4 l) (le-ltb i 0 (omega arith)))
 
-  past-makes : (label frames : ℕ) → makesTape (jobAt journal booked k) label frames ≡ false
+  past-makes : (label frames : ℕ) → makesTape (jobAt version journal booked k) label frames ≡ false
   unfolding makesTape isTapeAt isLabelAt isUsed jobOf
   past-makes label frames =
       rw empty (none-any _ 4 (λ i l. simp (le-ltb (4 + i) 4 (omega arith), le-ltb (4 + i - 4) 0 (omega arith))))
 
 -- so its generations are 0
-pub past-none : (journal : List ℕ) (booked : ℕ) (order : List ℕ) (p k : ℕ) → k ≡ getD order p 0 → booked ≤ k
-    → 0 ≡ generationAt (jobAt journal booked) (along order) p
-past-none journal booked order p k e past =
-    sym (none-from (jobAt journal booked) (along order) p (past-unused journal booked (getD order p 0) (rw e at past)))
+pub past-none : (version : ℕ) (journal : List ℕ) (booked : ℕ) (order : List ℕ) (p k : ℕ) → k ≡ getD order p 0 → booked ≤ k
+    → 0 ≡ generationAt (jobAt version journal booked) (along order) p
+past-none version journal booked order p k e past =
+    sym (none-from (jobAt version journal booked) (along order) p (past-unused version journal booked (getD order p 0) (rw e at past)))
 
 -- ---- a booked job
 pub inputs-le : (j : Job) → inputsOf j ≤ 4
 unfolding inputsOf
 inputs-le j = omega arith
 
-module _ (journal : List ℕ) (booked : ℕ) (numbers sets order : List ℕ) (few : booked ≤ 128) (inside : recordSize * booked ≤ length journal)
-    (entered : Entered (slotJob journal) (8 * booked) numbers sets) where
-  here : Entered (jobAt journal booked) (8 * booked) numbers sets
-  here = entered-booked journal booked inside numbers sets entered
+module _ (version : ℕ) (journal : List ℕ) (booked : ℕ) (numbers sets order : List ℕ) (few : booked ≤ 128) (inside : placeOf version booked ≤ length journal)
+    (entered : Entered (slotJob version journal) (8 * booked) numbers sets) where
+  here : Entered (jobAt version journal booked) (8 * booked) numbers sets
+  here = entered-booked version journal booked inside numbers sets entered
 
   pub tables-here : Tables numbers sets
-  tables-here = tables (jobAt journal booked) booked numbers sets here few
+  tables-here = tables (jobAt version journal booked) booked numbers sets here few
 
   -- a set of the booked jobs that make the tape has each job that makes it
-  has-maker : (set : JobSet) (label frames j : ℕ) → (j < 128 → jobHas set j ≡ (ltb j booked && makesTape (jobAt journal booked j) label frames))
-      → jobHas set j ≡ makesTape (jobAt journal booked j) label frames
+  has-maker : (set : JobSet) (label frames j : ℕ) → (j < 128 → jobHas set j ≡ (ltb j booked && makesTape (jobAt version journal booked j) label frames))
+      → jobHas set j ≡ makesTape (jobAt version journal booked j) label frames
   has-maker set label frames j has =
       ⊎-elim
       (λ l. has (omega arith) ∙ simp (lt-ltb j booked l))
       (λ past.
       let none : jobHas set j ≡ false = ⊎-elim (λ l. has l ∙ simp (le-ltb j booked past)) (job-beyond set j) (lt-or-le j 128) in
-      none ∙ sym (past-makes journal booked j past label frames))
+      none ∙ sym (past-makes version journal booked j past label frames))
       (lt-or-le j booked)
 
   -- the first position in the set at an input is the creator's
-  pub creator-is : (makers : JobSet) (p k i q : ℕ) → Input journal booked order p k i → makers ≡ setOf numbers sets (places + 8 * k + i) 2
-      → q ≡ firstBelow p (isMaker order makers) → q ≡ creatorOf (jobAt journal booked) (along order) p i
+  pub creator-is : (makers : JobSet) (p k i q : ℕ) → Input version journal booked order p k i → makers ≡ setOf numbers sets (places + 8 * k + i) 2
+      → q ≡ firstBelow p (isMaker order makers) → q ≡ creatorOf (jobAt version journal booked) (along order) p i
   unfolding creatorOf createdAt isMaker
   creator-is makers p k i q t m e =
       let four = t .four in
-      let has = tape-has (jobAt journal booked) booked numbers sets here few k i (t .below) (omega arith) (t .used) in
+      let has = tape-has (jobAt version journal booked) booked numbers sets here few k i (t .below) (omega arith) (t .used) in
       e ∙ first-same _ _ p (λ r l. rw (m, t .at) (has-maker _ _ _ (getD order r 0) (has (getD order r 0))))
 
 -- an earlier position of the same job would be in the set too

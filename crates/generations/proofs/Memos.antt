@@ -141,12 +141,12 @@ module _ (job : ℕ → Job) (order : List ℕ) (n : ℕ) where
       (lt-or-le (firstBelow n (isAt (take n order) k)) n)
 
 -- the arrived jobs as a list of their own, and what is found along it
-module _ (journal : List ℕ) (booked : ℕ) (numbers sets order : List ℕ) (n : ℕ) (memo : List ℕ)
-    (ready : Ready journal booked numbers sets order n memo) where
+module _ (version : ℕ) (journal : List ℕ) (booked : ℕ) (numbers sets order : List ℕ) (n : ℕ) (memo : List ℕ)
+    (ready : Ready version journal booked numbers sets order n memo) where
   pub taken-length : n ≡ length (take n order)
   taken-length = simp length-take (omega (arith, ready .placed))
 
-  pub ready-taken : Ready journal booked numbers sets (take n order) (length (take n order)) memo
+  pub ready-taken : Ready version journal booked numbers sets (take n order) (length (take n order)) memo
   ready-taken =
       rw (sym taken-length) (record {
         few = ready .few;
@@ -155,13 +155,13 @@ module _ (journal : List ℕ) (booked : ℕ) (numbers sets order : List ℕ) (n 
         short = ready .short;
         placed = omega (arith, taken-length);
         size = ready .size;
-        right = memo-taken (jobAt journal booked) order n memo (ready .right);
+        right = memo-taken (jobAt version journal booked) order n memo (ready .right);
       })
 
-  pub found-taken : (k r : ℕ) (after : List ℕ) → r ≡ ageIn (jobAt journal booked) (take n order) (length (take n order)) k
-      → Memo (jobAt journal booked) (take n order) (length (take n order)) after
-      → (r ≡ ageIn (jobAt journal booked) order n k) × Memo (jobAt journal booked) order n after
+  pub found-taken : (k r : ℕ) (after : List ℕ) → r ≡ ageIn (jobAt version journal booked) (take n order) (length (take n order)) k
+      → Memo (jobAt version journal booked) (take n order) (length (take n order)) after
+      → (r ≡ ageIn (jobAt version journal booked) order n k) × Memo (jobAt version journal booked) order n after
   found-taken k r after e h = (
-    rw (sym taken-length) at e ∙ age-taken (jobAt journal booked) order n k,
-    taken-memo (jobAt journal booked) order n after (rw (sym taken-length) at h),
+    rw (sym taken-length) at e ∙ age-taken (jobAt version journal booked) order n k,
+    taken-memo (jobAt version journal booked) order n after (rw (sym taken-length) at h),
   )

@@ -9,7 +9,7 @@ use lib.ListN.{getD, length}
 use Rattle.base.specs.Search.{Least}
 use Rattle.sets.specs.Jobs.{jobHas}
 use Rattle.sets.specs.declared.job_set.JobSet.{JobSet}
-use Rattle.codec.specs.Codec.{recordSize}
+use Rattle.codec.specs.Codec.{placeOf}
 use Rattle.record.specs.Entries.{isUsed}
 use Rattle.record.specs.declared.Job.{Job}
 use Rattle.journal.specs.Journal.{jobAt}
@@ -43,19 +43,19 @@ unfoldable pub Memo : (ℕ → Job) → List ℕ → ℕ → List ℕ → Type 0
 Memo job order n memo = (k : ℕ) → (getD memo k 0 ≡ 0) ⊎ Known job order n k (getD memo k 0)
 
 -- what finding generations starts from: the index of the booked jobs, the first n arrivals, and a right memo
-pub record Ready (journal : List ℕ) (booked : ℕ) (numbers sets order : List ℕ) (n : ℕ) (memo : List ℕ) : Type 0 where
+pub record Ready (version : ℕ) (journal : List ℕ) (booked : ℕ) (numbers sets order : List ℕ) (n : ℕ) (memo : List ℕ) : Type 0 where
   pub few : booked ≤ 128
-  pub inside : recordSize * booked ≤ length journal
-  pub entered : Entered (slotJob journal) (8 * booked) numbers sets
+  pub inside : placeOf version booked ≤ length journal
+  pub entered : Entered (slotJob version journal) (8 * booked) numbers sets
   pub short : n ≤ 128
   pub placed : n ≤ length order
   pub size : length memo ≡ 128
-  pub right : Memo (jobAt journal booked) order n memo
+  pub right : Memo (jobAt version journal booked) order n memo
 
 -- i is an input of the booked job at position p
-pub record Input (journal : List ℕ) (booked : ℕ) (order : List ℕ) (p job i : ℕ) : Type 0 where
+pub record Input (version : ℕ) (journal : List ℕ) (booked : ℕ) (order : List ℕ) (p job i : ℕ) : Type 0 where
   pub placed : p < length order
   pub at : getD order p 0 ≡ job
   pub below : job < booked
   pub four : i < 4
-  pub used : isUsed (jobAt journal booked job) i ≡ true
+  pub used : isUsed (jobAt version journal booked job) i ≡ true

@@ -3,7 +3,7 @@ ghost use mathlib.Core.Path.{_≡_};
 ghost use Prim.Native.Nat.{_+_, _*_, _<_, _≤_, max};
 ghost use lib.ListN.{getD, length};
 ghost use Rattle.base.specs.Search.{firstBelow};
-ghost use Rattle.codec.specs.Codec.{recordSize};
+ghost use Rattle.codec.specs.Codec.{placeOf, recordSize};
 ghost use Rattle.journal.specs.Journal.{jobAt};
 ghost use Rattle.index.specs.Places.{slotJob};
 ghost use Rattle.generations.specs.Generations.{ageIn, along, generationAt, isAt};
@@ -27,11 +27,11 @@ fn larger(a: u8, b: u8) -> u8
 }
 
 // How many inputs a booked job has, read from its record where it stands.
-fn inputs(journal: &[u8], job: usize) -> usize
-    requires { ⌜ recordSize * job + recordSize ≤ length (now journal) ⌝ }
-    ensures { λ r. ⌜ r ≡ inputsOf (slotJob (now (journal .entry)) job) ⌝ }
+fn inputs(version: u16, journal: &[u8], job: usize) -> usize
+    requires { ⌜ placeOf version job + recordSize version ≤ length (now journal) ⌝ }
+    ensures { λ r. ⌜ r ≡ inputsOf (slotJob version (now (journal .entry)) job) ⌝ }
 {
-    let count = wide(codec::inputs_of(journal::slot(journal, job)));
+    let count = wide(codec::inputs_of(journal::slot(version, journal, job)));
     if count < 4 {
         return count;
     }
@@ -61,6 +61,7 @@ fn creator(order: &[u8], makers: JobSet, p: usize) -> usize
 // The generations at position p, the first of its job. memo[k] is 0, or one more than the generations of job k, so that each
 // job's are found once: without it the calls would double along the order. `order` has the arrived jobs alone.
 fn generation(
+    version: u16,
     journal: &[u8],
     booked: usize,
     numbers: &[u16],
@@ -69,10 +70,10 @@ fn generation(
     memo: &mut [u8],
     p: usize,
 ) -> u8
-    requires { ⌜ Ready (now journal) booked (now numbers) (now sets) (now order) (length (now order)) (now memo) ⌝ }
+    requires { ⌜ Ready version (now journal) booked (now numbers) (now sets) (now order) (length (now order)) (now memo) ⌝ }
     requires { ⌜ FirstAt (now order) (length (now order)) (getD (now order) p 0) p ⌝ }
-    ensures { λ r. ⌜ r ≡ generationAt (jobAt (now (journal .entry)) booked) (along (now (order .entry))) p ⌝ }
-    ensures { λ _. ⌜ Memo (jobAt (now (journal .entry)) booked) (now (order .entry)) (length (now (order .entry))) (now (memo .exit)) ⌝ }
+    ensures { λ r. ⌜ r ≡ generationAt (jobAt version (now (journal .entry)) booked) (along (now (order .entry))) p ⌝ }
+    ensures { λ _. ⌜ Memo (jobAt version (now (journal .entry)) booked) (now (order .entry)) (length (now (order .entry))) (now (memo .exit)) ⌝ }
 {
     let job = wide(order[p]);
     if job >= booked {
@@ -82,10 +83,21 @@ fn generation(
     if known > 0 {
         return known - 1;
     }
-    let count = inputs(journal, job);
+    let count = inputs(version, journal, job);
     let mut most: u8 = 0;
     for i in 0..count {
-        let next = parent(journal, booked, numbers, sets, order, memo, p, job, i);
+        let next = parent(
+            version,
+            journal,
+            booked,
+            numbers,
+            sets,
+            order,
+            memo,
+            p,
+            job,
+            i,
+        );
         most = larger(most, next);
     }
     memo[job] = most + 1;
@@ -94,6 +106,7 @@ fn generation(
 
 // One more than the generations of the job that made input i of the job at p.
 fn parent(
+    version: u16,
     journal: &[u8],
     booked: usize,
     numbers: &[u16],
@@ -104,15 +117,15 @@ fn parent(
     job: usize,
     i: usize,
 ) -> u8
-    requires { ⌜ Ready (now journal) booked (now numbers) (now sets) (now order) (length (now order)) (now memo) ⌝ }
-    requires { ⌜ Input (now journal) booked (now order) p job i ⌝ }
-    ensures { λ r. ⌜ r ≡ fromInput (jobAt (now (journal .entry)) booked) (along (now (order .entry))) p i ⌝ }
-    ensures { λ _. ⌜ Memo (jobAt (now (journal .entry)) booked) (now (order .entry)) (length (now (order .entry))) (now (memo .exit)) ⌝ }
+    requires { ⌜ Ready version (now journal) booked (now numbers) (now sets) (now order) (length (now order)) (now memo) ⌝ }
+    requires { ⌜ Input version (now journal) booked (now order) p job i ⌝ }
+    ensures { λ r. ⌜ r ≡ fromInput (jobAt version (now (journal .entry)) booked) (along (now (order .entry))) p i ⌝ }
+    ensures { λ _. ⌜ Memo (jobAt version (now (journal .entry)) booked) (now (order .entry)) (length (now (order .entry))) (now (memo .exit)) ⌝ }
 {
     let makers = index::makers(numbers, sets, job, i);
     let q = creator(order, makers, p);
     if q < p {
-        return generation(journal, booked, numbers, sets, order, memo, q) + 1;
+        return generation(version, journal, booked, numbers, sets, order, memo, q) + 1;
     }
     1
 }
@@ -149,6 +162,7 @@ fn memo_of(memo: &[u8], job: usize) -> u8
 
 // As age, for an order that has the arrived jobs alone.
 fn age_along(
+    version: u16,
     journal: &[u8],
     booked: usize,
     numbers: &[u16],
@@ -157,13 +171,13 @@ fn age_along(
     memo: &mut [u8],
     job: usize,
 ) -> u8
-    requires { ⌜ Ready (now journal) booked (now numbers) (now sets) (now order) (length (now order)) (now memo) ⌝ }
-    ensures { λ r. ⌜ r ≡ ageIn (jobAt (now (journal .entry)) booked) (now (order .entry)) (length (now (order .entry))) job ⌝ }
-    ensures { λ _. ⌜ Memo (jobAt (now (journal .entry)) booked) (now (order .entry)) (length (now (order .entry))) (now (memo .exit)) ⌝ }
+    requires { ⌜ Ready version (now journal) booked (now numbers) (now sets) (now order) (length (now order)) (now memo) ⌝ }
+    ensures { λ r. ⌜ r ≡ ageIn (jobAt version (now (journal .entry)) booked) (now (order .entry)) (length (now (order .entry))) job ⌝ }
+    ensures { λ _. ⌜ Memo (jobAt version (now (journal .entry)) booked) (now (order .entry)) (length (now (order .entry))) (now (memo .exit)) ⌝ }
 {
     let p = position(order, job);
     if p < order.len() {
-        return generation(journal, booked, numbers, sets, order, memo, p);
+        return generation(version, journal, booked, numbers, sets, order, memo, p);
     }
     0
 }
@@ -171,6 +185,7 @@ fn age_along(
 // The generations of a job that is among the first `arrivals` of the order, 0 of one that is not. A job whose generations the
 // memo has is answered by one load.
 pub fn age(
+    version: u16,
     journal: &[u8],
     booked: usize,
     numbers: &[u16],
@@ -180,9 +195,9 @@ pub fn age(
     memo: &mut [u8],
     job: usize,
 ) -> u32
-    requires { ⌜ Ready (now journal) booked (now numbers) (now sets) (now order) arrivals (now memo) ⌝ }
-    ensures { λ r. ⌜ r ≡ ageIn (jobAt (now (journal .entry)) booked) (now (order .entry)) arrivals job ⌝ }
-    ensures { λ _. ⌜ Memo (jobAt (now (journal .entry)) booked) (now (order .entry)) arrivals (now (memo .exit)) ⌝ }
+    requires { ⌜ Ready version (now journal) booked (now numbers) (now sets) (now order) arrivals (now memo) ⌝ }
+    ensures { λ r. ⌜ r ≡ ageIn (jobAt version (now (journal .entry)) booked) (now (order .entry)) arrivals job ⌝ }
+    ensures { λ _. ⌜ Memo (jobAt version (now (journal .entry)) booked) (now (order .entry)) arrivals (now (memo .exit)) ⌝ }
     ensures { λ _. ⌜ length (now (memo .exit)) ≡ 128 ⌝ }
 {
     let known = memo_of(memo, job);
@@ -190,6 +205,7 @@ pub fn age(
         return (known - 1) as u32;
     }
     age_along(
+        version,
         journal,
         booked,
         numbers,

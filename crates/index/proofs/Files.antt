@@ -85,48 +85,50 @@ module _ (p q : ℕ → Bool) (sub : (i : ℕ) → q i ≡ true → p i ≡ true
       near = by-cases (λ t. firstOr q y (cond t y d) ≡ firstOr q (suc y) d) (q y) (λ h. sym (or-yes q y d h)) (λ h. sym (or-no q y d h))
 
 -- ---- the records of a journal
-equal-sum : (journal bytes : List ℕ) (k : ℕ) → equalAt journal bytes k ≡ true → inSum (slotJob journal) (sumOf (jobOf bytes)) k ≡ true
+equal-sum : (version : ℕ) (journal bytes : List ℕ) (k : ℕ) → equalAt version journal bytes k ≡ true → inSum (slotJob version journal)
+    (sumOf (jobOf bytes)) k ≡ true
 unfolding equalAt inSum slotJob
-equal-sum journal bytes k h =
-    let e = reflect-same (slotAt journal k) bytes .sound h in
+equal-sum version journal bytes k h =
+    let e = reflect-same (slotAt version journal k) bytes .sound h in
     eq-eqb _ _ (ap (λ (s : List ℕ). sumOf (jobOf s)) e)
 
-abbrev pub Seeking : List ℕ → List ℕ → ℕ → ℕ → ℕ → Type 0
-Seeking journal bytes n x d = Hunt (inSum (slotJob journal) (sumOf (jobOf bytes))) (equalAt journal bytes) n x d
+abbrev pub Seeking : ℕ → List ℕ → List ℕ → ℕ → ℕ → ℕ → Type 0
+Seeking version journal bytes n x d = Hunt (inSum (slotJob version journal) (sumOf (jobOf bytes))) (equalAt version journal bytes) n x d
 
-module _ (journal bytes records : List ℕ) (n : ℕ) (t : Filed (slotJob journal) n records) where
+module _ (version : ℕ) (journal bytes records : List ℕ) (n : ℕ) (t : Filed (slotJob version journal) n records) where
   abbrev chain : ℕ → Bool
-  chain = inSum (slotJob journal) (sumOf (jobOf bytes))
+  chain = inSum (slotJob version journal) (sumOf (jobOf bytes))
 
-  pub find-start : (a : Job) (b x : ℕ) → a ≡ jobOf bytes → (b ≡ sumOf a) × (b < buckets) → x ≡ getD records b 0 → Seeking journal bytes n x n
+  pub find-start : (a : Job) (b x : ℕ) → a ≡ jobOf bytes → (b ≡ sumOf a) × (b < buckets) → x ≡ getD records b 0 → Seeking version journal bytes n x n
   find-start a b x ea e h =
-      hunt-start chain (equalAt journal bytes) (equal-sum journal bytes) n x
-      (h ∙ t .headed b (e .1) ∙ ap (λ (c : ℕ). lastBelow n (inSum (slotJob journal) c)) (e .0 ∙ ap sumOf ea))
+      hunt-start chain (equalAt version journal bytes) (equal-sum version journal bytes) n x
+      (h ∙ t .headed b (e .1) ∙ ap (λ (c : ℕ). lastBelow n (inSum (slotJob version journal) c)) (e .0 ∙ ap sumOf ea))
 
-  module _ (x d : ℕ) (some : 0 < x) (w : Seeking journal bytes n x d) where
+  module _ (x d : ℕ) (some : 0 < x) (w : Seeking version journal bytes n x d) where
     turn : x ≡ suc (x - 1)
     turn = omega arith
 
-    at : Seeking journal bytes n (suc (x - 1)) d
+    at : Seeking version journal bytes n (suc (x - 1)) d
     at = rw (sym turn) w
 
-    own : sumOf (slotJob journal (x - 1)) ≡ sumOf (jobOf bytes)
+    own : sumOf (slotJob version journal (x - 1)) ≡ sumOf (jobOf bytes)
     unfolding inSum
     own = eqb-true _ _ (last-has chain (suc (x - 1)) (x - 1) (at .on))
 
     link : getD records (buckets + (x - 1)) 0 ≡ lastBelow (x - 1) chain
-    link = t .linked (x - 1) (omega (arith, w .below)) ∙ ap (λ (c : ℕ). lastBelow (x - 1) (inSum (slotJob journal) c)) own
+    link = t .linked (x - 1) (omega (arith, w .below)) ∙ ap (λ (c : ℕ). lastBelow (x - 1) (inSum (slotJob version journal) c)) own
 
     pub find-less : (y : ℕ) → y ≡ getD records (buckets + (x - 1)) 0 → y < x
     find-less y e = omega (arith, e, link, last-le chain (x - 1))
 
-    pub find-next : (y f : ℕ) → y ≡ getD records (buckets + (x - 1)) 0 → f ≡ cond (equalAt journal bytes (x - 1)) (x - 1) d → Seeking journal bytes n y f
-    find-next y f e g = hunt-next chain (equalAt journal bytes) (equal-sum journal bytes) n (x - 1) d y f at (e ∙ link) g
+    pub find-next : (y f : ℕ) → y ≡ getD records (buckets + (x - 1)) 0 → f ≡ cond (equalAt version journal bytes (x - 1)) (x - 1) d
+        → Seeking version journal bytes n y f
+    find-next y f e g = hunt-next chain (equalAt version journal bytes) (equal-sum version journal bytes) n (x - 1) d y f at (e ∙ link) g
 
-  pub find-end : (x d : ℕ) → x ≤ 0 → Seeking journal bytes n x d → d ≡ firstBelow n (equalAt journal bytes)
+  pub find-end : (x d : ℕ) → x ≤ 0 → Seeking version journal bytes n x d → d ≡ firstBelow n (equalAt version journal bytes)
   find-end x d l w =
       let z : x ≡ 0 = omega arith in
-      sym (or-end (equalAt journal bytes) d) ∙ (rw z at w) .left
+      sym (or-end (equalAt version journal bytes) d) ∙ (rw z at w) .left
 
 -- ---- one record more
 module _ (job : ℕ → Job) (n : ℕ) (records : List ℕ) (t : Filed job n records) (few : n < capacity) (a : Job) (ea : a ≡ job n) where

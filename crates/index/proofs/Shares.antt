@@ -77,10 +77,10 @@ module _ (job : ℕ → Job) (n : ℕ) (few : n ≤ capacity) (m : ℕ) (lm : m 
         (found-any (offendsAt numbers sets (job k .outputs) (8 * k + 4) 1 (one m)) 4 ∙ any-same _ _ 4 outputs-share)
 
 -- of two booked jobs, by the counts of the one's record
-pub conflict-booked : (journal : List ℕ) (n : ℕ) (numbers sets : List ℕ) → IndexedEntries journal n numbers sets
-    → (job other inputs outputs : ℕ) (part : List ℕ) (s : JobSet) (r : Bool) → job < n → other < n → part ≡ recordAt journal n job
+pub conflict-booked : (version : ℕ) (journal : List ℕ) (n : ℕ) (numbers sets : List ℕ) → IndexedEntries version journal n numbers sets
+    → (job other inputs outputs : ℕ) (part : List ℕ) (s : JobSet) (r : Bool) → job < n → other < n → part ≡ recordAt version journal n job
     → inputs ≡ jobOf part .inputs → outputs ≡ jobOf part .outputs → s ≡ jobWith noJobs other → r ≡ conflictsBy numbers sets inputs outputs s job
-    → r ≡ conflicting (jobAt journal n job) (jobAt journal n other)
+    → r ≡ conflicting (jobAt version journal n job) (jobAt version journal n other)
 unfolding jobAt
-conflict-booked journal n numbers sets t job other inputs outputs part s r l lo ep ei eo es er =
-    er ∙ rw (ei, eo, ep, es) (by-index (jobAt journal n) n (t .few) other lo numbers sets (indexed-booked journal n numbers sets t) job l)
+conflict-booked version journal n numbers sets t job other inputs outputs part s r l lo ep ei eo es er =
+    er ∙ rw (ei, eo, ep, es) (by-index (jobAt version journal n) n (t .few) other lo numbers sets (indexed-booked version journal n numbers sets t) job l)

@@ -10,7 +10,8 @@ use native.Mathlib.Omega.{arith}
 use lib.ListN.{length}
 use Rattle.base.proofs.Reflect.{by-cases}
 use Rattle.base.proofs.Search.{first-le}
-use Rattle.codec.specs.Codec.{jobOf, recordSize}
+use Rattle.codec.proofs.Sizes.{place-first, place-next}
+use Rattle.codec.specs.Codec.{jobOf, placeOf, recordSize}
 use Rattle.record.specs.Entries.{framesOf, isUsed, labelOf}
 use Rattle.record.specs.declared.Job.{Job}
 use Rattle.journal.proofs.Putting.{put-length, slot-before}
@@ -144,86 +145,91 @@ module _ (job job′ : ℕ → Job) (n : ℕ) (alike : (k : ℕ) → k < n → j
 -- ---- a journal's index
 
 -- what a reader of the index has
-module _ (journal : List ℕ) (n : ℕ) (numbers sets : List ℕ) (t : IndexedEntries journal n numbers sets) where
-  pub indexed-entered : Entered (slotJob journal) (8 * n) numbers sets
-  indexed-entered = rw (t .numbers-are, t .sets-are) (tables-entered (slotJob journal) (8 * n) (omega (arith, t .few)))
+module _ (version : ℕ) (journal : List ℕ) (n : ℕ) (numbers sets : List ℕ) (t : IndexedEntries version journal n numbers sets) where
+  pub indexed-entered : Entered (slotJob version journal) (8 * n) numbers sets
+  indexed-entered = rw (t .numbers-are, t .sets-are) (tables-entered (slotJob version journal) (8 * n) (omega (arith, t .few)))
 
   pub indexed-tables : Tables numbers sets
   indexed-tables = let e = indexed-entered in record { numbers-size = e .numbered .size; sets-size = e .marked .size; small = e .numbered .small }
 
   -- and of the jobs that the journal books
-  pub indexed-booked : Entered (jobAt journal n) (8 * n) numbers sets
-  indexed-booked = entered-booked journal n (t .inside) numbers sets indexed-entered
+  pub indexed-booked : Entered (jobAt version journal n) (8 * n) numbers sets
+  indexed-booked = entered-booked version journal n (t .inside) numbers sets indexed-entered
 
-pub indexed-filed : (journal : List ℕ) (n : ℕ) (records : List ℕ) → IndexedRecords journal n records → Filed (slotJob journal) n records
-indexed-filed journal n records t = rw (t .records-are) (tables-filed (slotJob journal) n (t .few))
+pub indexed-filed : (version : ℕ) (journal : List ℕ) (n : ℕ) (records : List ℕ) → IndexedRecords version journal n records → Filed
+    (slotJob version journal) n records
+indexed-filed version journal n records t = rw (t .records-are) (tables-filed (slotJob version journal) n (t .few))
 
 -- checks 11 to 14 of a booked job by the counts of its record
-pub admission-booked : (journal : List ℕ) (n : ℕ) (numbers sets : List ℕ) → IndexedEntries journal n numbers sets
+pub admission-booked : (version : ℕ) (journal : List ℕ) (n : ℕ) (numbers sets : List ℕ) → IndexedEntries version journal n numbers sets
     → (held others : JobSet) → InWords held → InWords others → (job inputs outputs : ℕ) (part : List ℕ) (r : Verdict) → job < n
-    → part ≡ recordAt journal n job → inputs ≡ jobOf part .inputs → outputs ≡ jobOf part .outputs → r ≡ admissionBy numbers sets inputs outputs held others job
-    → r ≡ admission (jobAt journal n) n held others (jobAt journal n job)
+    → part ≡ recordAt version journal n job → inputs ≡ jobOf part .inputs → outputs ≡ jobOf part .outputs
+    → r ≡ admissionBy numbers sets inputs outputs held others job
+    → r ≡ admission (jobAt version journal n) n held others (jobAt version journal n job)
 unfolding jobAt
-admission-booked journal n numbers sets t held others hw ow job inputs outputs part r l ep ei eo er =
-    er ∙ rw (ei, eo, ep) (by-index (jobAt journal n) n numbers sets (indexed-booked journal n numbers sets t) (t .few) job l held others hw ow)
+admission-booked version journal n numbers sets t held others hw ow job inputs outputs part r l ep ei eo er =
+    er ∙ rw (ei, eo, ep) (by-index (jobAt version journal n) n numbers sets (indexed-booked version journal n numbers sets t) (t .few) job l held others hw ow)
 
 -- none, and one more
-pub indexed-none : (journal numbers sets records : List ℕ) → Blank numbers sets records → Indexed journal 0 numbers sets records
+pub indexed-none : (version : ℕ) (journal numbers sets records : List ℕ) → Blank numbers sets records → Indexed version journal 0 numbers sets records
 unfolding numbersOf setsOf recordsOf
-indexed-none journal numbers sets records t = record {
+indexed-none version journal numbers sets records t = record {
   few = omega arith;
-  inside = omega arith;
+  inside = omega (arith, place-first version);
   numbers-are = t .no-numbers;
   sets-are = t .no-sets;
   records-are = t .no-records;
 }
 
-module _ (journal : List ℕ) (n : ℕ) (numbers sets records : List ℕ) (t : Indexed journal n numbers sets records) where
+module _ (version : ℕ) (journal : List ℕ) (n : ℕ) (numbers sets records : List ℕ) (t : Indexed version journal n numbers sets records) where
   -- its parts
-  pub entries-part : IndexedEntries journal n numbers sets
+  pub entries-part : IndexedEntries version journal n numbers sets
   entries-part = record { few = t .few; inside = t .inside; numbers-are = t .numbers-are; sets-are = t .sets-are }
 
-  pub records-part : IndexedRecords journal n records
+  pub records-part : IndexedRecords version journal n records
   records-part = record { few = t .few; inside = t .inside; records-are = t .records-are }
 
   pub indexed-size : (length numbers ≡ numbersSize) × (length sets ≡ setsSize) × (length records ≡ recordsSize)
   indexed-size =
-      let e = indexed-entered journal n numbers sets entries-part in
-      (e .numbered .size, e .marked .size, indexed-filed journal n records records-part .size)
+      let e = indexed-entered version journal n numbers sets entries-part in
+      (e .numbered .size, e .marked .size, indexed-filed version journal n records records-part .size)
 
-module _ (journal : List ℕ) (n : ℕ) (numbers sets records : List ℕ) (t : Indexed journal n numbers sets records) where
+module _ (version : ℕ) (journal : List ℕ) (n : ℕ) (numbers sets records : List ℕ) (t : Indexed version journal n numbers sets records) where
   -- the tables are as long as those of no record
   pub indexed-lengths : (numbers₀ sets₀ records₀ : List ℕ) → Blank numbers₀ sets₀ records₀
       → (length numbers ≡ length numbers₀) × (length sets ≡ length sets₀) × (length records ≡ length records₀)
   indexed-lengths numbers₀ sets₀ records₀ z =
-      let s = indexed-size journal n numbers sets records t in
-      let r = indexed-size journal 0 numbers₀ sets₀ records₀ (indexed-none journal numbers₀ sets₀ records₀ z) in
+      let s = indexed-size version journal n numbers sets records t in
+      let r = indexed-size version journal 0 numbers₀ sets₀ records₀ (indexed-none version journal numbers₀ sets₀ records₀ z) in
       (s .0 ∙ sym (r .0), s .1 ∙ sym (r .1), s .2 ∙ sym (r .2))
 
-  pub indexed-all : (m : ℕ) → n ≤ m → m ≤ n → Indexed journal m numbers sets records
+  pub indexed-all : (m : ℕ) → n ≤ m → m ≤ n → Indexed version journal m numbers sets records
   indexed-all m l h = let e : m ≡ n = omega arith in rw e t
 
-  pub indexed-next : (a : Job) (numbers′ sets′ records′ : List ℕ) → HasRecord journal n → a ≡ slotJob journal n
-      → Entries (slotJob journal) (8 * (n + 1)) numbers′ sets′ → records′ ≡ recordsWith records (sumOf a) n → Indexed journal (n + 1) numbers′ sets′ records′
+  pub indexed-next : (a : Job) (numbers′ sets′ records′ : List ℕ) → HasRecord version journal n → a ≡ slotJob version journal n
+      → Entries (slotJob version journal) (8 * (n + 1)) numbers′ sets′ → records′ ≡ recordsWith records (sumOf a) n → Indexed version journal
+      (n + 1) numbers′ sets′ records′
   unfolding recordsOf
   indexed-next a numbers′ sets′ records′ h ea e r = record {
     few = omega (arith, h .few);
-    inside = omega (arith, h .inside);
+    inside = omega (arith, h .inside, place-next version n);
     numbers-are = e .numbers-are;
     sets-are = e .sets-are;
     records-are = r ∙ rw (add-one n, ea, t .records-are);
   }
 
   -- a record put in place n leaves the index of those before
-  pub indexed-put : (bytes : List ℕ) → length bytes ≡ recordSize → recordSize * n + recordSize ≤ length journal
-      → Indexed (putAt journal n bytes) n numbers sets records
+  pub indexed-put : (bytes : List ℕ) → length bytes ≡ recordSize version → placeOf version n + recordSize version ≤ length journal
+      → Indexed version (putAt version journal n bytes) n numbers sets records
   unfolding slotJob
   indexed-put bytes size room =
-      let same : (k : ℕ) → k < n → slotJob journal k ≡ slotJob (putAt journal n bytes) k = λ k l. ap jobOf (sym (slot-before n journal bytes size room k l)) in
+      let same : (k : ℕ) → k < n → slotJob version journal k ≡ slotJob version (putAt version journal n bytes) k = λ k l. ap jobOf
+      (sym (slot-before version n journal bytes size room k l)) in
       record {
         few = t .few;
-        inside = omega (arith, t .inside, put-length n journal bytes size room);
-        numbers-are = t .numbers-are ∙ numbers-alike (slotJob journal) (slotJob (putAt journal n bytes)) n same (8 * n) (le-refl (8 * n));
-        sets-are = t .sets-are ∙ sets-alike (slotJob journal) (slotJob (putAt journal n bytes)) n same (8 * n) (le-refl (8 * n));
-        records-are = t .records-are ∙ records-alike (slotJob journal) (slotJob (putAt journal n bytes)) n same n (le-refl n);
+        inside = omega (arith, t .inside, put-length version n journal bytes size room);
+        numbers-are = t .numbers-are ∙ numbers-alike (slotJob version journal) (slotJob version (putAt version journal n bytes)) n same (8 * n)
+            (le-refl (8 * n));
+        sets-are = t .sets-are ∙ sets-alike (slotJob version journal) (slotJob version (putAt version journal n bytes)) n same (8 * n) (le-refl (8 * n));
+        records-are = t .records-are ∙ records-alike (slotJob version journal) (slotJob version (putAt version journal n bytes)) n same n (le-refl n);
       }

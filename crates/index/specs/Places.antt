@@ -8,7 +8,7 @@ use Prim.Native.Nat.{_%_, _*_, _+_, _/_, _<_, _≤_, ℕ}
 use lib.Dec.{eqb, ltb}
 use lib.ListN.{getD, length}
 use Rattle.base.specs.Search.{anyBelow, firstBelow}
-use Rattle.codec.specs.Codec.{jobOf, recordSize}
+use Rattle.codec.specs.Codec.{jobOf, placeOf}
 use Rattle.record.specs.Entries.{framesOf, isUsed, labelOf}
 use Rattle.record.specs.declared.Job.{Job}
 use Rattle.journal.specs.Journal.{capacity, slotAt}
@@ -40,13 +40,13 @@ setsSize = 6 * places
 
 -- ---- the jobs of a journal, booked or not
 
-unfoldable pub slotJob : List ℕ → ℕ → Job
-slotJob journal k = jobOf (slotAt journal k)
+unfoldable pub slotJob : ℕ → List ℕ → ℕ → Job
+slotJob version journal k = jobOf (slotAt version journal k)
 
 -- the journal holds the records of the first m places
-pub record Holds (journal : List ℕ) (m : ℕ) : Type 0 where
+pub record Holds (version : ℕ) (journal : List ℕ) (m : ℕ) : Type 0 where
   pub few : m ≤ places
-  pub inside : recordSize * ((m + 7) / 8) ≤ length journal
+  pub inside : placeOf version ((m + 7) / 8) ≤ length journal
 
 -- ---- what a place has
 

@@ -143,16 +143,17 @@ fn admission_by(
 pub fn admission(
     numbers: &[u16],
     sets: &[u64],
+    version: u16,
     journal: &[u8],
     n: usize,
     held: JobSet,
     others: JobSet,
     job: usize,
 ) -> Verdict
-    requires { ⌜ (job < n) × IndexedEntries (now journal) n (now numbers) (now sets) ⌝ }
-    ensures { λ r. ⌜ r ≡ admission (jobAt (now (journal .entry)) n) n held others (jobAt (now (journal .entry)) n job) ⌝ }
+    requires { ⌜ (job < n) × IndexedEntries version (now journal) n (now numbers) (now sets) ⌝ }
+    ensures { λ r. ⌜ r ≡ admission (jobAt version (now (journal .entry)) n) n held others (jobAt version (now (journal .entry)) n job) ⌝ }
 {
-    let part = journal::lookup(journal, n, job);
+    let part = journal::lookup(version, journal, n, job);
     let inputs = codec::inputs_of(part) as usize;
     let outputs = codec::outputs_of(part) as usize;
     admission_by(numbers, sets, inputs, outputs, held, others, job)

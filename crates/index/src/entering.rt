@@ -2,7 +2,7 @@
 ghost use mathlib.Core.Path.{_≡_};
 ghost use Prim.Native.Nat.{_*_, _+_, _<_, _≤_};
 ghost use lib.ListN.{length};
-ghost use Rattle.codec.specs.Codec.{recordSize};
+ghost use Rattle.codec.specs.Codec.{placeOf};
 ghost use Rattle.journal.specs.Journal.{capacity};
 ghost use Rattle.index.specs.Entering.{Entries, numbersWith, setsWith};
 ghost use Rattle.index.specs.Index.{Blank, HasRecord, Indexed};
@@ -45,28 +45,40 @@ fn mark(sets: &mut [u64], label: usize, tape: usize, n: usize, e: usize)
 fn enter_used(
     numbers: &mut [u16],
     sets: &mut [u64],
+    version: u16,
     journal: &[u8],
     m: usize,
     label: u64,
     frames: u32,
 )
-    requires { ⌜ Holds (now journal) (m + 1) × UsedEntry (slotJob (now journal)) m label frames × Entries (slotJob (now journal)) m (now numbers) (now sets) ⌝ }
-    ensures { λ _. ⌜ Entries (slotJob (now (journal .entry))) (m + 1) (now (numbers .exit)) (now (sets .exit)) ⌝ }
+    requires { ⌜ Holds version (now journal) (m + 1) × UsedEntry (slotJob version (now journal)) m label frames
+        × Entries (slotJob version (now journal)) m (now numbers) (now sets) ⌝ }
+    ensures { λ _. ⌜ Entries (slotJob version (now (journal .entry))) (m + 1) (now (numbers .exit)) (now (sets .exit)) ⌝ }
 {
-    let own = seeking::numbers_of(journal, &numbers[..], label, frames, m);
+    let own = seeking::numbers_of(version, journal, &numbers[..], label, frames, m);
     mark(sets, own.label, own.tape, m / 8, m % 8);
     put(numbers, m, own.label, own.tape, seeking::bucket(label));
 }
 
 // Enters entry e of job n, which is a, where it is used.
-fn enter_entry(numbers: &mut [u16], sets: &mut [u64], journal: &[u8], a: Job, n: usize, e: usize)
-    requires { ⌜ (e < 8) × HasRecord (now journal) n × (a ≡ slotJob (now journal) n) × Entries (slotJob (now journal)) (8 * n + e) (now numbers) (now sets) ⌝ }
-    ensures { λ _. ⌜ Entries (slotJob (now (journal .entry))) (8 * n + e + 1) (now (numbers .exit)) (now (sets .exit)) ⌝ }
+fn enter_entry(
+    numbers: &mut [u16],
+    sets: &mut [u64],
+    version: u16,
+    journal: &[u8],
+    a: Job,
+    n: usize,
+    e: usize,
+)
+    requires { ⌜ (e < 8) × HasRecord version (now journal) n × (a ≡ slotJob version (now journal) n)
+        × Entries (slotJob version (now journal)) (8 * n + e) (now numbers) (now sets) ⌝ }
+    ensures { λ _. ⌜ Entries (slotJob version (now (journal .entry))) (8 * n + e + 1) (now (numbers .exit)) (now (sets .exit)) ⌝ }
 {
     if record::used(a, e) {
         enter_used(
             numbers,
             sets,
+            version,
             journal,
             8 * n + e,
             record::label(a, e),
@@ -77,12 +89,20 @@ fn enter_entry(numbers: &mut [u16], sets: &mut [u64], journal: &[u8], a: Job, n:
 }
 
 // Enters the entries of job n, which is a.
-fn enter_entries(numbers: &mut [u16], sets: &mut [u64], journal: &[u8], a: Job, n: usize)
-    requires { ⌜ HasRecord (now journal) n × (a ≡ slotJob (now journal) n) × Entries (slotJob (now journal)) (8 * n) (now numbers) (now sets) ⌝ }
-    ensures { λ _. ⌜ Entries (slotJob (now (journal .entry))) (8 * (n + 1)) (now (numbers .exit)) (now (sets .exit)) ⌝ }
+fn enter_entries(
+    numbers: &mut [u16],
+    sets: &mut [u64],
+    version: u16,
+    journal: &[u8],
+    a: Job,
+    n: usize,
+)
+    requires { ⌜ HasRecord version (now journal) n × (a ≡ slotJob version (now journal) n)
+        × Entries (slotJob version (now journal)) (8 * n) (now numbers) (now sets) ⌝ }
+    ensures { λ _. ⌜ Entries (slotJob version (now (journal .entry))) (8 * (n + 1)) (now (numbers .exit)) (now (sets .exit)) ⌝ }
 {
     for e in 0..8 {
-        enter_entry(numbers, sets, journal, a, n, e);
+        enter_entry(numbers, sets, version, journal, a, n, e);
     }
 }
 
@@ -91,29 +111,39 @@ pub fn enter(
     numbers: &mut [u16],
     sets: &mut [u64],
     records: &mut [u16],
+    version: u16,
     journal: &[u8],
     a: Job,
     n: usize,
 )
-    requires { ⌜ HasRecord (now journal) n × (a ≡ slotJob (now journal) n) × Indexed (now journal) n (now numbers) (now sets) (now records) ⌝ }
-    ensures { λ _. ⌜ Indexed (now (journal .entry)) (n + 1) (now (numbers .exit)) (now (sets .exit)) (now (records .exit)) ⌝ }
+    requires { ⌜ HasRecord version (now journal) n × (a ≡ slotJob version (now journal) n)
+        × Indexed version (now journal) n (now numbers) (now sets) (now records) ⌝ }
+    ensures { λ _. ⌜ Indexed version (now (journal .entry)) (n + 1) (now (numbers .exit)) (now (sets .exit)) (now (records .exit)) ⌝ }
 {
-    enter_entries(numbers, sets, journal, a, n);
+    enter_entries(numbers, sets, version, journal, a, n);
     records::file(records, a, n);
 }
 
 // Enters the first n records in tables of zeros.
-pub fn build(numbers: &mut [u16], sets: &mut [u64], records: &mut [u16], journal: &[u8], n: usize)
-    requires { ⌜ (n ≤ capacity) × (recordSize * n ≤ length (now journal)) × Blank (now numbers) (now sets) (now records) ⌝ }
-    ensures { λ _. ⌜ Indexed (now (journal .entry)) n (now (numbers .exit)) (now (sets .exit)) (now (records .exit)) ⌝ }
+pub fn build(
+    numbers: &mut [u16],
+    sets: &mut [u64],
+    records: &mut [u16],
+    version: u16,
+    journal: &[u8],
+    n: usize,
+)
+    requires { ⌜ (n ≤ capacity) × (placeOf version n ≤ length (now journal)) × Blank (now numbers) (now sets) (now records) ⌝ }
+    ensures { λ _. ⌜ Indexed version (now (journal .entry)) n (now (numbers .exit)) (now (sets .exit)) (now (records .exit)) ⌝ }
 {
     for k in 0..n {
         enter(
             numbers,
             sets,
             records,
+            version,
             journal,
-            codec::read(journal::slot(journal, k)),
+            codec::read(version, journal::slot(version, journal, k)),
             k,
         );
     }

@@ -4,7 +4,7 @@ ghost use mathlib.Core.Path.{_≡_};
 ghost use Prim.Native.Nat.{_*_, _+_, _<_, _≤_};
 ghost use lib.ListN.{length};
 ghost use Rattle.base.specs.Search.{firstBelow};
-ghost use Rattle.codec.specs.Codec.{jobOf, recordSize};
+ghost use Rattle.codec.specs.Codec.{jobOf, placeOf, recordSize};
 ghost use Rattle.journal.specs.Journal.{capacity, equalAt};
 ghost use Rattle.index.specs.Index.{IndexedRecords};
 ghost use Rattle.index.specs.Places.{buckets};
@@ -38,26 +38,26 @@ pub(crate) fn file(records: &mut [u16], a: Job, n: usize)
 }
 
 // k where its record has the bytes, else what was found before.
-fn nearer(journal: &[u8], bytes: &[u8], k: usize, found: usize) -> usize
-    requires { ⌜ recordSize * k + recordSize ≤ length (now journal) ⌝ }
-    ensures { λ r. ⌜ r ≡ cond (equalAt (now (journal .entry)) (now (bytes .entry)) k) k found ⌝ }
+fn nearer(version: u16, journal: &[u8], bytes: &[u8], k: usize, found: usize) -> usize
+    requires { ⌜ placeOf version k + recordSize version ≤ length (now journal) ⌝ }
+    ensures { λ r. ⌜ r ≡ cond (equalAt version (now (journal .entry)) (now (bytes .entry)) k) k found ⌝ }
 {
-    if journal::equal_at(journal, bytes, k) {
+    if journal::equal_at(version, journal, bytes, k) {
         return k;
     }
     found
 }
 
 // The first of n records that has the bytes, which say job a, or n. The chain leads to the first at last.
-pub fn find(records: &[u16], journal: &[u8], bytes: &[u8], a: Job, n: usize) -> usize
-    requires { ⌜ (a ≡ jobOf (now bytes)) × IndexedRecords (now journal) n (now records) ⌝ }
-    ensures { λ r. ⌜ r ≡ firstBelow n (equalAt (now (journal .entry)) (now (bytes .entry))) ⌝ }
+pub fn find(records: &[u16], version: u16, journal: &[u8], bytes: &[u8], a: Job, n: usize) -> usize
+    requires { ⌜ (a ≡ jobOf (now bytes)) × IndexedRecords version (now journal) n (now records) ⌝ }
+    ensures { λ r. ⌜ r ≡ firstBelow n (equalAt version (now (journal .entry)) (now (bytes .entry))) ⌝ }
 {
     let mut found = n;
     let mut x = seeking::number(records, sum(a));
     while 0 < x {
         let k = x - 1;
-        found = nearer(journal, bytes, k, found);
+        found = nearer(version, journal, bytes, k, found);
         x = seeking::number(records, BUCKETS + k);
     }
     found

@@ -29,15 +29,16 @@ fn conflicts_by(
 pub fn conflict(
     numbers: &[u16],
     sets: &[u64],
+    version: u16,
     journal: &[u8],
     n: usize,
     job: usize,
     other: usize,
 ) -> bool
-    requires { ⌜ (job < n) × (other < n) × IndexedEntries (now journal) n (now numbers) (now sets) ⌝ }
-    ensures { λ r. ⌜ r ≡ conflicting (jobAt (now (journal .entry)) n job) (jobAt (now (journal .entry)) n other) ⌝ }
+    requires { ⌜ (job < n) × (other < n) × IndexedEntries version (now journal) n (now numbers) (now sets) ⌝ }
+    ensures { λ r. ⌜ r ≡ conflicting (jobAt version (now (journal .entry)) n job) (jobAt version (now (journal .entry)) n other) ⌝ }
 {
-    let part = journal::lookup(journal, n, job);
+    let part = journal::lookup(version, journal, n, job);
     let inputs = codec::inputs_of(part) as usize;
     let outputs = codec::outputs_of(part) as usize;
     conflicts_by(

@@ -4,7 +4,7 @@ ghost use mathlib.Core.Path.{_≡_};
 ghost use Prim.Native.Nat.{_*_, _+_, _-_, _/_, _<_, _≤_};
 ghost use lib.Dec.{eqb};
 ghost use lib.ListN.{getD, length};
-ghost use Rattle.codec.specs.Codec.{recordSize};
+ghost use Rattle.codec.specs.Codec.{placeOf, recordSize};
 ghost use Rattle.index.specs.Places.{Holds, Numbered, Sought, bucketOf, buckets, fits, framesAt, labelAt, slotJob};
 use crate::BUCKETS;
 use crate::HEADS;
@@ -43,11 +43,11 @@ fn agree(label: u64, frames: u32, l: u64, f: u32) -> bool
 }
 
 // The entry at a place, where it stands in the journal.
-fn entry_at(journal: &[u8], at: usize) -> Entry
-    requires { ⌜ recordSize * (at / 8) + recordSize ≤ length (now journal) ⌝ }
-    ensures { λ r. ⌜ (r .label ≡ labelAt (slotJob (now (journal .entry))) at) × (r .frames ≡ framesAt (slotJob (now (journal .entry))) at) ⌝ }
+fn entry_at(version: u16, journal: &[u8], at: usize) -> Entry
+    requires { ⌜ placeOf version (at / 8) + recordSize version ≤ length (now journal) ⌝ }
+    ensures { λ r. ⌜ (r .label ≡ labelAt (slotJob version (now (journal .entry))) at) × (r .frames ≡ framesAt (slotJob version (now (journal .entry))) at) ⌝ }
 {
-    codec::entry_of(journal::slot(journal, at / 8), at % 8)
+    codec::entry_of(journal::slot(version, journal, at / 8), at % 8)
 }
 
 // The numbers of a place: of its label, and of its tape.
@@ -79,15 +79,22 @@ fn label_number(numbers: &[u16], seen: usize, m: usize) -> usize
 
 // The numbers of a tape among the first m places. The walk ends at a place that has the tape, which has both; else some place that it
 // passed may have the label.
-pub(crate) fn numbers_of(journal: &[u8], numbers: &[u16], label: u64, frames: u32, m: usize) -> Pair
-    requires { ⌜ Holds (now journal) m × Numbered (slotJob (now journal)) m (now numbers) ⌝ }
-    ensures { λ r. ⌜ Sought (slotJob (now (journal .entry))) label frames m (r .label) (r .tape) ⌝ }
+pub(crate) fn numbers_of(
+    version: u16,
+    journal: &[u8],
+    numbers: &[u16],
+    label: u64,
+    frames: u32,
+    m: usize,
+) -> Pair
+    requires { ⌜ Holds version (now journal) m × Numbered (slotJob version (now journal)) m (now numbers) ⌝ }
+    ensures { λ r. ⌜ Sought (slotJob version (now (journal .entry))) label frames m (r .label) (r .tape) ⌝ }
 {
     let mut seen = 0;
     let mut x = number(numbers, HEADS + bucket(label));
     while 0 < x {
         let at = x - 1;
-        let there = entry_at(journal, at);
+        let there = entry_at(version, journal, at);
         if agree(label, frames, there.label, there.frames) {
             return Pair {
                 label: number(numbers, at),

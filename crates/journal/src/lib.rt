@@ -1,53 +1,52 @@
 // The lent journal: its records as parts of it, what lies inside, and room for one more.
 ghost use mathlib.Core.Path.{_≡_};
-ghost use Prim.Native.Nat.{_+_, _*_, _≤_};
+ghost use Prim.Native.Nat.{_+_, _≤_};
 ghost use lib.ListN.{length};
-ghost use Rattle.codec.specs.Codec.{recordSize};
+ghost use Rattle.codec.specs.Codec.{placeOf, recordSize};
 ghost use Rattle.journal.specs.Journal.{isBooked, recordAt, insideOf, slotAt, equalAt, hasRoom, putAt};
-use codec::RECORD;
 
 // How many records a journal books at most.
 pub const CAPACITY: usize = 128;
 
-// Check 4: the job is booked, and every booked record lies wholly inside. Divided, because a product could overflow.
-pub fn is_booked(journal: &[u8], booked: usize, job: usize) -> bool
-    ensures { λ r. ⌜ r ≡ isBooked (now (journal .entry)) booked job ⌝ }
+// Check 4: the job is booked, and every booked record lies wholly inside. Counted in whole records, because a product could overflow.
+pub fn is_booked(version: u16, journal: &[u8], booked: usize, job: usize) -> bool
+    ensures { λ r. ⌜ r ≡ isBooked version (now (journal .entry)) booked job ⌝ }
 {
-    if booked <= journal.len() / RECORD {
+    if booked <= codec::whole_in(version, journal.len()) {
         return job < booked;
     }
     false
 }
 
 // The job's record inside the journal, or the empty part where check 4 fails.
-pub fn lookup(journal: &[u8], booked: usize, job: usize) -> &[u8]
-    ensures { λ r. ⌜ now r ≡ recordAt (now (journal .entry)) booked job ⌝ }
+pub fn lookup(version: u16, journal: &[u8], booked: usize, job: usize) -> &[u8]
+    ensures { λ r. ⌜ now r ≡ recordAt version (now (journal .entry)) booked job ⌝ }
 {
-    if booked > journal.len() / RECORD {
+    if booked > codec::whole_in(version, journal.len()) {
         return &journal[0..0];
     }
     if job >= booked {
         return &journal[0..0];
     }
-    let at = RECORD * job;
-    &journal[at..at + RECORD]
+    slot(version, journal, job)
 }
 
 // The bytes in place k. A helper for whoever keeps a journal, not a step: the place lies inside. The index reads entries by it, and a test
 // here would stand in each of its reads.
-pub fn slot(journal: &[u8], k: usize) -> &[u8]
-    requires { ⌜ recordSize * k + recordSize ≤ length (now journal) ⌝ }
-    ensures { λ r. ⌜ now r ≡ slotAt (now (journal .entry)) k ⌝ }
+pub fn slot(version: u16, journal: &[u8], k: usize) -> &[u8]
+    requires { ⌜ placeOf version k + recordSize version ≤ length (now journal) ⌝ }
+    ensures { λ r. ⌜ now r ≡ slotAt version (now (journal .entry)) k ⌝ }
 {
-    let at = RECORD * k;
-    &journal[at..at + RECORD]
+    let at = codec::place(version, k);
+    let end = at + codec::record_size(version);
+    &journal[at..end]
 }
 
 // How many booked records lie wholly inside.
-pub fn inside(journal: &[u8], booked: usize) -> usize
-    ensures { λ r. ⌜ r ≡ insideOf (now (journal .entry)) booked ⌝ }
+pub fn inside(version: u16, journal: &[u8], booked: usize) -> usize
+    ensures { λ r. ⌜ r ≡ insideOf version (now (journal .entry)) booked ⌝ }
 {
-    let fit = journal.len() / RECORD;
+    let fit = codec::whole_in(version, journal.len());
     if booked <= fit {
         return booked;
     }
@@ -55,28 +54,29 @@ pub fn inside(journal: &[u8], booked: usize) -> usize
 }
 
 // The bytes in place k, which lies inside, are these.
-pub fn equal_at(journal: &[u8], bytes: &[u8], k: usize) -> bool
-    requires { ⌜ recordSize * k + recordSize ≤ length (now journal) ⌝ }
-    ensures { λ r. ⌜ r ≡ equalAt (now (journal .entry)) (now (bytes .entry)) k ⌝ }
+pub fn equal_at(version: u16, journal: &[u8], bytes: &[u8], k: usize) -> bool
+    requires { ⌜ placeOf version k + recordSize version ≤ length (now journal) ⌝ }
+    ensures { λ r. ⌜ r ≡ equalAt version (now (journal .entry)) (now (bytes .entry)) k ⌝ }
 {
-    check::same(slot(journal, k), bytes)
+    check::same(slot(version, journal, k), bytes)
 }
 
 // Check 10: fewer than 128 records are booked, and one more lies wholly inside.
-pub fn has_room(journal: &[u8], booked: usize) -> bool
-    ensures { λ r. ⌜ r ≡ hasRoom (now (journal .entry)) booked ⌝ }
+pub fn has_room(version: u16, journal: &[u8], booked: usize) -> bool
+    ensures { λ r. ⌜ r ≡ hasRoom version (now (journal .entry)) booked ⌝ }
 {
     if booked < CAPACITY {
-        return booked < journal.len() / RECORD;
+        return booked < codec::whole_in(version, journal.len());
     }
     false
 }
 
 // Puts a record's bytes in place k. A helper for whoever keeps a journal, not a step: the caller has the room.
-pub fn put_at(journal: &mut [u8], k: usize, bytes: &[u8])
-    requires { ⌜ (recordSize * k + recordSize ≤ length (now journal)) × (length (now bytes) ≡ recordSize) ⌝ }
-    ensures { λ _. ⌜ now (journal .exit) ≡ putAt (now (journal .entry)) k (now (bytes .entry)) ⌝ }
+pub fn put_at(version: u16, journal: &mut [u8], k: usize, bytes: &[u8])
+    requires { ⌜ (placeOf version k + recordSize version ≤ length (now journal)) × (length (now bytes) ≡ recordSize version) ⌝ }
+    ensures { λ _. ⌜ now (journal .exit) ≡ putAt version (now (journal .entry)) k (now (bytes .entry)) ⌝ }
 {
-    let at = RECORD * k;
-    bytes::copy(bytes, &mut journal[at..at + RECORD]);
+    let from = codec::place(version, k);
+    let until = from + codec::record_size(version);
+    bytes::copy(bytes, &mut journal[from..until]);
 }

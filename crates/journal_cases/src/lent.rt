@@ -80,7 +80,7 @@ fn third(l: Ledger, journal: &[u8; 12900]) {
 pub(crate) fn lent() {
     let mut journal = [0u8; 12900];
     steps::heading(b"two booked");
-    let new = books::new(4, 1, 8).ledger;
+    let new = books::new(4, 1, 8, 1).ledger;
     let l = steps::propose(new, &mut journal, b"master", jobs::master());
     let l = steps::propose(l, &mut journal, b"copy", jobs::copy());
     let l = lengths(l, &journal);
@@ -94,8 +94,8 @@ pub(crate) fn lent() {
 pub(crate) fn unbooked_equal() {
     let mut journal = [0u8; 200];
     steps::heading(b"unbooked equal");
-    codec::write(jobs::copy(), &mut journal);
-    let new = books::new(4, 1, 8).ledger;
+    codec::write(1, jobs::copy(), &mut journal);
+    let new = books::new(4, 1, 8, 1).ledger;
     let l = steps::propose(new, &mut journal, b"copy", jobs::copy());
     steps::show(l, &journal, 0);
     let l = steps::propose(l, &mut journal, b"master", jobs::master());
@@ -143,7 +143,7 @@ fn booked(l: Ledger, journal: &[u8; 13000]) {
 pub(crate) fn full() {
     let mut journal = [255u8; 13000];
     steps::heading(b"full");
-    let new = books::new(1, 0, 0).ledger;
+    let new = books::new(1, 0, 0, 1).ledger;
     let l = fill(new, &mut journal);
     let l = last(l, &mut journal);
     booked(l, &journal);

@@ -72,7 +72,7 @@ fn each(l: Ledger, journal: &[u8; 200]) -> Ledger {
 // The first n bytes of a record with a byte after it are proposed.
 fn cut(l: Ledger, journal: &mut [u8], n: usize, name: &[u8]) -> Ledger {
     let mut bytes = [0u8; 101];
-    codec::write(jobs::master(), &mut bytes);
+    codec::write(1, jobs::master(), &mut bytes);
     let all: &[u8] = &bytes;
     if n <= all.len() {
         return steps::report(name, operations::propose(l, journal, &all[0..n]));
@@ -120,7 +120,7 @@ fn unfit(l: Ledger, journal: &mut [u8; 200]) -> Ledger {
 pub(crate) fn ranges() {
     let mut journal = [0u8; 200];
     steps::heading(b"ranges");
-    let new = books::new(4, 1, 8).ledger;
+    let new = books::new(4, 1, 8, 1).ledger;
     let l = steps::propose(new, &mut journal, b"master", jobs::master());
     let l = steps::propose(l, &mut journal, b"copy", jobs::copy());
     let l = each(l, &journal);

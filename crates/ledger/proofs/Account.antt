@@ -44,12 +44,12 @@ use Rattle.conflicts.specs.Tapes.{framesIn, inputTapes, labels, outputTapes, sa
 use Rattle.record.specs.declared.Entry.{Entry}
 use Rattle.record.specs.declared.Job.{Job}
 use Rattle.ledger.proofs.Gates.{passed-rest}
-use Rattle.ledger.specs.Demand3.{OneCreator, accessionedAlong, madeAlong, retire, standingAlong, standingFrom}
+use Rattle.ledger.specs.Demand3.{OneCreator, accessionedAlong, madeAlong, retire, standingAlong, standingFrom, trimmedAlong}
 use Rattle.ledger.specs.Register.{Register, accessionOf, entering, isAdmissible, passes, tabled, taking, withoutInputs}
 
 -- ---- what admissible means
 pub record CanTake (r : Register) (bytes : List ℕ) : Type 0 where
-  pub fits : examined bytes ≡ Pass
+  pub fits : examined (r .version) bytes ≡ Pass
   pub standing : (t : Entry) → In t (inputTapes (jobOf bytes)) → In t (r .standing)
   pub new : (t : Entry) → In t (outputTapes (jobOf bytes)) → In (t .label) (r .made) → ⊥
 
@@ -61,16 +61,16 @@ pub reflect-admissible : (r : Register) (bytes : List ℕ) → Reflects (isAdmis
 unfolding isAdmissible
 reflect-admissible r bytes =
     reflect-as
-    (reflect-and (reflect-passes (examined bytes))
+    (reflect-and (reflect-passes (examined (r .version) bytes))
     (reflect-and
     (reflect-all-in (inputTapes (jobOf bytes)) (λ t. reflect-member t (r .standing) (reflect-tape t)))
     (reflect-all-in (outputTapes (jobOf bytes)) (λ t. reflect-not (reflect-member (t .label) (r .made) (reflect-eq (t .label)))))))
     (λ h. record { fits = h .0; standing = h .1 .0; new = h .1 .1 })
     (λ h. (h .fits, (h .standing, h .new)))
 
-pub examined-checked : (bytes : List ℕ) → examined bytes ≡ Pass → checkOf (jobOf bytes) ≡ Pass
+pub examined-checked : (version : ℕ) (bytes : List ℕ) → examined version bytes ≡ Pass → checkOf (jobOf bytes) ≡ Pass
 unfolding examined
-examined-checked bytes e = passed-rest (eqb (length bytes) recordSize) (checkOf (jobOf bytes)) _ e
+examined-checked version bytes e = passed-rest (eqb (length bytes) (recordSize version)) (checkOf (jobOf bytes)) _ e
 
 -- ---- along a list
 standing-snoc : (job : ℕ → Job) (st : List Entry) (ks : List ℕ) (k : ℕ)
@@ -87,6 +87,10 @@ standing-jobs job job′ st (x ∷ ks) e =
 accessioned-jobs : (job job′ : ℕ → Job) (ks : List ℕ) → ((k : ℕ) → In k ks → job′ k ≡ job k) → accessionedAlong job′ ks ≡ accessionedAlong job ks
 accessioned-jobs job job′ [] e = refl
 accessioned-jobs job job′ (x ∷ ks) e = ap₂ (λ (j : Job) (m : ℕ). accessionOf j + m) (e x (inl refl)) (accessioned-jobs job job′ ks (λ k m. e k (inr m)))
+
+trimmed-jobs : (job job′ : ℕ → Job) (ks : List ℕ) → ((k : ℕ) → In k ks → job′ k ≡ job k) → trimmedAlong job′ ks ≡ trimmedAlong job ks
+trimmed-jobs job job′ [] e = refl
+trimmed-jobs job job′ (x ∷ ks) e = ap₂ (λ (j : Job) (m : ℕ). j .trimmed + m) (e x (inl refl)) (trimmed-jobs job job′ ks (λ k m. e k (inr m)))
 
 made-snoc : (job : ℕ → Job) (ks : List ℕ) (k : ℕ) → madeAlong job (ks ++ (k ∷ [])) ≡ madeAlong job ks ++ labels (outputTapes (job k))
 made-snoc job [] k = append-nil (labels (outputTapes (job k)))
@@ -127,7 +131,7 @@ pub record Books (r : Register) : Type 0 where
   pub along : r .standing ≡ standingAlong (tabled (r .table)) (r .taken)
   pub marks : r .made ≡ madeAlong (tabled (r .table)) (r .taken)
   pub mints : r .accessioned ≡ accessionedAlong (tabled (r .table)) (r .taken)
-  pub frames : framesIn (r .standing) ≡ r .accessioned
+  pub frames : framesIn (r .standing) + trimmedAlong (tabled (r .table)) (r .taken) ≡ r .accessioned
 
 -- ---- a job is taken
 module _ (r : Register) (k : ℕ) (b : Books r) (h : k < length (r .table)) (a : CanTake r (getD (r .table) k [])) where
@@ -138,7 +142,7 @@ module _ (r : Register) (k : ℕ) (b : Books r) (h : k < length (r .table)) (a :
   rest = withoutInputs j (r .standing)
 
   well-formed : WellFormed j
-  well-formed = checked-well-formed j (examined-checked (getD (r .table) k []) (a .fits))
+  well-formed = checked-well-formed j (examined-checked (r .version) (getD (r .table) k []) (a .fits))
 
   outputs-once : Distinct (labels (outputTapes j))
   outputs-once =
@@ -247,6 +251,7 @@ module _ (r : Register) (k : ℕ) (b : Books r) (h : k < length (r .table)) (a :
       total-append (λ (t : Entry). t .frames) rest (outputTapes j),
       without-total sameTape reflect-tape (λ (t : Entry). t .frames) (inputTapes j) (r .standing)
           (distinct-map (λ (t : Entry). t .label) (r .standing) (b .once)) inputs-once (a .standing),
+      total-append (λ i. tabled (r .table) i .trimmed) (r .taken) (k ∷ []),
       well-formed .balance,
       b .frames,
     );
@@ -280,5 +285,5 @@ books-enter r bytes b =
       along = b .along ∙ sym (standing-jobs (tabled (r .table)) (tabled (r .table ++ (bytes ∷ []))) [] (r .taken) e);
       marks = b .marks ∙ sym (made-jobs (tabled (r .table)) (tabled (r .table ++ (bytes ∷ []))) (r .taken) e);
       mints = b .mints ∙ sym (accessioned-jobs (tabled (r .table)) (tabled (r .table ++ (bytes ∷ []))) (r .taken) e);
-      frames = b .frames;
+      frames = ap (λ (m : ℕ). framesIn (r .standing) + m) (trimmed-jobs (tabled (r .table)) (tabled (r .table ++ (bytes ∷ []))) (r .taken) e) ∙ b .frames;
     }

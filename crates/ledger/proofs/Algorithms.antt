@@ -30,7 +30,7 @@ use Rattle.ledger.specs.Graph.{Algorithm1}
 use Rattle.journal.specs.Journal.{jobAt}
 use Rattle.ledger.specs.Meaning.{Certificate, Entered}
 use Rattle.ledger.specs.Register.{isDone, passes}
-use Rattle.ledger.specs.State.{acknowledgersOf, signersOf, vaultAt, votesIn}
+use Rattle.ledger.specs.State.{acknowledgersOf, signersOf, vaultAt, versionOf, votesIn}
 use Rattle.ledger.specs.Decisions.{admissionAt, answering, certificate, committing, consent, consenting, gated, preflighting, receiving, voting}
 use Rattle.ledger.specs.Steps.{commitDecision, preflightDecision}
 use Rattle.vaults.specs.Vaults.{consented, holding, signing, vaultPreflight}
@@ -64,7 +64,7 @@ module _ (l : Ledger) (journal : List ℕ) (v k : ℕ) (in-place : Entered l jou
   vault = vaultAt l v
 
   abbrev jobs : ℕ → Job
-  jobs = jobAt journal (l .booked)
+  jobs = jobAt (versionOf l) journal (l .booked)
 
   -- the member that Algorithm 1 runs at signs
   abbrev pub Signs : Type 0

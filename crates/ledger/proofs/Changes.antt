@@ -22,7 +22,8 @@ use Rattle.outcome.specs.declared.Refusal.the-variants.{Full, NotHeld, Settings
 use Rattle.outcome.specs.declared.Verdict.{Verdict}
 use Rattle.outcome.specs.declared.Verdict.the-variants.{Fail, Pass}
 use Rattle.checks.specs.Checks.{examined}
-use Rattle.codec.specs.Codec.{recordSize}
+use Rattle.codec.proofs.Sizes.{place-before, room-whole, whole-room}
+use Rattle.codec.specs.Codec.{placeOf}
 use Rattle.conflicts.proofs.Meaning.{conflicting-sym}
 use Rattle.conflicts.specs.Conflicts.{conflicting}
 use Rattle.record.specs.declared.Job.{Job}
@@ -43,7 +44,7 @@ use Rattle.generations.specs.Generations.{ageIn}
 use Rattle.journal.specs.Journal.{insideOf, isBooked, jobAt, slotAt}
 use Rattle.ledger.specs.Meaning.{Entered, KnownAt, NewAt, Proposed, Sane, failed, full, insane, known, new}
 use Rattle.ledger.specs.Register.{isDone, tabled}
-use Rattle.ledger.specs.State.{applied, arriving, booking, signersOf, vaultAt, visited, voted, votesAt, votesIn, withVault}
+use Rattle.ledger.specs.State.{applied, arriving, booking, signersOf, vaultAt, versionOf, visited, voted, votesAt, votesIn, withVault}
 use Rattle.ledger.specs.State.{acknowledgersOf}
 use Rattle.ledger.specs.Decisions.{
   admissionAt,
@@ -116,7 +117,7 @@ pub record Shape (l : Ledger) (bs : List ℕ) : Type 0 where
   pub votes : length (l .votes) ≡ 128
   pub order : length (l .order) ≡ 128
   pub arrivals : l .arrivals ≤ 128
-  pub records : length bs ≡ recordSize * l .booked
+  pub records : length bs ≡ placeOf (versionOf l) (l .booked)
   pub room : l .booked ≤ 128
   pub next : l .next < l .settings .n
   pub votes-below : (c : Column) (k : ℕ) → votesIn l c k < 2 ^ l .settings .n
@@ -129,7 +130,7 @@ withLedger w l = record { ledger = l; booked = w .booked }
 
 -- the table of the booked records, and its jobs
 abbrev pub tableOf : World → List (List ℕ)
-tableOf w = recordsIn (w .ledger .booked) (w .booked)
+tableOf w = recordsIn (versionOf (w .ledger)) (w .ledger .booked) (w .booked)
 
 -- a vault signs: its set grows and its signature is recorded
 abbrev pub signedBy : Ledger → ℕ → ℕ → Ledger
@@ -164,7 +165,7 @@ pub data Change (w : World) : Request → Bool → World → Type 0 where
   -- answered 0, and nothing changes
   idle : (q : Request) → Idle w q → Change w q true w
   -- answered 0, with one effect
-  appends : (bytes : List ℕ) → examined bytes ≡ Pass → w .ledger .booked < 128 → (In bytes (tableOf w) → ⊥)
+  appends : (bytes : List ℕ) → examined (versionOf (w .ledger)) bytes ≡ Pass → w .ledger .booked < 128 → (In bytes (tableOf w) → ⊥)
       → Change w (propose bytes) true (record { ledger = booking (w .ledger); booked = w .booked ++ bytes })
   signs : (v k : ℕ) → Correct (w .ledger .settings) v → k < w .ledger .booked
       → Unblocked (tabled (tableOf w)) (w .ledger .booked) (vaultAt (w .ledger) v .held) (jobWithout (vaultAt (w .ledger) v .signed) k) (tabled (tableOf w) k)
@@ -191,7 +192,7 @@ module _ (w : World) (sh : Shape (w .ledger) (w .booked)) (size : ℕ) (beyond :
 
   -- the world that a reply leaves, with the journal as it is then
   abbrev left : Reply → List ℕ → World
-  left r js = record { ledger = r .ledger; booked = take (recordSize * r .ledger .booked) (overlay js bs) }
+  left r js = record { ledger = r .ledger; booked = take (placeOf (versionOf l) (r .ledger .booked)) (overlay js bs) }
 
   abbrev Moves : Request → Reply → Type 0
   Moves q r = Change w q (isDone (r .outcome)) (left r journal)
@@ -200,7 +201,7 @@ module _ (w : World) (sh : Shape (w .ledger) (w .booked)) (size : ℕ) (beyond :
   moves : (q : Request) (r : Reply) → r .ledger .booked ≡ l .booked → Change w q (isDone (r .outcome)) (withLedger w (r .ledger)) → Moves q r
   moves q r e c =
       subst (λ (bytes : List ℕ). Change w q (isDone (r .outcome)) (record { ledger = r .ledger; booked = bytes }))
-      (sym (ap (λ (n : ℕ). take n (overlay journal bs)) (ap (λ (n : ℕ). recordSize * n) e ∙ sym (sh .records)) ∙ kept-bytes size bs beyond)) c
+      (sym (ap (λ (n : ℕ). take n (overlay journal bs)) (ap (λ (n : ℕ). placeOf (versionOf l) n) e ∙ sym (sh .records)) ∙ kept-bytes size bs beyond)) c
 
   -- a refusal, and an answer that changes nothing
   refuses : (q : Request) (why : Refusal) (v k : ℕ) → Moves q (carried l (refusing why) v k)
@@ -220,22 +221,23 @@ module _ (w : World) (sh : Shape (w .ledger) (w .booked)) (size : ℕ) (beyond :
   correct v k h = record { below = h .vault; sound = h .role }
 
   -- the booked jobs, as they are read behind a gate
-  jobs : {v k : ℕ} {f : Bool} → Entered l journal v k f → jobAt journal (l .booked) ≡ tabled (tableOf w)
-  jobs h = jobs-read (l .booked) size bs beyond (sh .records) (h .known .inside)
+  jobs : {v k : ℕ} {f : Bool} → Entered l journal v k f → jobAt (versionOf l) journal (l .booked) ≡ tabled (tableOf w)
+  jobs h = jobs-read (versionOf l) (l .booked) size bs beyond (sh .records) (h .known .inside)
 
   -- ---- preflight
-  unblocked : (v k : ℕ) → Entered l journal v k false → admissionAt (vaultAt l v) journal (l .booked) k ≡ Pass
+  unblocked : (v k : ℕ) → Entered l journal v k false → admissionAt (vaultAt l v) (versionOf l) journal (l .booked) k ≡ Pass
       → Unblocked (tabled (tableOf w)) (l .booked) (vaultAt l v .held) (jobWithout (vaultAt l v .signed) k) (tabled (tableOf w) k)
   unfolding admissionAt
   unblocked v k h e =
       subst (λ (job : ℕ → Job). Unblocked job (l .booked) (vaultAt l v .held) (jobWithout (vaultAt l v .signed) k) (job k)) (jobs h)
-      (admission-unblocked (jobAt journal (l .booked)) (l .booked) (vaultAt l v .held) (jobWithout (vaultAt l v .signed) k) (jobAt journal (l .booked) k) e)
+      (admission-unblocked (jobAt (versionOf l) journal (l .booked)) (l .booked) (vaultAt l v .held) (jobWithout (vaultAt l v .signed) k)
+      (jobAt (versionOf l) journal (l .booked) k) e)
 
   signed-booked : (v k : ℕ) → signedBy l v k .booked ≡ l .booked
   unfolding voted withVault
   signed-booked v k = refl
 
-  consents : (v k : ℕ) (b : Bool) (d : Verdict) → admissionAt (vaultAt l v) journal (l .booked) k ≡ d → Entered l journal v k false
+  consents : (v k : ℕ) (b : Bool) (d : Verdict) → admissionAt (vaultAt l v) (versionOf l) journal (l .booked) k ≡ d → Entered l journal v k false
       → let answer : Signing = cond b (record { consent = Already; vault = vaultAt l v }) (consented d (vaultAt l v) k) in
       Moves (preflight v k) (carried l (consenting (answer .consent) (answer .vault) (signersOf l k) v) v k)
   unfolding applied
@@ -249,7 +251,7 @@ module _ (w : World) (sh : Shape (w .ledger) (w .booked)) (size : ℕ) (beyond :
   unfolding preflightDecision preflighting consent vaultPreflight
   change-preflight v k =
       behind (preflight v k) (vaultGate l journal v k false) _ v k
-      (λ g. consents v k (jobHas (vaultAt l v .signed) k) (admissionAt (vaultAt l v) journal (l .booked) k) refl (entered l journal v k false g))
+      (λ g. consents v k (jobHas (vaultAt l v .signed) k) (admissionAt (vaultAt l v) (versionOf l) journal (l .booked) k) refl (entered l journal v k false g))
 
   -- ---- commit
   subset-ones : (k signers : ℕ) → subsetOf signers (signersOf l k) ≡ true → ones signers ≤ ones (signersOf l k)
@@ -301,7 +303,7 @@ module _ (w : World) (sh : Shape (w .ledger) (w .booked)) (size : ℕ) (beyond :
   change-generations : (k : ℕ) → Moves (generations k) (carried l (generationsDecision l journal k) 0 k)
   unfolding generationsDecision ageing
   change-generations k =
-      let age = ageIn (jobAt journal (l .booked)) (l .order) (l .arrivals) k in
+      let age = ageIn (jobAt (versionOf l) journal (l .booked)) (l .order) (l .arrivals) k in
       behind (generations k) (bookedGate l journal k) _ 0 k
       (λ g. by-cases (λ b. Moves (generations k) (carried l (cond b (answering age) (refusing NotHeld)) 0 k)) (isHeld (l .settings) (l .vaults) k)
       (λ e. answers (generations k) age 0 k tt)
@@ -319,10 +321,10 @@ module _ (w : World) (sh : Shape (w .ledger) (w .booked)) (size : ℕ) (beyond :
   unfolding releaseDecision releasing supersession supersededAt applied withVault
   change-release v k rival =
       behind (release v k rival) (vaultGate l journal v k false) _ v k
-      (λ g. behind (release v k rival) (supersession (vaultAt l v) journal (l .booked) k rival) _ v k
+      (λ g. behind (release v k rival) (supersession (vaultAt l v) (versionOf l) journal (l .booked) k rival) _ v k
       (λ s.
       let h = entered l journal v k false g in
-      let known = passed-rest (isBooked journal (l .booked) rival) _ _ s in
+      let known = passed-rest (isBooked (versionOf l) journal (l .booked) rival) _ _ s in
       let lost = passed-test _ _ _ (passed-rest (jobHas (vaultAt l v .signed) k) _ _ known) in
       let differ = and-true (not (eqb k rival)) _ lost in
       let kept = and-true (jobHas (vaultAt l v .held) rival) _ (differ .1) in
@@ -334,26 +336,29 @@ module _ (w : World) (sh : Shape (w .ledger) (w .booked)) (size : ℕ) (beyond :
 
   -- ---- propose
   -- a record inside the journal is a booked one
-  slot-tabled : (k : ℕ) → k < insideOf journal (l .booked) → slotAt journal k ≡ getD (tableOf w) k []
+  slot-tabled : (k : ℕ) → k < insideOf (versionOf l) journal (l .booked) → slotAt (versionOf l) journal k ≡ getD (tableOf w) k []
   unfolding insideOf
   slot-tabled k h =
-      slot-agrees k size bs beyond (omega (arith, sh .records)) (omega arith) ∙ sym (records-at (l .booked) k bs (omega arith))
+      let before = place-before (versionOf l) k (l .booked) (omega arith) in
+      slot-agrees (versionOf l) k size bs beyond (omega (arith, sh .records, before)) (whole-room (versionOf l) k (length journal) (omega arith)) ∙ sym
+      (records-at (versionOf l) (l .booked) k bs (omega arith))
 
   found : (bytes : List ℕ) (k : ℕ) → KnownAt l journal bytes k → In bytes (tableOf w)
   unfolding insideOf
   found bytes k h =
       subst (λ (x : List ℕ). In x (tableOf w)) (sym (slot-tabled k (h .first .below)) ∙ h .first .has)
-      (in-getD (tableOf w) [] k (omega (arith, h .first .below, records-length (l .booked) bs)))
+      (in-getD (tableOf w) [] k (omega (arith, h .first .below, records-length (versionOf l) (l .booked) bs)))
 
   unknown : (bytes : List ℕ) → NewAt l journal bytes → In bytes (tableOf w) → ⊥
   unfolding insideOf
   unknown bytes h m =
       let q = getD-in (tableOf w) [] bytes m in
-      let b : q .0 < insideOf journal (l .booked) = omega (arith, q .1, records-length (l .booked) bs, h .fits) in
+      let b : q .0 < insideOf (versionOf l) journal (l .booked) =
+      omega (arith, q .1, records-length (versionOf l) (l .booked) bs, room-whole (versionOf l) (l .booked) (length journal) (h .fits)) in
       h .unknown (q .0) b (slot-tabled (q .0) b ∙ q .2)
 
   change-propose : (bytes : List ℕ) (d : Decision) → Proposed l journal bytes d
-      → Change w (propose bytes) (isDone (d .outcome)) (left (carried l d 0 0) (journalWith (d .change) (l .booked) journal bytes))
+      → Change w (propose bytes) (isDone (d .outcome)) (left (carried l d 0 0) (journalWith (d .change) (l .booked) (versionOf l) journal bytes))
   unfolding applied booking
   change-propose bytes d (insane n) = refuses (propose bytes) BadSettings 0 0
   change-propose bytes d (failed why s e) = refuses (propose bytes) why 0 0
@@ -361,7 +366,7 @@ module _ (w : World) (sh : Shape (w .ledger) (w .booked)) (size : ℕ) (beyond :
   change-propose bytes d (known k h) = answers (propose bytes) k 0 0 (found bytes k h)
   change-propose bytes d (new h) =
       subst (λ (b : List ℕ). Change w (propose bytes) true (record { ledger = booking l; booked = b }))
-      (sym (grown-bytes size bs beyond bytes (l .booked) (sh .records) (examined-length bytes (h .passes)) (h .fits)))
+      (sym (grown-bytes (versionOf l) size bs beyond bytes (l .booked) (sh .records) (examined-length (versionOf l) bytes (h .passes)) (h .fits)))
       (appends bytes (h .passes) (h .below) (unknown bytes h))
 
   pub change : (q : Request) → Change w q (isDone (stepOf l journal q .outcome)) (left (stepOf l journal q) (leftBy l journal q))

@@ -180,7 +180,7 @@ module _ {w : World} {r : Register} (inv : Inv w r) where
       (by-creators (bookedJob w) order n long taken-once (q .0) h (creators-of (getD order (q .0) 0) (subst (λ (x : ℕ). In x (arrived (w .ledger))) (sym e) m)))
 
 pub generations-by-creators : GenerationsByCreators
-generations-by-creators n b faulty lawful es k held =
-    let inv = inv-along es (start n b faulty) newRegister (first n b faulty lawful) in
+generations-by-creators n b faulty version lawful es k held =
+    let inv = inv-along es (start n b faulty version) (newRegister version) (first n b faulty version lawful) in
     let v = held-by _ k held in
     inv-creators inv k (subst (λ (l : List ℕ). In k l) (inv .taken) (inv .held-taken (v .0) k (v .1)))

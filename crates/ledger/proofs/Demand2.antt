@@ -25,7 +25,7 @@ use Rattle.ledger.specs.Demand3.{bookedJob}
 use Rattle.ledger.specs.Graph.{Algorithm1}
 use Rattle.ledger.specs.Meaning.{Certificate, Entered}
 use Rattle.ledger.specs.Register.{Register, isDone, newRegister, tabled}
-use Rattle.ledger.specs.State.{signersOf, vaultAt}
+use Rattle.ledger.specs.State.{signersOf, vaultAt, versionOf}
 use Rattle.ledger.specs.Worlds.{World, lend, preflight, start}
 use Rattle.ledger.specs.declared.Decision.{Decision}
 use Rattle.ledger.specs.declared.Ledger.{Ledger}
@@ -45,14 +45,14 @@ module _ {w : World} {r : Register} (i : Inv w r) (size : ℕ) (beyond : List �
     known = record { inside = p .whole; below = p .booked };
   }
 
-  jobs : jobAt journal (l .booked) ≡ bookedJob w
-  jobs = jobs-read (l .booked) size (w .booked) beyond (i .shape .records) (p .whole)
+  jobs : jobAt (versionOf l) journal (l .booked) ≡ bookedJob w
+  jobs = jobs-read (versionOf l) (l .booked) size (w .booked) beyond (i .shape .records) (p .whole)
 
   -- a booked record passed checks 6 to 9
-  checked : checkOf (jobAt journal (l .booked) k) ≡ Pass
+  checked : checkOf (jobAt (versionOf l) journal (l .booked) k) ≡ Pass
   checked =
       ap (λ (job : ℕ → Job). checkOf (job k)) (jobs ∙ ap tabled (sym (i .table)))
-      ∙ examined-checked (getD (r .table) k []) (i .fit _ (in-getD (r .table) [] k (omega (arith, p .booked, table-length i))))
+      ∙ examined-checked (r .version) (getD (r .table) k []) (i .fit _ (in-getD (r .table) [] k (omega (arith, p .booked, table-length i))))
 
   -- Algorithm 1 over the jobs of a book
   abbrev Over : (ℕ → Job) → Type 0
@@ -81,5 +81,5 @@ module _ {w : World} {r : Register} (i : Inv w r) (size : ℕ) (beyond : List �
   }
 
 pub demand2 : Demand2
-demand2 n b faulty lawful es size beyond v k p =
-    obeys (along es (start n b faulty) newRegister (first n b faulty lawful)) size beyond v k p
+demand2 n b faulty version lawful es size beyond v k p =
+    obeys (along es (start n b faulty version) (newRegister version) (first n b faulty version lawful)) size beyond v k p

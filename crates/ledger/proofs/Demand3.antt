@@ -1,17 +1,25 @@
 -- Demand 3: the invariant holds at the start, each step of any list keeps it, and it says all that the statement asks.
 use mathlib.Core.Bool.{Bool, false, true, true≢false}
 use mathlib.Core.List.{List, [], _∷_}
-use mathlib.Core.Logic.{⊎-elim}
+use mathlib.Core.Logic.{inl, inr, ⊎-elim}
 use mathlib.Core.Path.{_∙_, _≡_, ap, refl, subst, sym}
-use Prim.Native.Nat.{_<_, _^_, _≤_, suc, zero, ℕ}
+use Prim.Native.Nat.{_+_, _<_, _^_, _≤_, suc, zero, ℕ}
 use native.Mathlib.Omega.{arith}
 use lib.Count.{ones}
 use lib.ListN.{getD, replicate}
 use lib.Pow.{pow-pos}
-use Rattle.base.specs.Lists.{In}
+use Rattle.base.proofs.Members.{in-getD}
+use Rattle.base.specs.Lists.{In, total}
 use Rattle.outcome.specs.Figures.{numberOf}
 use Rattle.outcome.specs.declared.Outcome.{Outcome}
-use Rattle.codec.proofs.Numbers.{room}
+use Rattle.outcome.specs.declared.Verdict.the-variants.{Pass}
+use Rattle.checks.specs.Checks.{examined}
+use Rattle.codec.proofs.RoundTrip.{plain-untrimmed}
+use Rattle.codec.proofs.Sizes.{place-first}
+use Rattle.codec.specs.Codec.{saysTrimmed}
+use Rattle.conflicts.specs.Tapes.{framesIn}
+use Rattle.record.specs.declared.Entry.{Entry}
+use Rattle.record.specs.declared.Job.{Job}
 use Rattle.sets.proofs.Bits.{has-none}
 use Rattle.sets.proofs.Jobs.{has-no-jobs}
 use Rattle.sets.specs.Bits.{hasBit}
@@ -21,13 +29,15 @@ use Rattle.ledger.proofs.Changes.{Change, appends, changes, holds, idle
 use Rattle.ledger.proofs.Effects.{hold-settings}
 use Rattle.ledger.proofs.Gates.{reflect-sane}
 use Rattle.ledger.proofs.Invariant.{Inv, held-by, keep, tally}
+use Rattle.ledger.proofs.Places.{examined-length}
 use Rattle.ledger.proofs.Refusals.{never-one}
 use Rattle.ledger.proofs.Safety.{certified-apart, meeting}
 use Rattle.ledger.proofs.Views.{heldAt, signedAt, votedAt}
-use Rattle.ledger.specs.Demand3.{Apart, Demand3, Disjoint, Held, Holds, RefusedUnchanged, accessionedAlong, madeAlong, recordsIn, standingAlong}
+use Rattle.ledger.specs.Demand3.{Apart, Demand3, Disjoint, FirstVersion, Held, Holds, RefusedUnchanged, accessionedAlong, madeAlong, recordsIn}
+use Rattle.ledger.specs.Demand3.{standingAlong, trimmedAlong}
 use Rattle.federation.specs.Federation.{Lawful, thresholdOf}
 use Rattle.ledger.specs.Register.{Register, feed, feedAll, isDone, log, newRegister, tabled}
-use Rattle.ledger.specs.State.{acknowledgersOf, booking, newLedger, signersOf, vaultAt, visited, voted, votesIn, withVault}
+use Rattle.ledger.specs.State.{acknowledgersOf, booking, newLedger, signersOf, vaultAt, versionOf, visited, voted, votesIn, withVault}
 use Rattle.vaults.specs.Vaults.{newVault}
 use Rattle.vaults.specs.Votes.{columnOf, noVotes}
 use Rattle.vaults.specs.declared.Column.{Column}
@@ -79,9 +89,9 @@ filled zero i a = refl
 filled (suc n) zero a = refl
 filled (suc n) (suc i) a = filled n i a
 
-module _ (n b faulty : ℕ) where
+module _ (n b faulty version : ℕ) where
   abbrev empty : Ledger
-  empty = newLedger n b faulty
+  empty = newLedger n b faulty version
 
   no-jobs : (f : Vault → JobSet) → f newVault ≡ noJobs → (v k : ℕ) → jobHas (f (vaultAt empty v)) k ≡ true → ⊥
   unfolding newLedger noJobs
@@ -101,11 +111,11 @@ module _ (n b faulty : ℕ) where
   none-below : (c : Column) (k : ℕ) → votesIn empty c k < 2 ^ n
   none-below c k = rw (none-in c k) (pow-pos n)
 
-  pub settings-first : start n b faulty .ledger .settings ≡ record { n = n; b = b; faulty = faulty }
+  pub settings-first : start n b faulty version .ledger .settings ≡ record { n = n; b = b; faulty = faulty; version = version }
   unfolding start newLedger
   settings-first = refl
 
-  pub first : Lawful (record { n = n; b = b; faulty = faulty }) → Inv (start n b faulty) newRegister
+  pub first : Lawful (record { n = n; b = b; faulty = faulty; version = version }) → Inv (start n b faulty version) (newRegister version)
   unfolding start newLedger heldAt signedAt votedAt noJobs recordsIn
   first lawful = record {
     shape = record {
@@ -114,7 +124,7 @@ module _ (n b faulty : ℕ) where
       votes = refl;
       order = refl;
       arrivals = omega arith;
-      records = refl;
+      records = sym (place-first version);
       room = omega arith;
       next = omega (arith, lawful .few);
       votes-below = none-below;
@@ -130,6 +140,7 @@ module _ (n b faulty : ℕ) where
       outvoted = λ v m k c t r. absurd (no-jobs (λ x. x .held) refl v m t);
       honest = λ v k c t. absurd (no-vaults Acknowledgements v k t);
     };
+    version = refl;
     fit = λ x m. absurd m;
     books = record {
       known = λ k m. absurd m;
@@ -168,6 +179,13 @@ module _ {w : World} {r : Register} (i : Inv w r) where
   quorum : (k : ℕ) → Held (w .ledger) k → thresholdOf (w .ledger .settings) ≤ ones (signersOf (w .ledger) k)
   quorum k h = let q = held-by (w .ledger) k h in i .safe .certified (q .0) k (q .1)
 
+  abbrev job : ℕ → Job
+  job = tabled (r .table)
+
+  -- the law of frames along a list
+  abbrev Balanced : List ℕ → Type 0
+  Balanced ks = framesIn (standingAlong job ks) + trimmedAlong job ks ≡ accessionedAlong job ks
+
   pub inv-holds : (s : Settings) → w .ledger .settings ≡ s → Holds s w r
   inv-holds s e = record {
     settings = e;
@@ -177,13 +195,15 @@ module _ {w : World} {r : Register} (i : Inv w r) where
     held-taken = λ k h. let q = held-by (w .ledger) k h in i .held-taken (q .0) k (q .1);
     table = i .table;
     records-once = i .unique;
-    checked = i .fit;
+    checked = λ x m. subst (λ (v : ℕ). examined v x ≡ Pass) (i .version) (i .fit x m);
     known = i .books .known;
     once = i .once;
     standing = subst (λ (ks : List ℕ). r .standing ≡ standingAlong (tabled (r .table)) ks) (i .taken) (i .books .along);
     made = subst (λ (ks : List ℕ). r .made ≡ madeAlong (tabled (r .table)) ks) (i .taken) (i .books .marks);
     accessioned = subst (λ (ks : List ℕ). r .accessioned ≡ accessionedAlong (tabled (r .table)) ks) (i .taken) (i .books .mints);
     frames = i .books .frames;
+    frames-along = subst Balanced (i .taken)
+        (ap (λ (st : List Entry). framesIn st + trimmedAlong job (r .taken)) (sym (i .books .along)) ∙ i .books .frames ∙ i .books .mints);
     creators = i .books .creators;
     certified = finished-certified;
   }
@@ -200,24 +220,43 @@ never-ones (e ∷ es) w r i o m =
 
 -- ---- demand 3
 pub demand3 : Demand3
-demand3 n b faulty lawful es =
-    let i : Inv (start n b faulty) newRegister = first n b faulty lawful in (
-      inv-holds (along es (start n b faulty) newRegister i) _ (settings-along es (start n b faulty) newRegister i ∙ settings-first n b faulty),
-      never-ones es (start n b faulty) newRegister i,
+demand3 n b faulty version lawful es =
+    let i : Inv (start n b faulty version) (newRegister version) = first n b faulty version lawful in (
+      inv-holds (along es (start n b faulty version) (newRegister version) i) _
+          (settings-along es (start n b faulty version) (newRegister version) i ∙ settings-first n b faulty version),
+      never-ones es (start n b faulty version) (newRegister version) i,
     )
+
+-- ---- version 1
+no-total : (f : ℕ → ℕ) (ks : List ℕ) → ((k : ℕ) → In k ks → f k ≡ 0) → total f ks ≡ 0
+no-total f [] e = refl
+no-total f (k ∷ ks) e = omega (arith, e k (inl refl), no-total f ks (λ m i. e m (inr i)))
+
+-- a record that has no place for trimmed frames says none
+untrimmed : {s : Settings} {w : World} {r : Register} → Holds s w r → versionOf (w .ledger) ≡ 1 → trimmedAlong (tabled (r .table)) (r .taken) ≡ 0
+unfolding saysTrimmed
+untrimmed {s} {w} {r} h v =
+    no-total (λ k. tabled (r .table) k .trimmed) (r .taken)
+    (λ k m. plain-untrimmed 1 (getD (r .table) k []) refl (examined-length 1 _
+    (subst (λ (v : ℕ). examined v (getD (r .table) k []) ≡ Pass) v (h .checked _ (in-getD (r .table) [] k (h .known k m))))))
+
+pub first-version : FirstVersion
+first-version n b faulty lawful es =
+    let h = demand3 n b faulty 1 lawful es .0 in
+    omega (arith, h .frames, untrimmed h (ap (λ (s : Settings). s .version) (h .settings)))
 
 -- a refusal is a change of nothing
 pub refused-unchanged : RefusedUnchanged
-refused-unchanged n b faulty lawful es e why refused =
-    let w = afterAll (start n b faulty) es in
-    let i = along es (start n b faulty) newRegister (first n b faulty lawful) in
+refused-unchanged n b faulty version lawful es e why refused =
+    let w = afterAll (start n b faulty version) es in
+    let i = along es (start n b faulty version) (newRegister version) (first n b faulty version lawful) in
     same-world w (e .request) (isDone (replyTo w e .outcome)) (after w e) (changes w (i .shape) e) (ap isDone refused)
 
 -- two jobs that correct vaults hold were each signed by a quorum, and a correct vault signed both and released neither
 pub disjoint : Disjoint
-disjoint n b faulty lawful es k m hk hm ne =
-    let i = along es (start n b faulty) newRegister (first n b faulty lawful) in
-    let w = afterAll (start n b faulty) es in
-    let r = feedAll newRegister (log (start n b faulty) es) in
+disjoint n b faulty version lawful es k m hk hm ne =
+    let i = along es (start n b faulty version) (newRegister version) (first n b faulty version lawful) in
+    let w = afterAll (start n b faulty version) es in
+    let r = feedAll (newRegister version) (log (start n b faulty version) es) in
     subst (λ (t : List (List ℕ)). Apart (tabled t k) (tabled t m)) (i .table)
     (certified-apart (i .safe) (tally i) k m (quorum i k hk) (quorum i m hm) ne)

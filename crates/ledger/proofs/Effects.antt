@@ -3,13 +3,14 @@ use Rattle.sets.specs.declared.job_set.JobSet.{JobSet}
 use Rattle.snapshot.proofs.Visits.{stays-below}
 use mathlib.Core.Bool.{Bool, false, true}
 use mathlib.Core.List.{List, [], _++_, _∷_}
-use mathlib.Core.Path.{_∙_, _≡_, ap, refl, subst, sym}
+use mathlib.Core.Path.{_∙_, _≡_, ap, ap₂, refl, subst, sym}
 use Prim.Native.Nat.{_*_, _<_, _^_, _≤_, ℕ}
 use native.Mathlib.Omega.{arith}
 use lib.Count.{ones}
 use lib.ListN.{getD, length, length-append, length-set, set}
 use Rattle.codec.proofs.Numbers.{room}
-use Rattle.codec.specs.Codec.{recordSize}
+use Rattle.codec.proofs.Sizes.{place-next}
+use Rattle.codec.specs.Codec.{placeOf, recordSize}
 use Rattle.sets.specs.Bits.{hasBit}
 use Rattle.sets.specs.Jobs.{jobHas}
 use Rattle.ledger.proofs.Changes.{Shape, held, releasedBy, signedBy}
@@ -39,7 +40,9 @@ use Rattle.ledger.proofs.Views.{
 }
 use Rattle.federation.specs.Federation.{Lawful}
 use Rattle.generations.specs.Generations.{isAt}
-use Rattle.ledger.specs.State.{arrived, arriving, booking, hasArrived, signersOf, vaultAt, visited, voted, votesIn, withVault}
+use Rattle.ledger.specs.declared.Change.{Change}
+use Rattle.ledger.specs.declared.Change.the-variants.{Book, Hold, Nothing, Record, Release, See, Sign}
+use Rattle.ledger.specs.State.{applied, arrived, arriving, booking, hasArrived, signersOf, vaultAt, versionOf, visited, voted, votesIn, withVault}
 use Rattle.vaults.specs.Vaults.{holding, newVault, signing, unsigning}
 use Rattle.vaults.specs.Votes.{columnOf, noVotes}
 use Rattle.vaults.specs.declared.Column.{Column}
@@ -207,7 +210,7 @@ module _ {l : Ledger} {bs : List ℕ} (s : Shape l bs) where
         votes = ap length (a .votes) ∙ s .votes;
         order = a .order ∙ s .order;
         arrivals = a .arrivals (s .arrivals);
-        records = s .records ∙ ap (λ (m : ℕ). recordSize * m) (sym (a .booked));
+        records = s .records ∙ ap₂ (λ (x : Settings) (m : ℕ). placeOf (x .version) m) (sym (a .settings)) (sym (a .booked));
         room = rw (a .booked) (s .room);
         next = rw (a .next, a .settings) (s .next);
         votes-below = λ c m.
@@ -229,7 +232,7 @@ module _ {l : Ledger} {bs : List ℕ} (s : Shape l bs) where
     votes-below = s .votes-below;
   }
 
-  pub shape-book : (bytes : List ℕ) → l .booked < 128 → length bytes ≡ recordSize → Shape (booking l) (bs ++ bytes)
+  pub shape-book : (bytes : List ℕ) → l .booked < 128 → length bytes ≡ recordSize (versionOf l) → Shape (booking l) (bs ++ bytes)
   unfolding booking votesIn
   shape-book bytes h e = record {
     lawful = s .lawful;
@@ -237,7 +240,7 @@ module _ {l : Ledger} {bs : List ℕ} (s : Shape l bs) where
     votes = s .votes;
     order = s .order;
     arrivals = s .arrivals;
-    records = omega (arith, length-append bs bytes, s .records);
+    records = omega (arith, length-append bs bytes, s .records, place-next (versionOf l) (l .booked));
     room = omega arith;
     next = s .next;
     votes-below = s .votes-below;
@@ -254,3 +257,14 @@ module _ {l : Ledger} {bs : List ℕ} (s : Shape l bs) (v k : ℕ) (hv : v < l .
   pub shape-hold : Shape (held l v k) bs
   unfolding held
   shape-hold = shape-arrive (shape-vote (shape-vault s v (holding (vaultAt l v) k)) Acknowledgements v k (still-vault _)) k
+
+-- no change touches the settings
+pub applied-settings : (l : Ledger) (c : Change) (v job : ℕ) → applied l c v job .settings ≡ l .settings
+unfolding applied booking voted withVault visited
+applied-settings l Nothing v job = refl
+applied-settings l Book v job = refl
+applied-settings l (Sign state) v job = refl
+applied-settings l (Hold state) v job = arrives (voted (withVault l v state) Acknowledgements v job) job .settings
+applied-settings l (Release state) v job = refl
+applied-settings l (Record column) v job = refl
+applied-settings l (See seen) v job = refl

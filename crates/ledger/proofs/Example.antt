@@ -15,6 +15,7 @@ use Rattle.checks.specs.Checks.{
   checkOf,
   countsFormed,
   entryFormed,
+  trimmedFormed,
   examined,
   hasLabelOf,
   inputsFormed,
@@ -25,7 +26,7 @@ use Rattle.checks.specs.Checks.{
   unsupportedAt,
   wellFormed,
 }
-use Rattle.codec.specs.Codec.{entriesAt, entryAt, jobOf, leAt}
+use Rattle.codec.specs.Codec.{entriesAt, entryAt, jobOf, leAt, placeOf, recordSize, saysTrimmed, wholeIn}
 use Rattle.conflicts.specs.Conflicts.{isLabelAt, isTapeAt, labelIn, makesTape}
 use Rattle.record.specs.Drives.{isDrive, supports}
 use Rattle.record.specs.Entries.{framesOf, isUsed, labelOf, usedFrames}
@@ -34,7 +35,7 @@ use Rattle.conflicts.specs.Tapes.{sameTape, usedFrom}
 use Rattle.sets.specs.Bits.{hasBit, subsetOf, withBit, withMember, withoutBit}
 use Rattle.sets.specs.Jobs.{jobHas, jobWith, jobWithout}
 use Rattle.index.specs.Admission.{admission, consumedAt, listedBy, listsAt, madeBefore, madeBy, makesAt, notCreatedAt, remadeAt}
-use Rattle.federation.specs.Federation.{isLawful, thresholdOf}
+use Rattle.federation.specs.Federation.{isFederation, isKnown, isLawfulUpTo, thresholdOf}
 use Rattle.generations.specs.Generations.{ageIn, createdAt, creatorOf, generationAt, generationFrom, generationsBefore, highest}
 use Rattle.ledger.specs.Holders.{holdsAt, isHeld}
 use Rattle.journal.specs.Journal.{equalAt, equalIn, hasRoom, insideOf, isBooked, jobAt, putAt, recordAt, slotAt}
@@ -97,10 +98,11 @@ run =
 
 -- what each step is answered; the register took job 0 alone, and runs
 pub whole-run :
-    (outcomes (start 4 1 8) run
+    (outcomes (start 4 1 8 1) run
     ≡ Done 0 ∷ Done 1 ∷ Refused (NotCreated 0) ∷ Done 1 ∷ Done 2 ∷ Done 3 ∷ Refused TooFewSigners ∷ Done 1 ∷ Refused NotSigned ∷ Done 1 ∷ Done 1 ∷ Done 0 ∷ [])
-    × (feedAll newRegister (log (start 4 1 8) run)
+    × (feedAll (newRegister 1) (log (start 4 1 8 1) run)
     ≡ record {
+      version = 1;
       running = true;
       table = accession ∷ migration ∷ [];
       taken = 0 ∷ [];
@@ -109,12 +111,13 @@ pub whole-run :
       accessioned = 1000;
     })
 unfolding sameList anyBelow allBelow firstBelow sumFrom hasBit withBit withMember withoutBit subsetOf jobHas jobWith jobWithout inputsFormed
-    countsFormed isFilled isBlank entryFormed wellFormed hasLabelOf repeatedAt isWritten unsupportedAt balanced checkOf examined leAt entryAt
-    entriesAt jobOf isLabelAt labelIn isTapeAt makesTape isDrive supports labelOf framesOf isUsed usedFrames isBetween charAt isAlphanumeric mediumOf
-    isLabel usedFrom sameTape makesAt madeBy listsAt listedBy notCreatedAt consumedAt madeBefore remadeAt admission isLawful thresholdOf highest
-    createdAt creatorOf generationFrom generationsBefore generationAt holdsAt isHeld isAt ageIn slotAt isBooked recordAt jobAt insideOf equalAt
-    equalIn hasRoom putAt isAdmissible taking stopped entering feedProposal feedCommit votesIn hasArrived isSane newLedger booking voted withVault
-    enqueued arriving applied bookedGate gateOf saneGate vaultGate placing settling proposal proposeDecision journalAfter consent preflighting
-    preflightDecision certificate receiving committing commitDecision faultyVoteDecision statusOf showDecision ageing generationsDecision signing
-    holding admissionAt vaultPreflight lend overlay after start ones onesIn
+    countsFormed isFilled isBlank entryFormed trimmedFormed wellFormed hasLabelOf repeatedAt isWritten unsupportedAt balanced checkOf examined
+    recordSize saysTrimmed placeOf wholeIn leAt entryAt entriesAt jobOf isLabelAt labelIn isTapeAt makesTape isDrive supports labelOf framesOf isUsed
+    usedFrames isBetween charAt isAlphanumeric mediumOf isLabel usedFrom sameTape makesAt madeBy listsAt listedBy notCreatedAt consumedAt madeBefore
+    remadeAt admission isKnown isFederation isLawfulUpTo thresholdOf highest createdAt creatorOf generationFrom generationsBefore generationAt holdsAt
+    isHeld isAt ageIn slotAt isBooked recordAt jobAt insideOf equalAt equalIn hasRoom putAt isAdmissible taking stopped entering feedProposal
+    feedCommit votesIn hasArrived isSane newLedger booking voted withVault enqueued arriving applied bookedGate gateOf saneGate vaultGate placing
+    settling proposal proposeDecision journalAfter consent preflighting preflightDecision certificate receiving committing commitDecision
+    faultyVoteDecision statusOf showDecision ageing generationsDecision signing holding admissionAt vaultPreflight lend overlay after start ones
+    onesIn
 whole-run = (refl, refl)

@@ -18,7 +18,7 @@ use Rattle.federation.proofs.Lawful.{reflect-lawful}
 use Rattle.journal.proofs.Booked.{reflect-booked}
 use Rattle.journal.specs.Journal.{Booked, capacity}
 use Rattle.ledger.specs.Meaning.{Entered, Sane}
-use Rattle.ledger.specs.State.{applied, isSane}
+use Rattle.ledger.specs.State.{applied, isSane, versionOf}
 use Rattle.ledger.specs.Steps.{bookedGate, carried, gateOf, turned, vaultGate}
 use Rattle.ledger.specs.Decisions.{gated}
 use Rattle.ledger.specs.Given.{Placed}
@@ -50,12 +50,12 @@ pub passed-rest : (b : Bool) (v : Verdict) (why : Refusal) → cond b v (Fail wh
 passed-rest true v why e = e
 passed-rest false v why e = cc
 
-pub booked-entered : (l : Ledger) (journal : List ℕ) (job : ℕ) → bookedGate l journal job ≡ Pass → Sane l × Booked journal (l .booked) job
+pub booked-entered : (l : Ledger) (journal : List ℕ) (job : ℕ) → bookedGate l journal job ≡ Pass → Sane l × Booked (versionOf l) journal (l .booked) job
 unfolding bookedGate
 booked-entered l journal job e =
     let sane = passed-test (isSane l) _ _ e in
     let rest = passed-rest (isSane l) _ _ e in
-    (reflect-sane l .sound sane, reflect-booked journal (l .booked) job .sound (passed-test _ _ _ rest))
+    (reflect-sane l .sound sane, reflect-booked (versionOf l) journal (l .booked) job .sound (passed-test _ _ _ rest))
 
 pub entered : (l : Ledger) (journal : List ℕ) (v job : ℕ) (faulty : Bool) → vaultGate l journal v job faulty ≡ Pass
     → Entered l journal v job faulty
@@ -68,7 +68,7 @@ entered l journal v job faulty e =
       sane = reflect-sane l .sound (passed-test (isSane l) _ _ e);
       vault = ltb-true _ _ (passed-test (ltb v (l .settings .n)) _ _ vault);
       role = reflect-beq _ _ .sound (passed-test (Bool·beq (hasBit (l .settings .faulty) v) faulty) _ _ role);
-      known = reflect-booked journal (l .booked) job .sound (passed-test _ _ _ job·);
+      known = reflect-booked (versionOf l) journal (l .booked) job .sound (passed-test _ _ _ job·);
     }
 
 pub enters : (l : Ledger) (journal : List ℕ) (v job : ℕ) (faulty : Bool) → Entered l journal v job faulty
@@ -79,7 +79,7 @@ enters l journal v job faulty h =
       reflect-sane l .complete (h .sane),
       lt-ltb _ _ (h .vault),
       reflect-beq _ _ .complete (h .role),
-      reflect-booked journal
+      reflect-booked (versionOf l) journal
           (l .booked) job .complete (h .known),
     )
 
@@ -99,7 +99,7 @@ module _ (l : Ledger) (journal : List ℕ) (v job : ℕ) (faulty : Bool) where
   pub placed-vault : (r : Verdict) → r ≡ vaultGate l journal v job faulty → r ≡ Pass → v < 16
   placed-vault r p q = placed r p q .vault
 
-  pub placed-known : (r : Verdict) → r ≡ vaultGate l journal v job faulty → r ≡ Pass → Booked journal (l .booked) job
+  pub placed-known : (r : Verdict) → r ≡ vaultGate l journal v job faulty → r ≡ Pass → Booked (versionOf l) journal (l .booked) job
   placed-known r p q = entered l journal v job faulty (sym p ∙ q) .known
 
   pub placed-few : (r : Verdict) → r ≡ vaultGate l journal v job faulty → r ≡ Pass → l .booked ≤ capacity
@@ -112,7 +112,7 @@ module _ (l : Ledger) (journal : List ℕ) (job : ℕ) where
   pub known-job : (r : Verdict) → r ≡ bookedGate l journal job → r ≡ Pass → job < 128
   known-job r p q = let h = booked-entered l journal job (sym p ∙ q) in omega (arith, h .1 .below, h .0 .booked)
 
-  pub known-booked : (r : Verdict) → r ≡ bookedGate l journal job → r ≡ Pass → Booked journal (l .booked) job
+  pub known-booked : (r : Verdict) → r ≡ bookedGate l journal job → r ≡ Pass → Booked (versionOf l) journal (l .booked) job
   known-booked r p q = booked-entered l journal job (sym p ∙ q) .1
 
   pub known-sane : (r : Verdict) → r ≡ bookedGate l journal job → r ≡ Pass → Sane l

@@ -5,7 +5,7 @@ use Rattle.sets.specs.declared.job_set.JobSet.{JobSet}
 use mathlib.Core.Bool.{Bool, _&&_, cond, false, true, true≢false}
 use mathlib.Core.List.{List, [], _++_, _∷_}
 use mathlib.Core.Logic.{inl, inr, ⊎-elim}
-use mathlib.Core.Path.{_∙_, _≡_, ap, refl, subst, sym}
+use mathlib.Core.Path.{_∙_, _≡_, ap, ap₂, refl, subst, sym}
 use Prim.Native.Nat.{_<_, _≤_, ℕ}
 use native.Mathlib.Omega.{arith}
 use lib.Count.{ones}
@@ -80,7 +80,7 @@ use Rattle.ledger.specs.Demand3.{Apart, Correct, Held, recordsIn}
 use Rattle.federation.specs.Federation.{thresholdOf}
 use Rattle.ledger.specs.Graph.{Unblocked}
 use Rattle.ledger.specs.Register.{Register, entering, feed, feedCommit, feedDone, feedProposal, isAdmissible, stopped, tabled, taking}
-use Rattle.ledger.specs.State.{arrived, booking, signersOf, vaultAt, visited, voted, votesIn, withVault}
+use Rattle.ledger.specs.State.{arrived, booking, signersOf, vaultAt, versionOf, visited, voted, votesIn, withVault}
 use Rattle.ledger.specs.Worlds.{Request, World, commit, faultyVote, generations, preflight, propose, release, show, snapshot}
 use Rattle.vaults.specs.declared.Column.{Column}
 use Rattle.vaults.specs.declared.Column.the-variants.{Acknowledgements, Signatures}
@@ -91,7 +91,8 @@ pub record Inv (w : World) (r : Register) : Type 0 where
   pub shape : Shape (w .ledger) (w .booked)
   pub safe : Safe (w .ledger .settings) (w .ledger .booked) (tabled (r .table)) (heldAt (w .ledger)) (signedAt (w .ledger)) (recordedAt (w .ledger))
       (ackedAt (w .ledger)) (signersOf (w .ledger))
-  pub fit : (x : List ℕ) → In x (r .table) → examined x ≡ Pass
+  pub version : r .version ≡ versionOf (w .ledger)
+  pub fit : (x : List ℕ) → In x (r .table) → examined (r .version) x ≡ Pass
   pub books : Books r
   pub running : r .running ≡ true
   pub table : r .table ≡ tableOf w
@@ -102,7 +103,7 @@ pub record Inv (w : World) (r : Register) : Type 0 where
   pub held-taken : (v k : ℕ) → heldAt (w .ledger) v k ≡ true → In k (r .taken)
 
 pub table-length : {w : World} {r : Register} → Inv w r → length (r .table) ≡ w .ledger .booked
-table-length {w} i = ap length (i .table) ∙ records-length (w .ledger .booked) (w .booked)
+table-length {w} i = ap length (i .table) ∙ records-length (versionOf (w .ledger)) (w .ledger .booked) (w .booked)
 
 -- ---- what is held stays held
 abbrev pub Keeps : Ledger → Ledger → Type 0
@@ -173,10 +174,11 @@ module _ {w : World} {r : Register} (i : Inv w r) where
   inv-ledger l′ a shape safe = record {
     shape = shape;
     safe = safe;
+    version = i .version ∙ ap (λ (s : Settings). s .version) (sym (a .settings));
     fit = i .fit;
     books = i .books;
     running = i .running;
-    table = i .table ∙ ap (λ (n : ℕ). recordsIn n (w .booked)) (sym (a .booked));
+    table = i .table ∙ ap₂ (λ (s : Settings) (n : ℕ). recordsIn (s .version) n (w .booked)) (sym (a .settings)) (sym (a .booked));
     unique = i .unique;
     taken = i .taken ∙ sym (a .order);
     once = i .once;
@@ -240,18 +242,21 @@ module _ {w : World} {r : Register} (i : Inv w r) where
       (i .safe)
 
   -- ---- a record is booked
-  inv-book : (bytes : List ℕ) → examined bytes ≡ Pass → l .booked < 128 → (In bytes (tableOf w) → ⊥)
+  inv-book : (bytes : List ℕ) → examined (versionOf l) bytes ≡ Pass → l .booked < 128 → (In bytes (tableOf w) → ⊥)
       → Inv (record { ledger = booking l; booked = w .booked ++ bytes }) (entering r bytes)
   unfolding booking entering heldAt signedAt votedAt votesIn
   inv-book bytes e h n =
-      let size : length bytes ≡ recordSize = examined-length bytes e in
+      let size : length bytes ≡ recordSize (versionOf l) = examined-length (versionOf l) bytes e in
+      let passes : examined (r .version) bytes ≡ Pass = subst (λ (v : ℕ). examined v bytes ≡ Pass) (sym (i .version)) e in
       record {
         shape = shape-book (i .shape) bytes h size;
         safe = safe-book (i .safe) tally (λ k b. ap jobOf (List·getD-append (r .table) (bytes ∷ []) [] k (omega (arith, table-length i))));
-        fit = λ x m. ⊎-elim (i .fit x) (λ (q : x ≡ bytes). rw q e) (in-snoc (r .table) bytes x m);
+        version = i .version;
+        fit = λ x m. ⊎-elim (i .fit x) (λ (q : x ≡ bytes). rw q passes) (in-snoc (r .table) bytes x m);
         books = books-enter r bytes (i .books);
         running = i .running;
-        table = ap (λ (t : List (List ℕ)). t ++ (bytes ∷ [])) (i .table) ∙ sym (records-snoc (l .booked) (w .booked) bytes (i .shape .records) size);
+        table = ap (λ (t : List (List ℕ)). t ++ (bytes ∷ [])) (i .table) ∙ sym
+            (records-snoc (versionOf l) (l .booked) (w .booked) bytes (i .shape .records) size);
         unique = distinct-snoc (r .table) bytes (i .unique) (λ m. n (subst (λ (t : List (List ℕ)). In bytes t) (i .table) m));
         taken = i .taken;
         once = i .once;
@@ -316,7 +321,8 @@ module _ {w : World} {r : Register} (i : Inv w r) where
         (safe-hold (i .safe) tally v k hk quorum grown (hold-acked l v k (omega (arith, i .shape .votes, is-job k hk)) (is-vault v (c .below))))))))
 
     table-next : r .table ≡ tableOf (withLedger w next)
-    table-next = i .table ∙ ap (λ (n : ℕ). recordsIn n (w .booked)) (sym (hold-booked l v k))
+    table-next =
+        i .table ∙ ap₂ (λ (s : Settings) (n : ℕ). recordsIn (s .version) n (w .booked)) (sym (hold-settings l v k)) (sym (hold-booked l v k))
 
     still-held : (m : ℕ) → Held l m → Held next m
     still-held = still l next (hold-settings l v k) (grown .old)
@@ -346,6 +352,7 @@ module _ {w : World} {r : Register} (i : Inv w r) where
     inv-first new = record {
       shape = shape-hold (i .shape) v k (c .below);
       safe = safe-next;
+      version = i .version ∙ ap (λ (s : Settings). s .version) (sym (hold-settings l v k));
       fit = i .fit;
       books = books-take r k (i .books) (omega (arith, table-length i)) (can-take k hk quorum new);
       running = i .running;

@@ -4,7 +4,7 @@
 use mathlib.Core.Bool.{Bool, cond, false, true}
 use mathlib.Core.List.{List, [], _++_, _∷_, append-assoc}
 use mathlib.Core.Path.{_∙_, _≡_, ap, ap₂, refl, sym}
-use Prim.Native.Nat.{_*_, _+_, _<_, _≤_, suc, zero, ℕ}
+use Prim.Native.Nat.{_+_, _<_, _≤_, suc, zero, ℕ}
 use native.Mathlib.Nat.{le-of-suc-le-suc, not-suc-le-zero}
 use native.Mathlib.Numerals.{add-one}
 use native.Mathlib.Omega.{arith}
@@ -12,7 +12,8 @@ use lib.ListN.{List·getD-eq-default, drop, getD, length, length-append, length-
 use lib.Seq.{drop-append-le, drop-drop, take-append-le, take-at, take-length, take-take}
 use Rattle.base.proofs.Lists.{take-drop}
 use Rattle.base.proofs.Reflect.{refuted}
-use Rattle.codec.specs.Codec.{jobOf, recordSize}
+use Rattle.codec.proofs.Sizes.{place-before, place-first, place-next, place-suc}
+use Rattle.codec.specs.Codec.{jobOf, placeOf, recordSize}
 use Rattle.journal.proofs.Booked.{reflect-booked}
 use Rattle.ledger.specs.Demand3.{recordsIn}
 use Rattle.journal.specs.Journal.{isBooked, jobAt, putAt, recordAt, slotAt}
@@ -26,14 +27,6 @@ prefix c size bs xs h h′ =
     let s : c ≤ size = omega (arith, length-take size (bs ++ xs)) in
     take-take c size (bs ++ xs) s ∙ take-append-le c bs xs h
 
-pub slot-agrees : (k size : ℕ) (bs xs : List ℕ) → recordSize * k + recordSize ≤ length bs → recordSize * k + recordSize ≤ length (lend bs size xs)
-    → slotAt (lend bs size xs) k ≡ slotAt bs k
-unfolding slotAt
-slot-agrees k size bs xs h h′ =
-    take-drop (recordSize * k) recordSize (lend bs size xs)
-    ∙ ap (drop (recordSize * k)) (prefix (recordSize * k + recordSize) size bs xs h h′)
-    ∙ sym (take-drop (recordSize * k) recordSize bs)
-
 -- nothing booked: the booked bytes stay
 pub kept-bytes : (size : ℕ) (bs xs : List ℕ) → take (length bs) (overlay (lend bs size xs) bs) ≡ bs
 unfolding lend overlay
@@ -41,75 +34,86 @@ kept-bytes zero bs xs = take-length bs
 kept-bytes (suc n) [] xs = refl
 kept-bytes (suc n) (x ∷ bs) xs = ap (λ (t : List ℕ). x ∷ t) (kept-bytes n bs xs)
 
--- a record put after them: they are followed by it
-pub grown-bytes : (size : ℕ) (bs xs bytes : List ℕ) (k : ℕ) → length bs ≡ recordSize * k → length bytes ≡ recordSize
-    → recordSize * k + recordSize ≤ length (lend bs size xs)
-    → take (recordSize * (k + 1)) (overlay (putAt (lend bs size xs) k bytes) bs) ≡ bs ++ bytes
-unfolding overlay putAt
-grown-bytes size bs xs bytes k e b h =
-    let js : List ℕ = lend bs size xs in
-    let m : ℕ = recordSize * k in
-    let front : take m js ≡ bs = prefix m size bs xs (omega (arith, e)) (omega arith) ∙ ap (λ (n : ℕ). take n bs) (sym e) ∙ take-length bs in
-    let rest : List ℕ = drop (m + recordSize) js in
-    let tail : List ℕ = drop (length (take m js ++ (bytes ++ rest))) bs in
-    let size′ : recordSize * (k + 1) ≡ length (bs ++ bytes) = omega (arith, length-append bs bytes) in
-    ap (λ (t : List ℕ). take (recordSize * (k + 1)) ((t ++ (bytes ++ rest)) ++ tail)) front
-    ∙ ap (take (recordSize * (k + 1))) (ap (λ (t : List ℕ). t ++ tail) (sym (append-assoc bs bytes rest)) ∙ append-assoc (bs ++ bytes) rest tail)
-    ∙ take-at (bs ++ bytes) (rest ++ tail) (recordSize * (k + 1)) (sym size′)
+-- ---- records, by their version
+module _ (version : ℕ) where
+  pub slot-agrees : (k size : ℕ) (bs xs : List ℕ) → placeOf version k + recordSize version ≤ length bs → placeOf version k + recordSize version ≤ length
+      (lend bs size xs)
+      → slotAt version (lend bs size xs) k ≡ slotAt version bs k
+  unfolding slotAt
+  slot-agrees k size bs xs h h′ =
+      take-drop (placeOf version k) (recordSize version) (lend bs size xs)
+      ∙ ap (drop (placeOf version k)) (prefix (placeOf version k + recordSize version) size bs xs h h′)
+      ∙ sym (take-drop (placeOf version k) (recordSize version) bs)
 
--- ---- the booked records
-pub records-length : (n : ℕ) (bs : List ℕ) → length (recordsIn n bs) ≡ n
-unfolding recordsIn
-records-length zero bs = refl
-records-length (suc n) bs = ap suc (records-length n (drop recordSize bs))
+  -- a record put after them: they are followed by it
+  pub grown-bytes : (size : ℕ) (bs xs bytes : List ℕ) (k : ℕ) → length bs ≡ placeOf version k → length bytes ≡ recordSize version
+      → placeOf version k + recordSize version ≤ length (lend bs size xs)
+      → take (placeOf version (k + 1)) (overlay (putAt version (lend bs size xs) k bytes) bs) ≡ bs ++ bytes
+  unfolding overlay putAt
+  grown-bytes size bs xs bytes k e b h =
+      let js : List ℕ = lend bs size xs in
+      let m : ℕ = placeOf version k in
+      let front : take m js ≡ bs = prefix m size bs xs (omega (arith, e)) (omega arith) ∙ ap (λ (n : ℕ). take n bs) (sym e) ∙ take-length bs in
+      let rest : List ℕ = drop (m + recordSize version) js in
+      let tail : List ℕ = drop (length (take m js ++ (bytes ++ rest))) bs in
+      let size′ : placeOf version (k + 1) ≡ length (bs ++ bytes) = omega (arith, length-append bs bytes, place-next version k) in
+      ap (λ (t : List ℕ). take (placeOf version (k + 1)) ((t ++ (bytes ++ rest)) ++ tail)) front
+      ∙ ap (take (placeOf version (k + 1))) (ap (λ (t : List ℕ). t ++ tail) (sym (append-assoc bs bytes rest)) ∙ append-assoc (bs ++ bytes) rest tail)
+      ∙ take-at (bs ++ bytes) (rest ++ tail) (placeOf version (k + 1)) (sym size′)
 
-pub records-at : (n k : ℕ) (bs : List ℕ) → k < n → getD (recordsIn n bs) k [] ≡ slotAt bs k
-unfolding recordsIn slotAt
-records-at zero k bs h = absurd (not-suc-le-zero h)
-records-at (suc n) zero bs h = refl
-records-at (suc n) (suc k) bs h =
-    records-at n k (drop recordSize bs) (le-of-suc-le-suc h)
-    ∙ ap (take recordSize) (drop-drop (recordSize * k) recordSize bs ∙ ap (λ (m : ℕ). drop m bs) next)
-  where
-    next : recordSize + recordSize * k ≡ recordSize * suc k
-    next = omega arith
+  -- ---- the booked records
+  pub records-length : (n : ℕ) (bs : List ℕ) → length (recordsIn version n bs) ≡ n
+  unfolding recordsIn
+  records-length zero bs = refl
+  records-length (suc n) bs = ap suc (records-length n (drop (recordSize version) bs))
 
-one-more : (n : ℕ) (bs bytes : List ℕ) → length bs ≡ recordSize * n → length bytes ≡ recordSize
-    → recordsIn (suc n) (bs ++ bytes) ≡ recordsIn n bs ++ (bytes ∷ [])
-unfolding recordsIn
-one-more zero [] bytes e b = ap (λ (x : List ℕ). x ∷ []) (ap (λ (m : ℕ). take m bytes) (sym b) ∙ take-length bytes)
-one-more zero (y ∷ bs) bytes e b = absurd (omega (arith, e))
-one-more (suc n) bs bytes e b =
-    let h : recordSize ≤ length bs = omega (arith, e) in
-    ap₂ (λ (x : List ℕ) (l : List (List ℕ)). x ∷ l) (take-append-le recordSize bs bytes h)
-    (ap (recordsIn (suc n)) (drop-append-le recordSize bs bytes h)
-    ∙ one-more n (drop recordSize bs) bytes (omega (arith, length-drop recordSize bs, e)) b)
-
-pub records-snoc : (n : ℕ) (bs bytes : List ℕ) → length bs ≡ recordSize * n → length bytes ≡ recordSize
-    → recordsIn (n + 1) (bs ++ bytes) ≡ recordsIn n bs ++ (bytes ∷ [])
-records-snoc n bs bytes e b = rw add-one (one-more n bs bytes e b)
-
--- ---- the booked jobs are read as they are, whatever is lent, where check 4 passes
-module _ (n size : ℕ) (bs xs : List ℕ) (e : length bs ≡ recordSize * n) (h : recordSize * n ≤ length (lend bs size xs)) where
-  pub slot-read : (k : ℕ) → k < n → slotAt (lend bs size xs) k ≡ getD (recordsIn n bs) k []
-  slot-read k l = slot-agrees k size bs xs (omega (arith, e)) (omega arith) ∙ sym (records-at n k bs l)
-
-  record-read : (k : ℕ) → recordAt (lend bs size xs) n k ≡ getD (recordsIn n bs) k []
-  unfolding recordAt
-  record-read k = by (isBooked (lend bs size xs) n k) refl
+  pub records-at : (n k : ℕ) (bs : List ℕ) → k < n → getD (recordsIn version n bs) k [] ≡ slotAt version bs k
+  unfolding recordsIn slotAt
+  records-at zero k bs h = absurd (not-suc-le-zero h)
+  records-at (suc n) zero bs h = rw (place-first version)
+  records-at (suc n) (suc k) bs h =
+      records-at n k (drop (recordSize version) bs) (le-of-suc-le-suc h)
+      ∙ ap (take (recordSize version)) (drop-drop (placeOf version k) (recordSize version) bs ∙ ap (λ (m : ℕ). drop m bs) next)
     where
-      by : (b : Bool) → isBooked (lend bs size xs) n k ≡ b → cond b (slotAt (lend bs size xs) k) [] ≡ getD (recordsIn n bs) k []
-      by true t = slot-read k (reflect-booked (lend bs size xs) n k .sound t .below)
-      by false t =
-          let past : n ≤ k = not-below (λ (l : k < n). refuted (reflect-booked (lend bs size xs) n k) t (record { inside = h; below = l })) in
-          sym (List·getD-eq-default (recordsIn n bs) [] {n = k} (omega (arith, records-length n bs)))
-        where
-          not-below : (k < n → ⊥) → n ≤ k
-          not-below f = omega (arith, f)
+      next : recordSize version + placeOf version k ≡ placeOf version (suc k)
+      next = omega (arith, place-suc version k)
 
-  pub jobs-read : jobAt (lend bs size xs) n ≡ tabled (recordsIn n bs)
-  unfolding jobAt
-  jobs-read = λ i k. ap jobOf (record-read k) i
+  one-more : (n : ℕ) (bs bytes : List ℕ) → length bs ≡ placeOf version n → length bytes ≡ recordSize version
+      → recordsIn version (suc n) (bs ++ bytes) ≡ recordsIn version n bs ++ (bytes ∷ [])
+  unfolding recordsIn
+  one-more zero [] bytes e b = ap (λ (x : List ℕ). x ∷ []) (ap (λ (m : ℕ). take m bytes) (sym b) ∙ take-length bytes)
+  one-more zero (y ∷ bs) bytes e b = absurd (omega (arith, e, place-first version))
+  one-more (suc n) bs bytes e b =
+      let h : recordSize version ≤ length bs = omega (arith, e, place-suc version n) in
+      ap₂ (λ (x : List ℕ) (l : List (List ℕ)). x ∷ l) (take-append-le (recordSize version) bs bytes h)
+      (ap (recordsIn version (suc n)) (drop-append-le (recordSize version) bs bytes h)
+      ∙ one-more n (drop (recordSize version) bs) bytes (omega (arith, length-drop (recordSize version) bs, e, place-suc version n)) b)
+
+  pub records-snoc : (n : ℕ) (bs bytes : List ℕ) → length bs ≡ placeOf version n → length bytes ≡ recordSize version
+      → recordsIn version (n + 1) (bs ++ bytes) ≡ recordsIn version n bs ++ (bytes ∷ [])
+  records-snoc n bs bytes e b = rw add-one (one-more n bs bytes e b)
+
+  -- ---- the booked jobs are read as they are, whatever is lent, where check 4 passes
+  module _ (n size : ℕ) (bs xs : List ℕ) (e : length bs ≡ placeOf version n) (h : placeOf version n ≤ length (lend bs size xs)) where
+    pub slot-read : (k : ℕ) → k < n → slotAt version (lend bs size xs) k ≡ getD (recordsIn version n bs) k []
+    slot-read k l = let p = place-before version k n l in slot-agrees k size bs xs (omega (arith, e, p)) (omega (arith, h, p)) ∙ sym (records-at n k bs l)
+
+    record-read : (k : ℕ) → recordAt version (lend bs size xs) n k ≡ getD (recordsIn version n bs) k []
+    unfolding recordAt
+    record-read k = by (isBooked version (lend bs size xs) n k) refl
+      where
+        by : (b : Bool) → isBooked version (lend bs size xs) n k ≡ b → cond b (slotAt version (lend bs size xs) k) [] ≡ getD (recordsIn version n bs) k []
+        by true t = slot-read k (reflect-booked version (lend bs size xs) n k .sound t .below)
+        by false t =
+            let past : n ≤ k = not-below (λ (l : k < n). refuted (reflect-booked version (lend bs size xs) n k) t (record { inside = h; below = l })) in
+            sym (List·getD-eq-default (recordsIn version n bs) [] {n = k} (omega (arith, records-length n bs)))
+          where
+            not-below : (k < n → ⊥) → n ≤ k
+            not-below f = omega (arith, f)
+
+    pub jobs-read : jobAt version (lend bs size xs) n ≡ tabled (recordsIn version n bs)
+    unfolding jobAt
+    jobs-read = λ i k. ap jobOf (record-read k) i
 
 -- ---- every journal that agrees with the booked bytes where the two overlap is lent by some event, and only such
 abbrev pub Agree : List ℕ → List ℕ → Type 0

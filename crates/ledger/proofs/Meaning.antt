@@ -131,33 +131,33 @@ module _ (job : ℕ → Job) (booked : ℕ) where
     answers-admission v (admitted a b c d) = simp (past11 a, past-consumed held b, past-consumed others c, past14 d)
 
 -- ---- kind 10
-module _ (state : Vault) (journal : List ℕ) (booked job rival : ℕ) where
-  booked? : Reflects (isBooked journal booked rival) (Booked journal booked rival)
-  booked? = reflect-booked journal booked rival
+module _ (state : Vault) (version : ℕ) (journal : List ℕ) (booked job rival : ℕ) where
+  booked? : Reflects (isBooked version journal booked rival) (Booked version journal booked rival)
+  booked? = reflect-booked version journal booked rival
 
-  pub reflect-superseded : Reflects (supersededAt state journal booked job rival) (Supersedes state journal booked job rival)
+  pub reflect-superseded : Reflects (supersededAt state version journal booked job rival) (Supersedes state version journal booked job rival)
   unfolding supersededAt
   reflect-superseded =
       reflect-as
       (reflect-and (reflect-not (reflect-eq job rival))
-      (reflect-and (reflect-true (jobHas (state .held) rival)) (reflect-conflicting (jobAt journal booked job) (jobAt journal booked rival))))
+      (reflect-and (reflect-true (jobHas (state .held) rival)) (reflect-conflicting (jobAt version journal booked job) (jobAt version journal booked rival))))
       (λ h. record { different = h .0; held = h .1 .0; shares = h .1 .1 })
       (λ h. (h .different, (h .held, h .shares)))
 
-  pub supersession-means : Supersession state journal booked job rival (supersession state journal booked job rival)
+  pub supersession-means : Supersession state version journal booked job rival (supersession state version journal booked job rival)
   unfolding supersession
   supersession-means = by _ refl _ refl _ refl
     where
-      by : (a : Bool) → isBooked journal booked rival ≡ a → (b : Bool) → jobHas (state .signed) job ≡ b → (c : Bool)
-          → supersededAt state journal booked job rival ≡ c
-          → Supersession state journal booked job rival (cond a (cond b (cond c Pass (Fail NotSuperseded)) (Fail NotSignedHere)) (Fail NotBooked))
+      by : (a : Bool) → isBooked version journal booked rival ≡ a → (b : Bool) → jobHas (state .signed) job ≡ b → (c : Bool)
+          → supersededAt state version journal booked job rival ≡ c
+          → Supersession state version journal booked job rival (cond a (cond b (cond c Pass (Fail NotSuperseded)) (Fail NotSignedHere)) (Fail NotBooked))
       by false ea b eb c ec = unbooked (refuted booked? ea)
       by true ea false eb c ec = unsigned (booked? .sound ea) eb
       by true ea true eb false ec = standing (booked? .sound ea) eb (refuted reflect-superseded ec)
       by true ea true eb true ec = superseded (booked? .sound ea) eb (reflect-superseded .sound ec)
 
   -- and no other answer is meant
-  pub means-supersession : (v : Verdict) → Supersession state journal booked job rival v → supersession state journal booked job rival ≡ v
+  pub means-supersession : (v : Verdict) → Supersession state version journal booked job rival v → supersession state version journal booked job rival ≡ v
   unfolding supersession
   means-supersession v (unbooked n) = simp (refutes booked? n)
   means-supersession v (unsigned b n) = simp (booked? .complete b, n)

@@ -45,7 +45,7 @@ use Rattle.federation.specs.Federation.{thresholdOf}
 use Rattle.federation.specs.declared.Settings.{Settings}
 use Rattle.journal.specs.Journal.{isBooked}
 use Rattle.ledger.specs.Meaning.{missing, remade, reserved}
-use Rattle.ledger.specs.State.{isSane}
+use Rattle.ledger.specs.State.{isSane, versionOf}
 use Rattle.ledger.specs.Decisions.{
   admissionAt,
   ageing,
@@ -134,9 +134,9 @@ checked j =
     (choose (balanced j) _ _ pass (fails Unbalanced refl))))
     (fails Malformed refl)
 
-examines : (bytes : List ℕ) → NotOne (examined bytes)
+examines : (version : ℕ) (bytes : List ℕ) → NotOne (examined version bytes)
 unfolding examined
-examines bytes = choose (eqb (length bytes) recordSize) _ _ (checked (jobOf bytes)) (fails Malformed refl)
+examines version bytes = choose (eqb (length bytes) (recordSize version)) _ _ (checked (jobOf bytes)) (fails Malformed refl)
 
 admits : (job : ℕ → Job) (booked : ℕ) (held others : JobSet) (j : Job) → NotOne (admission job booked held others j)
 unfolding admission
@@ -157,18 +157,18 @@ certifies s recorded signers =
     (choose (leb (thresholdOf s) (ones signers)) _ _ pass (fails TooFewSigners refl))
     (fails NotSigned refl)
 
-supersedes : (state : Vault) (journal : List ℕ) (booked job rival : ℕ) → NotOne (supersession state journal booked job rival)
+supersedes : (state : Vault) (version : ℕ) (journal : List ℕ) (booked job rival : ℕ) → NotOne (supersession state version journal booked job rival)
 unfolding supersession
-supersedes state journal booked job rival =
-    choose (isBooked journal booked rival) _ _
+supersedes state version journal booked job rival =
+    choose (isBooked version journal booked rival) _ _
     (choose (jobHas (state .signed) job) _ _
-    (choose (supersededAt state journal booked job rival) _ _ pass (fails NotSuperseded refl))
+    (choose (supersededAt state version journal booked job rival) _ _ pass (fails NotSuperseded refl))
     (fails NotSignedHere refl))
     (fails NotBooked refl)
 
 module _ (l : Ledger) (journal : List ℕ) (sane : isSane l ≡ true) where
-  booked-or : (k : ℕ) → NotOne (cond (isBooked journal (l .booked) k) Pass (Fail NotBooked))
-  booked-or k = choose (isBooked journal (l .booked) k) _ _ pass (fails NotBooked refl)
+  booked-or : (k : ℕ) → NotOne (cond (isBooked (versionOf l) journal (l .booked) k) Pass (Fail NotBooked))
+  booked-or k = choose (isBooked (versionOf l) journal (l .booked) k) _ _ pass (fails NotBooked refl)
 
   gate : (k : ℕ) → NotOne (bookedGate l journal k)
   unfolding bookedGate
@@ -213,7 +213,7 @@ module _ (l : Ledger) (journal : List ℕ) (sane : isSane l ≡ true) where
   fine : (q : Request) → Fine (stepOf l journal q .outcome)
   unfolding proposeDecision proposal settling preflightDecision preflighting admissionAt commitDecision committing faultyVoteDecision showDecision
       generationsDecision snapshotDecision snapshotting releaseDecision releasing
-  fine (propose bytes) = behind (saneGate l) _ sane-gate (behind (examined bytes) _ (examines bytes) (places _ _ _ _))
+  fine (propose bytes) = behind (saneGate l) _ sane-gate (behind (examined (versionOf l) bytes) _ (examines (versionOf l) bytes) (places _ _ _ _))
   fine (preflight v k) = behind (vaultGate l journal v k false) _ (vault-gate v k false) (consents _ _ _ _ _ (admits _ _ _ _ _))
   fine (commit v k signers) =
       behind (vaultGate l journal v k false) _ (vault-gate v k false) (behind (certificate _ _ _) _ (certifies _ _ _) (receives _ _ _ _))
@@ -222,7 +222,7 @@ module _ (l : Ledger) (journal : List ℕ) (sane : isSane l ≡ true) where
   fine (generations k) = behind (bookedGate l journal k) _ (gate k) (ages _ _)
   fine snapshot = behind (saneGate l) _ sane-gate (done _)
   fine (release v k rival) =
-      behind (vaultGate l journal v k false) _ (vault-gate v k false) (behind (supersession _ _ _ _ _) _ (supersedes _ _ _ _ _) (done _))
+      behind (vaultGate l journal v k false) _ (vault-gate v k false) (behind (supersession _ _ _ _ _ _) _ (supersedes _ _ _ _ _ _) (done _))
 
   -- whatever the request
   pub never-one : (q : Request) → numberOf (stepOf l journal q .outcome) ≡ 1 → ⊥

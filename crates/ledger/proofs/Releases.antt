@@ -33,7 +33,7 @@ use Rattle.ledger.specs.Demand3.{Correct, bookedJob}
 use Rattle.ledger.specs.Graph.{Algorithm1}
 use Rattle.ledger.specs.Growth.{Grows, OnlySigned, ReleaseTakes, Released, ReleasedForGood, SignedStays}
 use Rattle.ledger.specs.Register.{Register, feed, feedAll, isDone, log, newRegister, tabled}
-use Rattle.ledger.specs.State.{applied, booking, newLedger, vaultAt, visited, voted, withVault}
+use Rattle.ledger.specs.State.{applied, booking, newLedger, vaultAt, versionOf, visited, voted, withVault}
 use Rattle.ledger.specs.Steps.{carried, preflightDecision, releaseDecision, releaseOf, vaultGate}
 use Rattle.ledger.specs.Worlds.{Event, Request, World, after, afterAll, lend, preflight, replyTo, start}
 use Rattle.ledger.specs.declared.Decision.{Decision}
@@ -99,24 +99,24 @@ unsigned-along (e ∷ fs) w r i v k c t n =
     (unsigned-still w r i v k c t n q done (after w e) change)
 
 -- the settings are those at the start
-correct-along : (n b faulty : ℕ) (lawful : Lawful (record { n = n; b = b; faulty = faulty })) (es : List Event) (v : ℕ)
-    → Correct (record { n = n; b = b; faulty = faulty }) v → Correct (afterAll (start n b faulty) es .ledger .settings) v
+correct-along : (n b faulty version : ℕ) (lawful : Lawful (record { n = n; b = b; faulty = faulty; version = version })) (es : List Event) (v : ℕ)
+    → Correct (record { n = n; b = b; faulty = faulty; version = version }) v → Correct (afterAll (start n b faulty version) es .ledger .settings) v
 unfolding start newLedger
-correct-along n b faulty lawful es v c =
-    subst (λ (s : Settings). Correct s v) (sym (settings-along es (start n b faulty) newRegister (first n b faulty lawful))) c
+correct-along n b faulty version lawful es v c =
+    subst (λ (s : Settings). Correct s v) (sym (settings-along es (start n b faulty version) (newRegister version) (first n b faulty version lawful))) c
 
 -- ---- what a correct vault has signed stays so, or lost there
 pub signed-stays : SignedStays
 unfolding signedAt votedAt
-signed-stays n b faulty lawful es fs v k c s =
-    let w = afterAll (start n b faulty) es in
-    let r = feedAll newRegister (log (start n b faulty) es) in
-    let i = along es (start n b faulty) newRegister (first n b faulty lawful) in
+signed-stays n b faulty version lawful es fs v k c s =
+    let w = afterAll (start n b faulty version) es in
+    let r = feedAll (newRegister version) (log (start n b faulty version) es) in
+    let i = along es (start n b faulty version) (newRegister version) (first n b faulty version lawful) in
     let z = afterAll w fs in
     let j = along fs w r i in
     by-cases (λ x. (x ≡ true) ⊎ Released z v k) (jobHas (vaultAt (z .ledger) v .signed) k) (λ e. inl refl)
     (λ e. inr (released-now j v k
-    (subst (λ (st : Settings). Correct st v) (sym (settings-along fs w r i)) (correct-along n b faulty lawful es v c))
+    (subst (λ (st : Settings). Correct st v) (sym (settings-along fs w r i)) (correct-along n b faulty version lawful es v c))
     (grows fs w r i .signatures v k (i .safe .backed v k s)) e))
 
 -- ---- a preflight of a released job is turned back
@@ -152,12 +152,12 @@ turned-back w r i v k c x size beyond =
 
 pub released-for-good : ReleasedForGood
 unfolding signedAt votedAt
-released-for-good n b faulty lawful es fs v k c x =
-    let w = afterAll (start n b faulty) es in
-    let r = feedAll newRegister (log (start n b faulty) es) in
-    let i = along es (start n b faulty) newRegister (first n b faulty lawful) in
+released-for-good n b faulty version lawful es fs v k c x =
+    let w = afterAll (start n b faulty version) es in
+    let r = feedAll (newRegister version) (log (start n b faulty version) es) in
+    let i = along es (start n b faulty version) (newRegister version) (first n b faulty version lawful) in
     let z = afterAll w fs in
-    let d = correct-along n b faulty lawful es v c in
+    let d = correct-along n b faulty version lawful es v c in
     let d′ : Correct (z .ledger .settings) v = subst (λ (st : Settings). Correct st v) (sym (settings-along fs w r i)) d in
     let j = along fs w r i in
     let still = released-now j v k d′ (grows fs w r i .signatures v k (x .recorded)) (unsigned-along fs w r i v k d (x .recorded) (x .unsigned)) in
@@ -203,4 +203,4 @@ pub release-takes : ReleaseTakes
 unfolding releaseOf releaseDecision releasing applied
 release-takes l journal v k rival =
     only-behind l v k (vaultGate l journal v k false) _
-    (only-behind l v k (supersession (vaultAt l v) journal (l .booked) k rival) _ (only-released l v k))
+    (only-behind l v k (supersession (vaultAt l v) (versionOf l) journal (l .booked) k rival) _ (only-released l v k))

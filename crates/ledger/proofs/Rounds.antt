@@ -207,12 +207,12 @@ closing w r i e q =
     ∙ ap (λ (l : Ledger). Done (jobCount (l .seen))) (sym (made w (i .shape) e (ap isSnapshot q)))
 
 pub rounds : Rounds
-rounds n b faulty lawful es z rs round =
-    let w₀ = start n b faulty in
-    let i₀ = first n b faulty lawful in
+rounds n b faulty version lawful es z rs round =
+    let w₀ = start n b faulty version in
+    let i₀ = first n b faulty version lawful in
     let w = afterAll w₀ es in
-    let i = along es w₀ newRegister i₀ in
-    let size : w .ledger .settings .n ≡ n = ap (λ (x : Settings). x .n) (settings-along es w₀ newRegister i₀ ∙ settings-first n b faulty) in
+    let i = along es w₀ (newRegister version) i₀ in
+    let size : w .ledger .settings .n ≡ n = ap (λ (x : Settings). x .n) (settings-along es w₀ (newRegister version) i₀ ∙ settings-first n b faulty version) in
     let m = ended n w _ i size z rs (round .count) in
     let whole : afterAll w rs ≡ after (afterAll w (round .before)) (round .last) =
     ap (afterAll w) (round .split) ∙ after-append (round .before) (round .last ∷ []) w in

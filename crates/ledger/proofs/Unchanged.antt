@@ -31,7 +31,7 @@ use Rattle.ledger.specs.Decisions.{
   supersession,
 }
 use Rattle.ledger.specs.Register.{isDone}
-use Rattle.ledger.specs.State.{applied}
+use Rattle.ledger.specs.State.{applied, versionOf}
 use Rattle.ledger.specs.Steps.{
   bookedGate,
   commitDecision,
@@ -101,14 +101,14 @@ module _ (l : Ledger) (journal : List ℕ) where
   pub quiets : (q : Request) → Quiet (decisionOf l journal q)
   unfolding proposeDecision proposal settling preflightDecision preflighting commitDecision committing faultyVoteDecision showDecision generationsDecision
       snapshotDecision snapshotting releaseDecision releasing
-  quiets (propose bytes) = behind (saneGate l) _ (behind (examined bytes) _ (placed _ _ _ _))
+  quiets (propose bytes) = behind (saneGate l) _ (behind (examined (versionOf l) bytes) _ (placed _ _ _ _))
   quiets (preflight v k) = behind (vaultGate l journal v k false) _ (consents _ _ _ _ _)
   quiets (commit v k signers) = behind (vaultGate l journal v k false) _ (behind (certificate _ _ _) _ (received _ _ _ _))
   quiets (faultyVote c v k) = behind (vaultGate l journal v k true) _ (done _ _)
   quiets (show k) = behind (bookedGate l journal k) _ (quiet (answering _) refl)
   quiets (generations k) = behind (bookedGate l journal k) _ (aged _ _)
   quiets snapshot = behind (saneGate l) _ (done _ _)
-  quiets (release v k rival) = behind (vaultGate l journal v k false) _ (behind (supersession _ _ _ _ _) _ (done _ _))
+  quiets (release v k rival) = behind (vaultGate l journal v k false) _ (behind (supersession _ _ _ _ _ _) _ (done _ _))
 
   left : (q : Request) → decisionOf l journal q .change ≡ Nothing → leftBy l journal q ≡ journal
   unfolding journalAfter

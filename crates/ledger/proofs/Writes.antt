@@ -13,7 +13,8 @@ use Rattle.outcome.specs.declared.Refusal.the-variants.{Full}
 use Rattle.outcome.specs.declared.Verdict.{Verdict}
 use Rattle.outcome.specs.declared.Verdict.the-variants.{Fail, Pass}
 use Rattle.checks.specs.Checks.{examined}
-use Rattle.codec.specs.Codec.{recordSize}
+use Rattle.codec.proofs.Sizes.{whole-place, whole-room}
+use Rattle.codec.specs.Codec.{placeOf, recordSize}
 use Rattle.journal.specs.Journal.{capacity, equalIn, hasRoom, insideOf, putAt, slots}
 use Rattle.index.proofs.Tables.{records-part}
 use Rattle.index.specs.Index.{Indexed}
@@ -35,56 +36,60 @@ is-book (Release state) r e t = absurd (true≢false (sym t ∙ e))
 is-book (Record column) r e t = absurd (true≢false (sym t ∙ e))
 is-book (See seen) r e t = absurd (true≢false (sym t ∙ e))
 
-pub written : (c : Change) (r : Bool) (booked : ℕ) (journal bytes after : List ℕ) → r ≡ isBook c → r ≡ true → after ≡ putAt journal booked bytes
-    → after ≡ journalWith c booked journal bytes
-written c r booked journal bytes after e t w = simp (is-book c r e t) w
+pub written : (c : Change) (r : Bool) (booked version : ℕ) (journal bytes after : List ℕ) → r ≡ isBook c → r ≡ true → after ≡ putAt version journal booked bytes
+    → after ≡ journalWith c booked version journal bytes
+written c r booked version journal bytes after e t w = simp (is-book c r e t) w
 
-pub unwritten : (c : Change) (r : Bool) (booked : ℕ) (journal bytes : List ℕ) → r ≡ isBook c → r ≡ false → journal ≡ journalWith c booked journal bytes
-unwritten Nothing r booked journal bytes e t = refl
-unwritten Book r booked journal bytes e t = absurd (true≢false (sym e ∙ t))
-unwritten (Sign state) r booked journal bytes e t = refl
-unwritten (Hold state) r booked journal bytes e t = refl
-unwritten (Release state) r booked journal bytes e t = refl
-unwritten (Record column) r booked journal bytes e t = refl
-unwritten (See seen) r booked journal bytes e t = refl
+pub unwritten : (c : Change) (r : Bool) (booked version : ℕ) (journal bytes : List ℕ) → r ≡ isBook c → r ≡ false
+    → journal ≡ journalWith c booked version journal bytes
+unwritten Nothing r booked version journal bytes e t = refl
+unwritten Book r booked version journal bytes e t = absurd (true≢false (sym e ∙ t))
+unwritten (Sign state) r booked version journal bytes e t = refl
+unwritten (Hold state) r booked version journal bytes e t = refl
+unwritten (Release state) r booked version journal bytes e t = refl
+unwritten (Record column) r booked version journal bytes e t = refl
+unwritten (See seen) r booked version journal bytes e t = refl
 
 -- ---- a proposal that is booked
-module _ (journal : List ℕ) (booked : ℕ) (bytes : List ℕ) where
-  room : hasRoom journal booked ≡ true → (booked < capacity) × (recordSize * booked + recordSize ≤ length journal)
+module _ (version : ℕ) (journal : List ℕ) (booked : ℕ) (bytes : List ℕ) where
+  room : hasRoom version journal booked ≡ true → (booked < capacity) × (placeOf version booked + recordSize version ≤ length journal)
   unfolding hasRoom
-  room e = let r = and-true _ _ e in (ltb-true _ _ (r .0), omega (arith, ltb-true booked (slots journal) (r .1)))
+  room e = let r = and-true _ _ e in (ltb-true _ _ (r .0), whole-room version booked (length journal) (ltb-true booked (slots version journal) (r .1)))
 
   -- it passes checks 6 to 9, and there is room
-  books : proposal journal booked bytes .change ≡ Book → (examined bytes ≡ Pass) × (hasRoom journal booked ≡ true)
+  books : proposal version journal booked bytes .change ≡ Book → (examined version bytes ≡ Pass) × (hasRoom version journal booked ≡ true)
   unfolding proposal settling placing
-  books e = by (examined bytes) refl (ltb (equalIn journal booked bytes) (insideOf journal booked)) (hasRoom journal booked) refl e
+  books e =
+      by (examined version bytes) refl (ltb (equalIn version journal booked bytes) (insideOf version journal booked)) (hasRoom version journal booked) refl e
     where
       no : {A : Type 0} → _≡_ {A = Change} Nothing Book → A
       no q = absurd (true≢false (sym (ap isBook q)))
 
-      by : (v : Verdict) → examined bytes ≡ v → (a b : Bool) → hasRoom journal booked ≡ b
-          → gated v (cond a (record { outcome = Done (equalIn journal booked bytes); change = Nothing })
+      by : (v : Verdict) → examined version bytes ≡ v → (a b : Bool) → hasRoom version journal booked ≡ b
+          → gated v (cond a (record { outcome = Done (equalIn version journal booked bytes); change = Nothing })
           (cond b (record { outcome = Done booked; change = Book }) (record { outcome = Refused Full; change = Nothing }))) .change ≡ Book
-          → (examined bytes ≡ Pass) × (hasRoom journal booked ≡ true)
+          → (examined version bytes ≡ Pass) × (hasRoom version journal booked ≡ true)
       by (Fail why) p a b q h = no h
       by Pass p true b q h = no h
       by Pass p false false q h = no h
       by Pass p false true q h = (p, q)
 
-  pub writes : (d : Decision) → d ≡ proposal journal booked bytes → Writable (d .change) booked journal bytes
+  pub writes : (d : Decision) → d ≡ proposal version journal booked bytes → Writable (d .change) booked version journal bytes
   writes d e = record {
     few = λ h. room (books (sym (ap (λ (x : Decision). x .change) e) ∙ h) .1) .0;
     room = λ h. room (books (sym (ap (λ (x : Decision). x .change) e) ∙ h) .1) .1;
-    size = λ h. examined-length bytes (books (sym (ap (λ (x : Decision). x .change) e) ∙ h) .0);
+    size = λ h. examined-length version bytes (books (sym (ap (λ (x : Decision). x .change) e) ∙ h) .0);
   }
 
 -- ---- an index that was made
-pub searchable : (journal : List ℕ) (booked n : ℕ) (numbers sets records : List ℕ) → booked ≤ capacity → n ≡ insideOf journal booked
-    → Indexed journal n numbers sets records → Searchable journal booked records
-searchable journal booked n numbers sets records few e i =
-    record { few = few; indexed = rw e at (records-part journal n numbers sets records i) }
+pub searchable : (version : ℕ) (journal : List ℕ) (booked n : ℕ) (numbers sets records : List ℕ) → booked ≤ capacity → n ≡ insideOf version journal booked
+    → Indexed version journal n numbers sets records → Searchable version journal booked records
+searchable version journal booked n numbers sets records few e i =
+    record { few = few; indexed = rw e at (records-part version journal n numbers sets records i) }
 
 -- what lies inside can be indexed
-pub buildable : (journal : List ℕ) (booked n : ℕ) → booked ≤ capacity → n ≡ insideOf journal booked → (n ≤ capacity) × (recordSize * n ≤ length journal)
+pub buildable : (version : ℕ) (journal : List ℕ) (booked n : ℕ) → booked ≤ capacity → n ≡ insideOf version journal booked → (n ≤ capacity) ×
+    (placeOf version n ≤ length journal)
 unfolding insideOf
-buildable journal booked n few e = (omega arith, omega arith)
+buildable version journal booked n few e =
+    (omega arith, whole-place version n (length journal) (omega arith))

@@ -51,11 +51,11 @@ placing equal inside booked room =
     cond (ltb equal inside) (answering equal)
     (cond room (record { outcome = Done booked; change = Book }) (refusing Full))
 
-unfoldable pub settling : List ℕ → ℕ → List ℕ → Decision
-settling journal booked bytes = placing (equalIn journal booked bytes) (insideOf journal booked) booked (hasRoom journal booked)
+unfoldable pub settling : ℕ → List ℕ → ℕ → List ℕ → Decision
+settling version journal booked bytes = placing (equalIn version journal booked bytes) (insideOf version journal booked) booked (hasRoom version journal booked)
 
-unfoldable pub proposal : List ℕ → ℕ → List ℕ → Decision
-proposal journal booked bytes = gated (examined bytes) (settling journal booked bytes)
+unfoldable pub proposal : ℕ → List ℕ → ℕ → List ℕ → Decision
+proposal version journal booked bytes = gated (examined version bytes) (settling version journal booked bytes)
 
 -- ---- kind 2, a preflight: "11 to 14"
 abbrev pub consenting : Consent → Vault → ℕ → ℕ → Decision
@@ -64,9 +64,9 @@ consenting Fresh state signers v = voting signers v (Sign state)
 consenting (Denied why) state signers v = refusing why
 
 -- checks 11 to 14 at a vault
-unfoldable pub admissionAt : Vault → List ℕ → ℕ → ℕ → Verdict
-admissionAt v journal booked k =
-    admission (jobAt journal booked) booked (v .held) (jobWithout (v .signed) k) (jobAt journal booked k)
+unfoldable pub admissionAt : Vault → ℕ → List ℕ → ℕ → ℕ → Verdict
+admissionAt v version journal booked k =
+    admission (jobAt version journal booked) booked (v .held) (jobWithout (v .signed) k) (jobAt version journal booked k)
 
 -- what a vault in this state decides on the verdict of checks 11 to 14
 unfoldable pub consent : Vault → Verdict → ℕ → ℕ → ℕ → Decision
@@ -74,8 +74,8 @@ consent state admission signers v job =
     let answer = vaultPreflight state admission job in
     consenting (answer .consent) (answer .vault) signers v
 
-unfoldable pub preflighting : Vault → List ℕ → ℕ → ℕ → ℕ → ℕ → Decision
-preflighting state journal booked signers v job = consent state (admissionAt state journal booked job) signers v job
+unfoldable pub preflighting : Vault → ℕ → List ℕ → ℕ → ℕ → ℕ → ℕ → Decision
+preflighting state version journal booked signers v job = consent state (admissionAt state version journal booked job) signers v job
 
 -- ---- kind 3, a commit: "15, 16"
 
@@ -114,23 +114,23 @@ snapshotting s next seen held =
 -- ---- kind 10, a release (document 02)
 
 -- "Two different jobs are rivals if they share an input label or an output label." The vault holds the other.
-unfoldable pub supersededAt : Vault → List ℕ → ℕ → ℕ → ℕ → Bool
-supersededAt state journal booked job rival =
-    not (eqb job rival) && (jobHas (state .held) rival && conflicting (jobAt journal booked job) (jobAt journal booked rival))
+unfoldable pub supersededAt : Vault → ℕ → List ℕ → ℕ → ℕ → ℕ → Bool
+supersededAt state version journal booked job rival =
+    not (eqb job rival) && (jobHas (state .held) rival && conflicting (jobAt version journal booked job) (jobAt version journal booked rival))
 
 -- 4 of the rival, "then 19 if the job isn't signed there; then 20 if the other is no rival or isn't held there"
-unfoldable pub supersession : Vault → List ℕ → ℕ → ℕ → ℕ → Verdict
-supersession state journal booked job rival =
-    cond (isBooked journal booked rival)
+unfoldable pub supersession : Vault → ℕ → List ℕ → ℕ → ℕ → ℕ → Verdict
+supersession state version journal booked job rival =
+    cond (isBooked version journal booked rival)
     (cond (jobHas (state .signed) job)
-    (cond (supersededAt state journal booked job rival) Pass (Fail NotSuperseded))
+    (cond (supersededAt state version journal booked job rival) Pass (Fail NotSuperseded))
     (Fail NotSignedHere))
     (Fail NotBooked)
 
 -- "The signature already given stays valid and keeps its count." "The value is the job's signature count."
-unfoldable pub releasing : Vault → List ℕ → ℕ → ℕ → ℕ → ℕ → Decision
-releasing state journal booked signers job rival =
-    gated (supersession state journal booked job rival) (record { outcome = Done (ones signers); change = Release (unsigning state job) })
+unfoldable pub releasing : Vault → ℕ → List ℕ → ℕ → ℕ → ℕ → ℕ → Decision
+releasing state version journal booked signers job rival =
+    gated (supersession state version journal booked job rival) (record { outcome = Done (ones signers); change = Release (unsigning state job) })
 
 -- ---- of a change
 abbrev pub isNothing : Change → Bool

@@ -4,24 +4,24 @@ use mathlib.Core.Bool.{Bool, true}
 use mathlib.Core.List.{List}
 use mathlib.Core.Logic.{_⊎_}
 use mathlib.Core.Path.{_≡_}
-use Prim.Native.Nat.{_*_, _<_, _≤_, ℕ}
+use Prim.Native.Nat.{_<_, _≤_, ℕ}
 use lib.ListN.{length}
 use Rattle.base.specs.Reflect.{Reflects}
-use Rattle.codec.specs.Codec.{recordSize}
+use Rattle.codec.specs.Codec.{placeOf}
 use Rattle.sets.specs.Jobs.{jobHas, jobWithout}
 use Rattle.federation.specs.Federation.{Lawful}
 use Rattle.ledger.specs.Demand3.{Correct, bookedJob}
 use Rattle.ledger.specs.Graph.{Algorithm1}
 use Rattle.ledger.specs.Meaning.{Certificate}
 use Rattle.ledger.specs.Register.{isDone}
-use Rattle.ledger.specs.State.{signersOf, vaultAt}
+use Rattle.ledger.specs.State.{signersOf, vaultAt, versionOf}
 use Rattle.ledger.specs.Worlds.{Event, Request, World, afterAll, commit, lend, preflight, replyTo, start}
 
 -- the vault is correct, the job is booked, and the journal that is lent holds all records
 pub record InPlace (w : World) (size : ℕ) (beyond : List ℕ) (v k : ℕ) : Type 0 where
   pub correct : Correct (w .ledger .settings) v
   pub booked : k < w .ledger .booked
-  pub whole : recordSize * w .ledger .booked ≤ length (lend (w .booked) size beyond)
+  pub whole : placeOf (versionOf (w .ledger)) (w .ledger .booked) ≤ length (lend (w .booked) size beyond)
 
 -- the step is answered 0
 abbrev pub accepts : World → ℕ → List ℕ → Request → Bool
@@ -41,6 +41,6 @@ pub record Obeys (w : World) (size : ℕ) (beyond : List ℕ) (v k : ℕ) : Type
 
 abbrev pub Demand2 : Type 0
 Demand2 =
-    (n b faulty : ℕ) → Lawful (record { n = n; b = b; faulty = faulty }) → (es : List Event) (size : ℕ) (beyond : List ℕ) (v k : ℕ)
-    → InPlace (afterAll (start n b faulty) es) size beyond v k
-    → Obeys (afterAll (start n b faulty) es) size beyond v k
+    (n b faulty version : ℕ) → Lawful (record { n = n; b = b; faulty = faulty; version = version }) → (es : List Event) (size : ℕ) (beyond : List ℕ) (v k : ℕ)
+    → InPlace (afterAll (start n b faulty version) es) size beyond v k
+    → Obeys (afterAll (start n b faulty version) es) size beyond v k

@@ -1,11 +1,11 @@
 -- Demand 3: after any list of steps, with any arguments and any lent journal, the jobs held by correct vaults are exactly those that the
--- single register has taken; the register never stops; frames standing equal frames accessioned. The only premise is that the settings are
--- lawful.
+-- single register has taken; the register never stops; frames standing and frames trimmed equal frames accessioned. The only premise is that the
+-- settings are lawful.
 use mathlib.Core.Bool.{false, not, true}
 use mathlib.Core.List.{List, [], _++_, _∷_}
 use mathlib.Core.Logic.{_≢_}
 use mathlib.Core.Path.{_≡_}
-use Prim.Native.Nat.{_<_, _≤_, suc, zero, ℕ}
+use Prim.Native.Nat.{_+_, _<_, _≤_, suc, zero, ℕ}
 use lib.Count.{ones}
 use lib.Dec.{eqb}
 use lib.ListN.{drop, length, take}
@@ -25,7 +25,7 @@ use Rattle.sets.specs.Jobs.{jobHas}
 use Rattle.federation.specs.Federation.{Lawful, thresholdOf}
 use Rattle.generations.specs.Generations.{ageIn}
 use Rattle.ledger.specs.Register.{Register, accessionOf, feedAll, log, newRegister, tabled}
-use Rattle.ledger.specs.State.{arrived, acknowledgersOf, signersOf, vaultAt}
+use Rattle.ledger.specs.State.{arrived, acknowledgersOf, signersOf, vaultAt, versionOf}
 use Rattle.ledger.specs.Worlds.{Event, World, after, afterAll, outcomes, replyTo, start}
 use Rattle.ledger.specs.declared.Ledger.{Ledger}
 use Rattle.federation.specs.declared.Settings.{Settings}
@@ -46,9 +46,9 @@ pub record Held (l : Ledger) (k : ℕ) : Type 0 where
   pub by : HeldBy l k vault
 
 -- the booked records, a list of each one's bytes
-unfoldable pub recordsIn : ℕ → List ℕ → List (List ℕ)
-recordsIn zero bytes = []
-recordsIn (suc n) bytes = take recordSize bytes ∷ recordsIn n (drop recordSize bytes)
+unfoldable pub recordsIn : ℕ → ℕ → List ℕ → List (List ℕ)
+recordsIn version zero bytes = []
+recordsIn version (suc n) bytes = take (recordSize version) bytes ∷ recordsIn version n (drop (recordSize version) bytes)
 
 -- ---- along the arrival order: "a tape stands once a job has made it and until one retires its label"
 abbrev pub retire : Job → List Entry → List Entry
@@ -64,6 +64,10 @@ standingAlong job ks = standingFrom job [] ks
 -- "Frames accessioned are the output frames of the accessions along it, each job counted once"
 abbrev pub accessionedAlong : (ℕ → Job) → List ℕ → ℕ
 accessionedAlong job ks = total (λ k. accessionOf (job k)) ks
+
+-- "frames trimmed by the jobs in arrival order" (M-102)
+abbrev pub trimmedAlong : (ℕ → Job) → List ℕ → ℕ
+trimmedAlong job ks = total (λ k. job k .trimmed) ks
 
 -- "their labels are made": the output labels along it
 abbrev pub madeAlong : (ℕ → Job) → List ℕ → List ℕ
@@ -94,9 +98,9 @@ pub record Holds (s : Settings) (w : World) (r : Register) : Type 0 where
   pub taken : r .taken ≡ arrived (w .ledger)
   pub taken-held : (k : ℕ) → In k (r .taken) → Held (w .ledger) k
   pub held-taken : (k : ℕ) → Held (w .ledger) k → In k (r .taken)
-  pub table : r .table ≡ recordsIn (w .ledger .booked) (w .booked)
+  pub table : r .table ≡ recordsIn (versionOf (w .ledger)) (w .ledger .booked) (w .booked)
   pub records-once : Distinct (r .table)
-  pub checked : (bytes : List ℕ) → In bytes (r .table) → examined bytes ≡ Pass
+  pub checked : (bytes : List ℕ) → In bytes (r .table) → examined (versionOf (w .ledger)) bytes ≡ Pass
   pub known : (k : ℕ) → In k (r .taken) → k < length (r .table)
   -- "each job counted once"
   pub once : Distinct (r .taken)
@@ -104,8 +108,10 @@ pub record Holds (s : Settings) (w : World) (r : Register) : Type 0 where
   pub standing : r .standing ≡ standingAlong (tabled (r .table)) (arrived (w .ledger))
   pub made : r .made ≡ madeAlong (tabled (r .table)) (arrived (w .ledger))
   pub accessioned : r .accessioned ≡ accessionedAlong (tabled (r .table)) (arrived (w .ledger))
-  -- "frames standing equal frames accessioned"
-  pub frames : framesIn (r .standing) ≡ r .accessioned
+  -- "frames standing plus frames trimmed by the jobs in arrival order equal frames accessioned" (M-102): of the register's list, and of the order
+  pub frames : framesIn (r .standing) + trimmedAlong (tabled (r .table)) (r .taken) ≡ r .accessioned
+  pub frames-along : framesIn (standingAlong (tabled (r .table)) (arrived (w .ledger))) + trimmedAlong (tabled (r .table)) (arrived (w .ledger))
+      ≡ accessionedAlong (tabled (r .table)) (arrived (w .ledger))
   -- generations rest on it
   pub creators : (k : ℕ) → In k (r .taken) → (t : Entry) → In t (inputTapes (tabled (r .table) k)) → OneCreator (tabled (r .table)) (r .taken) k t
   -- a finished job is certified
@@ -114,16 +120,23 @@ pub record Holds (s : Settings) (w : World) (r : Register) : Type 0 where
 
 abbrev pub Demand3 : Type 0
 Demand3 =
-    (n b faulty : ℕ) → Lawful (record { n = n; b = b; faulty = faulty }) → (es : List Event)
-    → Holds (record { n = n; b = b; faulty = faulty }) (afterAll (start n b faulty) es) (feedAll newRegister (log (start n b faulty) es))
-    × ((o : Outcome) → In o (outcomes (start n b faulty) es) → numberOf o ≡ 1 → ⊥)
+    (n b faulty version : ℕ) → Lawful (record { n = n; b = b; faulty = faulty; version = version }) → (es : List Event)
+    → Holds (record { n = n; b = b; faulty = faulty; version = version }) (afterAll (start n b faulty version) es)
+    (feedAll (newRegister version) (log (start n b faulty version) es))
+    × ((o : Outcome) → In o (outcomes (start n b faulty version) es) → numberOf o ≡ 1 → ⊥)
+
+-- of a list over version 1 records, which trim nothing: "frames standing equal frames accessioned"
+abbrev pub FirstVersion : Type 0
+FirstVersion =
+    (n b faulty : ℕ) → Lawful (record { n = n; b = b; faulty = faulty; version = 1 }) → (es : List Event)
+    → let r = feedAll (newRegister 1) (log (start n b faulty 1) es) in framesIn (r .standing) ≡ r .accessioned
 
 -- "A refusal alters no set, book or order": wherever a list has led, a refused step leaves the ledger and the booked bytes as they were
 abbrev pub RefusedUnchanged : Type 0
 RefusedUnchanged =
-    (n b faulty : ℕ) → Lawful (record { n = n; b = b; faulty = faulty }) → (es : List Event) (e : Event) (why : Refusal)
-    → replyTo (afterAll (start n b faulty) es) e .outcome ≡ Refused why
-    → after (afterAll (start n b faulty) es) e ≡ afterAll (start n b faulty) es
+    (n b faulty version : ℕ) → Lawful (record { n = n; b = b; faulty = faulty; version = version }) → (es : List Event) (e : Event) (why : Refusal)
+    → replyTo (afterAll (start n b faulty version) es) e .outcome ≡ Refused why
+    → after (afterAll (start n b faulty version) es) e ≡ afterAll (start n b faulty version) es
 
 -- ---- for readers
 
@@ -134,14 +147,14 @@ pub record Apart (a c : Job) : Type 0 where
 
 -- the job booked under a number
 abbrev pub bookedJob : World → ℕ → Job
-bookedJob w k = tabled (recordsIn (w .ledger .booked) (w .booked)) k
+bookedJob w k = tabled (recordsIn (versionOf (w .ledger)) (w .ledger .booked) (w .booked)) k
 
 -- no two jobs that correct vaults hold, be it different vaults, retire the same label or make the same label
 abbrev pub Disjoint : Type 0
 Disjoint =
-    (n b faulty : ℕ) → Lawful (record { n = n; b = b; faulty = faulty }) → (es : List Event)
-    → (i k : ℕ) → Held (afterAll (start n b faulty) es .ledger) i → Held (afterAll (start n b faulty) es .ledger) k → i ≢ k
-    → Apart (bookedJob (afterAll (start n b faulty) es) i) (bookedJob (afterAll (start n b faulty) es) k)
+    (n b faulty version : ℕ) → Lawful (record { n = n; b = b; faulty = faulty; version = version }) → (es : List Event)
+    → (i k : ℕ) → Held (afterAll (start n b faulty version) es .ledger) i → Held (afterAll (start n b faulty version) es .ledger) k → i ≢ k
+    → Apart (bookedJob (afterAll (start n b faulty version) es) i) (bookedJob (afterAll (start n b faulty version) es) k)
 
 -- the generations of a taken job, by the creators that demand 3 speaks of
 pub record ByCreators (job : ℕ → Job) (ks : List ℕ) (age : ℕ → ℕ) (k : ℕ) : Type 0 where
@@ -158,6 +171,7 @@ ageAt w = ageIn (bookedJob w) (w .ledger .order) (w .ledger .arrivals)
 
 abbrev pub GenerationsByCreators : Type 0
 GenerationsByCreators =
-    (n b faulty : ℕ) → Lawful (record { n = n; b = b; faulty = faulty }) → (es : List Event)
-    → (k : ℕ) → Held (afterAll (start n b faulty) es .ledger) k
-    → ByCreators (bookedJob (afterAll (start n b faulty) es)) (arrived (afterAll (start n b faulty) es .ledger)) (ageAt (afterAll (start n b faulty) es)) k
+    (n b faulty version : ℕ) → Lawful (record { n = n; b = b; faulty = faulty; version = version }) → (es : List Event)
+    → (k : ℕ) → Held (afterAll (start n b faulty version) es .ledger) k
+    → ByCreators (bookedJob (afterAll (start n b faulty version) es)) (arrived (afterAll (start n b faulty version) es .ledger))
+    (ageAt (afterAll (start n b faulty version) es)) k

@@ -1,9 +1,9 @@
 -- What functions ask of their arguments that the checks before them, or whoever keeps the index, have given.
 use mathlib.Core.List.{List}
 use mathlib.Core.Path.{_≡_}
-use Prim.Native.Nat.{ℕ, _*_, _+_, _<_, _≤_}
+use Prim.Native.Nat.{ℕ, _+_, _<_, _≤_}
 use lib.ListN.{length}
-use Rattle.codec.specs.Codec.{recordSize}
+use Rattle.codec.specs.Codec.{placeOf, recordSize}
 use Rattle.outcome.specs.declared.Verdict.{Verdict}
 use Rattle.outcome.specs.declared.Verdict.the-variants.{Pass}
 use Rattle.federation.specs.declared.Settings.{Settings}
@@ -27,23 +27,23 @@ pub record Placed (l : Ledger) (v k : ℕ) : Type 0 where
   pub arrivals : l .arrivals ≤ capacity
 
 -- where a record is booked there is room for it
-pub record Writable (change : Change) (booked : ℕ) (journal bytes : List ℕ) : Type 0 where
+pub record Writable (change : Change) (booked version : ℕ) (journal bytes : List ℕ) : Type 0 where
   pub few : change ≡ Book → booked < capacity
-  pub room : change ≡ Book → recordSize * booked + recordSize ≤ length journal
-  pub size : change ≡ Book → length bytes ≡ recordSize
+  pub room : change ≡ Book → placeOf version booked + recordSize version ≤ length journal
+  pub size : change ≡ Book → length bytes ≡ recordSize version
 
 -- where the checks before pass, the job is booked
 pub record Known (gate : Verdict) (booked job : ℕ) : Type 0 where
   pub below : gate ≡ Pass → job < booked
 
 -- the index is that of the booked records that lie inside
-pub record Searchable (journal : List ℕ) (booked : ℕ) (records : List ℕ) : Type 0 where
+pub record Searchable (version : ℕ) (journal : List ℕ) (booked : ℕ) (records : List ℕ) : Type 0 where
   pub few : booked ≤ capacity
-  pub indexed : IndexedRecords journal (insideOf journal booked) records
+  pub indexed : IndexedRecords version journal (insideOf version journal booked) records
 
 -- what kind 8 decides of a booked job, and a memo that stays right
 pub record Aged (s : Settings) (vaults : List Vault) (order : List ℕ) (arrivals : ℕ) (journal : List ℕ) (booked : ℕ) (memo : List ℕ) (job : ℕ)
     (d : Decision) : Type 0 where
-  pub decision : d ≡ ageing (isHeld s vaults job) (ageIn (jobAt journal booked) order arrivals job)
-  pub right : Memo (jobAt journal booked) order arrivals memo
+  pub decision : d ≡ ageing (isHeld s vaults job) (ageIn (jobAt (s .version) journal booked) order arrivals job)
+  pub right : Memo (jobAt (s .version) journal booked) order arrivals memo
   pub size : length memo ≡ capacity

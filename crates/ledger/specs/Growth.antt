@@ -37,19 +37,19 @@ pub record Grows (w w′ : World) : Type 0 where
 -- wherever a list of steps has led, and further steps after it
 abbrev pub SignedStays : Type 0
 SignedStays =
-    (n b faulty : ℕ) → Lawful (record { n = n; b = b; faulty = faulty }) → (es fs : List Event) (v k : ℕ)
-    → Correct (record { n = n; b = b; faulty = faulty }) v
-    → jobHas (vaultAt (afterAll (start n b faulty) es .ledger) v .signed) k ≡ true
-    → (jobHas (vaultAt (afterAll (afterAll (start n b faulty) es) fs .ledger) v .signed) k ≡ true)
-    ⊎ Released (afterAll (afterAll (start n b faulty) es) fs) v k
+    (n b faulty version : ℕ) → Lawful (record { n = n; b = b; faulty = faulty; version = version }) → (es fs : List Event) (v k : ℕ)
+    → Correct (record { n = n; b = b; faulty = faulty; version = version }) v
+    → jobHas (vaultAt (afterAll (start n b faulty version) es .ledger) v .signed) k ≡ true
+    → (jobHas (vaultAt (afterAll (afterAll (start n b faulty version) es) fs .ledger) v .signed) k ≡ true)
+    ⊎ Released (afterAll (afterAll (start n b faulty version) es) fs) v k
 
 -- "A later preflight treats the job as not signed there", and turns it back, whatever journal is lent: its rival stays held
 abbrev pub ReleasedForGood : Type 0
 ReleasedForGood =
-    (n b faulty : ℕ) → Lawful (record { n = n; b = b; faulty = faulty }) → (es fs : List Event) (v k : ℕ)
-    → Correct (record { n = n; b = b; faulty = faulty }) v → Released (afterAll (start n b faulty) es) v k
-    → Released (afterAll (afterAll (start n b faulty) es) fs) v k
-    × ((size : ℕ) (beyond : List ℕ) → accepts (afterAll (afterAll (start n b faulty) es) fs) size beyond (preflight v k) ≡ false)
+    (n b faulty version : ℕ) → Lawful (record { n = n; b = b; faulty = faulty; version = version }) → (es fs : List Event) (v k : ℕ)
+    → Correct (record { n = n; b = b; faulty = faulty; version = version }) v → Released (afterAll (start n b faulty version) es) v k
+    → Released (afterAll (afterAll (start n b faulty version) es) fs) v k
+    × ((size : ℕ) (beyond : List ℕ) → accepts (afterAll (afterAll (start n b faulty version) es) fs) size beyond (preflight v k) ≡ false)
 
 -- "takes the job from the signed set", and changes nothing else: no recorded vote, no count, no held set, no order
 pub record OnlySigned (l l′ : Ledger) (v k : ℕ) : Type 0 where

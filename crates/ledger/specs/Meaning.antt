@@ -3,7 +3,7 @@ use mathlib.Core.Bool.{Bool, false, true}
 use mathlib.Core.List.{List}
 use mathlib.Core.Logic.{_≢_, _⊎_}
 use mathlib.Core.Path.{_≡_}
-use Prim.Native.Nat.{_*_, _+_, _<_, _≤_, ℕ}
+use Prim.Native.Nat.{_+_, _<_, _≤_, ℕ}
 use lib.Count.{ones}
 use lib.ListN.{length}
 use Rattle.base.specs.Search.{Every, Least}
@@ -23,7 +23,7 @@ use Rattle.outcome.specs.declared.Refusal.the-variants.{
 use Rattle.outcome.specs.declared.Verdict.{Verdict}
 use Rattle.outcome.specs.declared.Verdict.the-variants.{Fail, Pass}
 use Rattle.checks.specs.Checks.{examined}
-use Rattle.codec.specs.Codec.{recordSize}
+use Rattle.codec.specs.Codec.{placeOf, recordSize}
 use Rattle.record.specs.Entries.{framesOf, labelOf}
 use Rattle.checks.specs.Meaning.{Nowhere}
 use Rattle.record.specs.Meaning.{Used}
@@ -38,6 +38,7 @@ use Rattle.ledger.specs.Graph.{Consumer, Creator, Maker}
 use Rattle.journal.specs.Journal.{Booked, capacity, insideOf, jobAt, slotAt}
 use Rattle.federation.specs.declared.Settings.{Settings}
 use Rattle.ledger.specs.Decisions.{answering, refusing}
+use Rattle.ledger.specs.State.{versionOf}
 use Rattle.ledger.specs.declared.Change.the-variants.{Book}
 use Rattle.ledger.specs.declared.Decision.{Decision}
 use Rattle.ledger.specs.declared.Ledger.{Ledger}
@@ -56,39 +57,39 @@ pub record Entered (l : Ledger) (journal : List ℕ) (v job : ℕ) (faulty : Boo
   pub sane : Sane l
   pub vault : v < l .settings .n
   pub role : hasBit (l .settings .faulty) v ≡ faulty
-  pub known : Booked journal (l .booked) job
+  pub known : Booked (versionOf l) journal (l .booked) job
 
 -- ---- a proposal's answers
 
 -- it is answered with the first booked record inside the journal that has these bytes
 pub record KnownAt (l : Ledger) (journal bytes : List ℕ) (k : ℕ) : Type 0 where
   pub sane : Sane l
-  pub passes : examined bytes ≡ Pass
-  pub first : Least (insideOf journal (l .booked)) (λ i. slotAt journal i ≡ bytes) k
+  pub passes : examined (versionOf l) bytes ≡ Pass
+  pub first : Least (insideOf (versionOf l) journal (l .booked)) (λ i. slotAt (versionOf l) journal i ≡ bytes) k
 
 -- no booked record inside the journal has these bytes
 abbrev pub Unknown : Ledger → List ℕ → List ℕ → Type 0
-Unknown l journal bytes = Every (insideOf journal (l .booked)) (λ i. slotAt journal i ≡ bytes → ⊥)
+Unknown l journal bytes = Every (insideOf (versionOf l) journal (l .booked)) (λ i. slotAt (versionOf l) journal i ≡ bytes → ⊥)
 
 -- it is booked: checks 6 to 9 pass, it is unknown, and there is room for one more
 pub record NewAt (l : Ledger) (journal bytes : List ℕ) : Type 0 where
   pub sane : Sane l
-  pub passes : examined bytes ≡ Pass
+  pub passes : examined (versionOf l) bytes ≡ Pass
   pub unknown : Unknown l journal bytes
   pub below : l .booked < capacity
-  pub fits : recordSize * l .booked + recordSize ≤ length journal
+  pub fits : placeOf (versionOf l) (l .booked) + recordSize (versionOf l) ≤ length journal
 
 -- there is no room for it
 pub record FullAt (l : Ledger) (journal bytes : List ℕ) : Type 0 where
   pub sane : Sane l
-  pub passes : examined bytes ≡ Pass
+  pub passes : examined (versionOf l) bytes ≡ Pass
   pub unknown : Unknown l journal bytes
-  pub full : (capacity ≤ l .booked) ⊎ (length journal < recordSize * l .booked + recordSize)
+  pub full : (capacity ≤ l .booked) ⊎ (length journal < placeOf (versionOf l) (l .booked) + recordSize (versionOf l))
 
 -- what each decision on a proposal means
 pub data Proposed (l : Ledger) (journal bytes : List ℕ) : Decision → Type 0 where
   insane : (Sane l → ⊥) → Proposed l journal bytes (refusing BadSettings)
-  failed : (why : Refusal) → Sane l → examined bytes ≡ Fail why → Proposed l journal bytes (refusing why)
+  failed : (why : Refusal) → Sane l → examined (versionOf l) bytes ≡ Fail why → Proposed l journal bytes (refusing why)
   known : (k : ℕ) → KnownAt l journal bytes k → Proposed l journal bytes (answering k)
   new : NewAt l journal bytes → Proposed l journal bytes (record { outcome = Done (l .booked); change = Book })
   full : FullAt l journal bytes → Proposed l journal bytes (refusing Full)
@@ -130,16 +131,16 @@ pub record Certificate (s : Settings) (recorded signers : ℕ) : Type 0 where
   pub enough : thresholdOf s ≤ ones signers
 
 -- ---- kind 10, by jobs: the vault holds the other, which is a rival. "Two different jobs are rivals if they share an input label or an output label."
-pub record Supersedes (state : Vault) (journal : List ℕ) (booked job rival : ℕ) : Type 0 where
+pub record Supersedes (state : Vault) (version : ℕ) (journal : List ℕ) (booked job rival : ℕ) : Type 0 where
   pub different : job ≢ rival
   pub held : jobHas (state .held) rival ≡ true
-  pub shares : Conflicting (jobAt journal booked job) (jobAt journal booked rival)
+  pub shares : Conflicting (jobAt version journal booked job) (jobAt version journal booked rival)
 
 -- what each answer of checks 4, of the rival, 19 and 20 means
-pub data Supersession (state : Vault) (journal : List ℕ) (booked job rival : ℕ) : Verdict → Type 0 where
-  unbooked : (Booked journal booked rival → ⊥) → Supersession state journal booked job rival (Fail NotBooked)
-  unsigned : Booked journal booked rival → jobHas (state .signed) job ≡ false → Supersession state journal booked job rival (Fail NotSignedHere)
-  standing : Booked journal booked rival → jobHas (state .signed) job ≡ true → (Supersedes state journal booked job rival → ⊥)
-      → Supersession state journal booked job rival (Fail NotSuperseded)
-  superseded : Booked journal booked rival → jobHas (state .signed) job ≡ true → Supersedes state journal booked job rival
-      → Supersession state journal booked job rival Pass
+pub data Supersession (state : Vault) (version : ℕ) (journal : List ℕ) (booked job rival : ℕ) : Verdict → Type 0 where
+  unbooked : (Booked version journal booked rival → ⊥) → Supersession state version journal booked job rival (Fail NotBooked)
+  unsigned : Booked version journal booked rival → jobHas (state .signed) job ≡ false → Supersession state version journal booked job rival (Fail NotSignedHere)
+  standing : Booked version journal booked rival → jobHas (state .signed) job ≡ true → (Supersedes state version journal booked job rival → ⊥)
+      → Supersession state version journal booked job rival (Fail NotSuperseded)
+  superseded : Booked version journal booked rival → jobHas (state .signed) job ≡ true → Supersedes state version journal booked job rival
+      → Supersession state version journal booked job rival Pass

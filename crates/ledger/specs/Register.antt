@@ -17,8 +17,10 @@ use Rattle.record.specs.declared.Entry.{Entry}
 use Rattle.record.specs.declared.Job.{Job}
 use Rattle.ledger.specs.Worlds.{Event, Request, World, after, commit, faultyVote, generations, preflight, propose, release, replyTo, show, snapshot}
 
--- "It keeps a table of records, the list of jobs taken, the standing tapes, the labels made and the frames accessioned."
+-- "It keeps a table of records, the list of jobs taken, the standing tapes, the labels made and the frames accessioned." Its version is that of
+-- the sequence of steps that it is fed (M-102), by which it reads a record.
 pub record Register : Type 0 where
+  pub version : ℕ
   pub running : Bool
   pub table : List (List ℕ)
   pub taken : List ℕ
@@ -26,8 +28,8 @@ pub record Register : Type 0 where
   pub made : List ℕ
   pub accessioned : ℕ
 
-abbrev pub newRegister : Register
-newRegister = record { running = true; table = []; taken = []; standing = []; made = []; accessioned = 0 }
+abbrev pub newRegister : ℕ → Register
+newRegister version = record { version = version; running = true; table = []; taken = []; standing = []; made = []; accessioned = 0 }
 
 abbrev pub passes : Verdict → Bool
 passes Pass = true
@@ -46,7 +48,7 @@ isMade made t = anyIn (eqb (t .label)) made
 -- "checks 6 to 9 pass, its input tapes stand with their frames and its output labels are new"
 unfoldable pub isAdmissible : Register → List ℕ → Bool
 isAdmissible r bytes =
-    passes (examined bytes)
+    passes (examined (r .version) bytes)
     && (allIn (isStanding (r .standing)) (inputTapes (jobOf bytes)) && allIn (λ t. not (isMade (r .made) t)) (outputTapes (jobOf bytes)))
 
 -- "an accession adds its output frames"
@@ -63,6 +65,7 @@ unfoldable pub taking : Register → ℕ → Register
 taking r k =
     let j = tabled (r .table) k in
     record {
+      version = r .version;
       running = r .running;
       table = r .table;
       taken = r .taken ++ (k ∷ []);
@@ -75,6 +78,7 @@ taking r k =
 unfoldable pub stopped : Register → Register
 stopped r =
     record {
+      version = r .version;
       running = false;
       table = r .table;
       taken = r .taken;
@@ -86,6 +90,7 @@ stopped r =
 unfoldable pub entering : Register → List ℕ → Register
 entering r bytes =
     record {
+      version = r .version;
       running = r .running;
       table = r .table ++ (bytes ∷ []);
       taken = r .taken;

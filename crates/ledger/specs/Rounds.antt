@@ -46,7 +46,7 @@ pub record Counted (w w′ : World) (answer : Outcome) : Type 0 where
 -- wherever a list of steps has led and a round is about to begin
 abbrev pub Rounds : Type 0
 Rounds =
-    (n b faulty : ℕ) → Lawful (record { n = n; b = b; faulty = faulty }) → (es : List Event)
-    → afterAll (start n b faulty) es .ledger .next ≡ 0 → (rs : List Event) (r : Round n rs)
-    → Counted (afterAll (start n b faulty) es) (afterAll (afterAll (start n b faulty) es) rs)
-    (replyTo (afterAll (afterAll (start n b faulty) es) (r .before)) (r .last) .outcome)
+    (n b faulty version : ℕ) → Lawful (record { n = n; b = b; faulty = faulty; version = version }) → (es : List Event)
+    → afterAll (start n b faulty version) es .ledger .next ≡ 0 → (rs : List Event) (r : Round n rs)
+    → Counted (afterAll (start n b faulty version) es) (afterAll (afterAll (start n b faulty version) es) rs)
+    (replyTo (afterAll (afterAll (start n b faulty version) es) (r .before)) (r .last) .outcome)

@@ -40,6 +40,10 @@ signersOf l = votesIn l Signatures
 abbrev pub acknowledgersOf : Ledger → ℕ → ℕ
 acknowledgersOf l = votesIn l Acknowledgements
 
+-- "a book and its sequence of steps have one version" (M-102)
+abbrev pub versionOf : Ledger → ℕ
+versionOf l = l .settings .version
+
 -- the jobs in arrival order
 abbrev pub arrived : Ledger → List ℕ
 arrived l = take (l .arrivals) (l .order)
@@ -55,10 +59,10 @@ isSane l = isLawful (l .settings) && (leb (l .booked) capacity && (leb (l .arriv
 -- ---- changes
 
 -- "no record booked, nothing held, signed or acknowledged, counts 0 and no arrivals"
-unfoldable pub newLedger : ℕ → ℕ → ℕ → Ledger
-newLedger n b faulty =
+unfoldable pub newLedger : ℕ → ℕ → ℕ → ℕ → Ledger
+newLedger n b faulty version =
     record {
-      settings = record { n = n; b = b; faulty = faulty };
+      settings = record { n = n; b = b; faulty = faulty; version = version };
       booked = 0;
       arrivals = 0;
       next = 0;

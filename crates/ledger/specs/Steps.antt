@@ -23,12 +23,12 @@ use Rattle.ledger.specs.declared.Ledger.{Ledger}
 use Rattle.ledger.specs.declared.Reply.{Reply}
 use Rattle.ledger.specs.Decisions.{ageing, answering, committing, gated, preflighting, proposal, releasing, snapshotting, statusOf, voting}
 use Rattle.ledger.specs.Holders.{isHeld}
-use Rattle.ledger.specs.State.{applied, isSane, newLedger, signersOf, vaultAt, votesAt, votesIn}
+use Rattle.ledger.specs.State.{applied, isSane, newLedger, signersOf, vaultAt, versionOf, votesAt, votesIn}
 
 -- ---- a new ledger: the threshold where the settings are lawful
-unfoldable pub newOf : ℕ → ℕ → ℕ → Reply
-newOf n b faulty =
-    let l = newLedger n b faulty in
+unfoldable pub newOf : ℕ → ℕ → ℕ → ℕ → Reply
+newOf n b faulty version =
+    let l = newLedger n b faulty version in
     cond (isLawful (l .settings)) (record { outcome = Done (thresholdOf (l .settings)); ledger = l }) (record { outcome = Refused BadSettings; ledger = l })
 
 -- ---- the checks that steps share
@@ -49,23 +49,23 @@ saneGate l = cond (isSane l) Pass (Fail BadSettings)
 -- checks 1 and 4
 unfoldable pub bookedGate : Ledger → List ℕ → ℕ → Verdict
 bookedGate l journal job =
-    cond (isSane l) (cond (isBooked journal (l .booked) job) Pass (Fail NotBooked)) (Fail BadSettings)
+    cond (isSane l) (cond (isBooked (versionOf l) journal (l .booked) job) Pass (Fail NotBooked)) (Fail BadSettings)
 
 -- checks 1, 3, 5 and 4
 unfoldable pub vaultGate : Ledger → List ℕ → ℕ → ℕ → Bool → Verdict
 vaultGate l journal v job faulty =
-    cond (isSane l) (gateOf (l .settings) v faulty (isBooked journal (l .booked) job)) (Fail BadSettings)
+    cond (isSane l) (gateOf (l .settings) v faulty (isBooked (versionOf l) journal (l .booked) job)) (Fail BadSettings)
 
 -- ---- what each kind of step decides
 
 -- kind 1: "6 to 9, then a booked equal, then 10"
 unfoldable pub proposeDecision : Ledger → List ℕ → List ℕ → Decision
-proposeDecision l journal bytes = gated (saneGate l) (proposal journal (l .booked) bytes)
+proposeDecision l journal bytes = gated (saneGate l) (proposal (versionOf l) journal (l .booked) bytes)
 
 -- kind 2: "3, 5, 4, 11 to 14"
 unfoldable pub preflightDecision : Ledger → List ℕ → ℕ → ℕ → Decision
 preflightDecision l journal v job =
-    gated (vaultGate l journal v job false) (preflighting (vaultAt l v) journal (l .booked) (signersOf l job) v job)
+    gated (vaultGate l journal v job false) (preflighting (vaultAt l v) (versionOf l) journal (l .booked) (signersOf l job) v job)
 
 -- kind 3: "3, 5, 4, 15, 16"
 unfoldable pub commitDecision : Ledger → List ℕ → ℕ → ℕ → ℕ → Decision
@@ -86,7 +86,7 @@ showDecision l journal job =
 unfoldable pub generationsDecision : Ledger → List ℕ → ℕ → Decision
 generationsDecision l journal job =
     gated (bookedGate l journal job)
-    (ageing (isHeld (l .settings) (l .vaults) job) (ageIn (jobAt journal (l .booked)) (l .order) (l .arrivals) job))
+    (ageing (isHeld (l .settings) (l .vaults) job) (ageIn (jobAt (versionOf l) journal (l .booked)) (l .order) (l .arrivals) job))
 
 -- kind 9: "no check but 2"; the vault that it visits is the ledger's
 unfoldable pub snapshotDecision : Ledger → Decision
@@ -95,7 +95,7 @@ snapshotDecision l = gated (saneGate l) (snapshotting (l .settings) (l .next) (l
 -- kind 10: "3, 5 as for preflight, 4 for either job", 19 and 20
 unfoldable pub releaseDecision : Ledger → List ℕ → ℕ → ℕ → ℕ → Decision
 releaseDecision l journal v job rival =
-    gated (vaultGate l journal v job false) (releasing (vaultAt l v) journal (l .booked) (signersOf l job) job rival)
+    gated (vaultGate l journal v job false) (releasing (vaultAt l v) (versionOf l) journal (l .booked) (signersOf l job) job rival)
 
 -- ---- a decision carried out
 
@@ -107,21 +107,21 @@ abbrev pub turned : Ledger → Refusal → Reply
 turned l why = record { outcome = Refused why; ledger = l }
 
 -- the lent journal afterwards: a new record stands after the booked ones
-abbrev pub journalWith : Change → ℕ → List ℕ → List ℕ → List ℕ
-journalWith Book booked journal bytes = putAt journal booked bytes
-journalWith Nothing booked journal bytes = journal
-journalWith (Sign state) booked journal bytes = journal
-journalWith (Hold state) booked journal bytes = journal
-journalWith (Release state) booked journal bytes = journal
-journalWith (Record column) booked journal bytes = journal
-journalWith (See seen) booked journal bytes = journal
+abbrev pub journalWith : Change → ℕ → ℕ → List ℕ → List ℕ → List ℕ
+journalWith Book booked version journal bytes = putAt version journal booked bytes
+journalWith Nothing booked version journal bytes = journal
+journalWith (Sign state) booked version journal bytes = journal
+journalWith (Hold state) booked version journal bytes = journal
+journalWith (Release state) booked version journal bytes = journal
+journalWith (Record column) booked version journal bytes = journal
+journalWith (See seen) booked version journal bytes = journal
 
 -- ---- the operations; a proposal names no vault and no job
 unfoldable pub proposeOf : Ledger → List ℕ → List ℕ → Reply
 proposeOf l journal bytes = carried l (proposeDecision l journal bytes) 0 0
 
 unfoldable pub journalAfter : Ledger → List ℕ → List ℕ → List ℕ
-journalAfter l journal bytes = journalWith (proposeDecision l journal bytes .change) (l .booked) journal bytes
+journalAfter l journal bytes = journalWith (proposeDecision l journal bytes .change) (l .booked) (versionOf l) journal bytes
 
 unfoldable pub preflightOf : Ledger → List ℕ → ℕ → ℕ → Reply
 preflightOf l journal v job = carried l (preflightDecision l journal v job) v job

@@ -1,11 +1,11 @@
 -- Lists of steps ("The list of demand 3"): a step with its arguments and the journal that is lent for it, and what lasts from one
 -- step to the next. The steps are the functions that the contracts of src/ cite.
 use mathlib.Core.List.{List, [], _++_, _∷_}
-use Prim.Native.Nat.{_*_, ℕ}
+use Prim.Native.Nat.{ℕ}
 use lib.ListN.{drop, length, take}
 use Rattle.outcome.specs.declared.Outcome.{Outcome}
-use Rattle.codec.specs.Codec.{recordSize}
-use Rattle.ledger.specs.State.{newLedger}
+use Rattle.codec.specs.Codec.{placeOf}
+use Rattle.ledger.specs.State.{newLedger, versionOf}
 use Rattle.ledger.specs.Steps.{
   carried,
   commitDecision,
@@ -109,11 +109,11 @@ overlay journal booked = journal ++ drop (length journal) booked
 unfoldable pub after : World → Event → World
 after w e =
     let next = replyTo w e .ledger in
-    record { ledger = next; booked = take (recordSize * next .booked) (overlay (leftBy (w .ledger) (lent w e) (e .request)) (w .booked)) }
+    record { ledger = next; booked = take (placeOf (versionOf (w .ledger)) (next .booked)) (overlay (leftBy (w .ledger) (lent w e) (e .request)) (w .booked)) }
 
 -- "The list starts with no record booked, nothing held, signed or acknowledged, counts 0 and no arrivals"
-unfoldable pub start : ℕ → ℕ → ℕ → World
-start n b faulty = record { ledger = newLedger n b faulty; booked = [] }
+unfoldable pub start : ℕ → ℕ → ℕ → ℕ → World
+start n b faulty version = record { ledger = newLedger n b faulty version; booked = [] }
 
 abbrev pub afterAll : World → List Event → World
 afterAll w [] = w

@@ -14,7 +14,7 @@ fn aged(l: Ledger, journal: &mut [u8], name: &[u8], number: u8, job: Job) -> Led
 }
 
 fn masters(journal: &mut [u8]) -> Ledger {
-    let new = books::new(1, 0, 0).ledger;
+    let new = books::new(1, 0, 0, 1).ledger;
     let first = jobs::tape(b"AAAAAAL7", 1000);
     let second = jobs::tape(b"BBBBBBL7", 500);
     let l = aged(new, journal, b"two", 0, jobs::accession_two(first, second));

@@ -137,7 +137,7 @@ fn rounds(l: Ledger, journal: &[u8; 12800]) {
 pub(crate) fn checks() {
     let mut journal = [0u8; 12800];
     steps::heading(b"checks");
-    let l = first_jobs(books::new(4, 1, 8).ledger, &mut journal);
+    let l = first_jobs(books::new(4, 1, 8, 1).ledger, &mut journal);
     let l = more_jobs(l, &mut journal);
     rounds(l, &journal);
 }

@@ -7,12 +7,12 @@ use vaults::Column;
 
 fn proposed(name: &[u8], l: Ledger, journal: &mut [u8], job: Job) -> Ledger {
     let mut bytes = [0u8; 100];
-    codec::write(job, &mut bytes);
+    codec::write(1, job, &mut bytes);
     steps::report(name, operations::propose(l, journal, &bytes))
 }
 
 fn booked(journal: &mut [u8]) -> Ledger {
-    let new = books::new(4, 1, 8).ledger;
+    let new = books::new(4, 1, 8, 1).ledger;
     let l = proposed(b"1", new, journal, jobs::master());
     proposed(b"2", l, journal, jobs::copy())
 }

@@ -3,7 +3,7 @@ use scenario::jobs;
 use scenario::steps;
 
 fn set(name: &[u8], n: u8, b: u8, faulty: u16) {
-    let outcome = books::new(n, b, faulty).outcome;
+    let outcome = books::new(n, b, faulty, 1).outcome;
     steps::line(name, outcome);
 }
 
@@ -43,7 +43,7 @@ pub(crate) fn settings() {
 pub(crate) fn unlawful() {
     steps::heading(b"unlawful");
     let mut journal = [0u8; 200];
-    let new = books::new(3, 1, 0).ledger;
+    let new = books::new(3, 1, 0, 1).ledger;
     let l = steps::propose(new, &mut journal, b"master", jobs::master());
     let l = steps::preflight(l, &journal, 0, 0);
     let l = steps::commit(l, &journal, 0, 0, 3);

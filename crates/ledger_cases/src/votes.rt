@@ -63,12 +63,12 @@ fn sixteen(l: Ledger, journal: &[u8; 200]) {
 pub(crate) fn votes() {
     let mut journal = [0u8; 200];
     steps::heading(b"four vaults");
-    let new = books::new(4, 1, 8).ledger;
+    let new = books::new(4, 1, 8, 1).ledger;
     let l = steps::propose(new, &mut journal, b"master", jobs::master());
     let l = steps::propose(l, &mut journal, b"copy", jobs::copy());
     four(l, &journal);
     steps::heading(b"sixteen vaults");
-    let new = books::new(16, 5, 63488).ledger;
+    let new = books::new(16, 5, 63488, 1).ledger;
     let l = steps::propose(new, &mut journal, b"master", jobs::master());
     sixteen(l, &journal);
 }

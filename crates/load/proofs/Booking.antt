@@ -2,7 +2,7 @@
 use mathlib.Core.Bool.{Bool, cond, false, true, true≢false}
 use mathlib.Core.List.{List}
 use mathlib.Core.Path.{_∙_, _≡_, ap, refl, subst, sym}
-use Prim.Native.Nat.{_*_, _+_, _<_, _^_, _≤_, suc, ℕ}
+use Prim.Native.Nat.{_+_, _<_, _^_, _≤_, suc, ℕ}
 use native.Mathlib.Omega.{arith}
 use lib.Count.{ones}
 use lib.Dec.{ltb}
@@ -10,7 +10,8 @@ use lib.ListN.{length}
 use borrow.Author.Tests.{le-leb, lt-ltb, ltb-false, ltb-true}
 use Rattle.base.proofs.Reflect.{by-cases}
 use Rattle.codec.proofs.Jobs.{length-bytesOf}
-use Rattle.codec.specs.Codec.{bytesOf, recordSize}
+use Rattle.codec.proofs.Sizes.{place-most, place-whole, size-most}
+use Rattle.codec.specs.Codec.{bytesOf, placeOf, recordSize}
 use Rattle.federation.specs.Federation.{Lawful}
 use Rattle.federation.specs.declared.Settings.{Settings}
 use Rattle.generations.specs.Generations.{ageIn}
@@ -41,7 +42,7 @@ use Rattle.ledger.specs.Decisions.{
 }
 use Rattle.ledger.specs.Holders.{isHeld}
 use Rattle.ledger.specs.Meaning.{NewAt, Sane, new}
-use Rattle.ledger.specs.State.{applied, booking, signersOf, vaultAt, visited, voted, votesAt, votesIn, withVault}
+use Rattle.ledger.specs.State.{applied, booking, signersOf, vaultAt, versionOf, visited, voted, votesAt, votesIn, withVault}
 use Rattle.ledger.specs.Steps.{
   bookedGate,
   commitDecision,
@@ -69,6 +70,7 @@ use Rattle.ledger.specs.declared.Ledger.{Ledger}
 use Rattle.vaults.specs.declared.Vault.{Vault}
 use Rattle.outcome.specs.declared.Outcome.the-variants.{Done}
 use Rattle.outcome.specs.declared.Refusal.the-variants.{NotHeld}
+use Rattle.checks.specs.Checks.{examined}
 use Rattle.outcome.specs.declared.Verdict.{Verdict}
 use Rattle.outcome.specs.declared.Verdict.the-variants.{Fail, Pass}
 use Rattle.sets.specs.Bits.{hasBit}
@@ -111,7 +113,7 @@ unfolding preflightDecision preflighting consent commitDecision committing recei
     snapshotDecision snapshotting releaseDecision releasing
 other-calm l journal (propose bytes) h = absurd h
 other-calm l journal (preflight v j) h =
-    let a = vaultPreflight (vaultAt l v) (admissionAt (vaultAt l v) journal (l .booked) j) j in
+    let a = vaultPreflight (vaultAt l v) (admissionAt (vaultAt l v) (versionOf l) journal (l .booked) j) j in
     gated-calm (vaultGate l journal v j false) (consenting (a .consent) (a .vault) (signersOf l j) v) (consent-calm (a .consent) (a .vault) (signersOf l j) v)
 other-calm l journal (commit v j signers) h =
     let votes = votesAt l j in
@@ -123,12 +125,12 @@ other-calm l journal (commit v j signers) h =
 other-calm l journal (faultyVote column v j) h = gated-calm (vaultGate l journal v j true) (voting (votesIn l column j) v (Record column)) refl
 other-calm l journal (show j) h = gated-calm (bookedGate l journal j) (answering (statusOf (l .settings) (votesAt l j))) refl
 other-calm l journal (generations j) h =
-    let age = ageIn (jobAt journal (l .booked)) (l .order) (l .arrivals) j in
+    let age = ageIn (jobAt (versionOf l) journal (l .booked)) (l .order) (l .arrivals) j in
     let held = isHeld (l .settings) (l .vaults) j in
     gated-calm (bookedGate l journal j) (cond held (answering age) (refusing NotHeld)) (if-calm held (answering age) (refusing NotHeld) refl refl)
 other-calm l journal snapshot h = gated-calm (saneGate l) (snapshotting (l .settings) (l .next) (l .seen) (vaultAt l (l .next) .held)) refl
 other-calm l journal (release v j rival) h =
-    let test = supersession (vaultAt l v) journal (l .booked) j rival in
+    let test = supersession (vaultAt l v) (versionOf l) journal (l .booked) j rival in
     let released : Decision = record { outcome = Done (ones (signersOf l j)); change = Release (unsigning (vaultAt l v) j) } in
     gated-calm (vaultGate l journal v j false) (gated test released) (gated-calm test released refl)
 
@@ -153,11 +155,12 @@ calm-same l (Hold state) v j h =
 -- ---- what a load has booked so far: its first k records
 pub record Standing (first : ℕ) (s : Settings) (k : ℕ) (l : Ledger) (journal : List ℕ) : Type 0 where
   pub settings : l .settings ≡ s
+  pub version : versionOf l ≡ 1
   pub booked : l .booked ≡ k
   pub arrivals : l .arrivals ≤ 128
   pub next : l .next < s .n
-  pub size : length journal ≡ 12800
-  pub records : (m : ℕ) → m < k → slotAt journal m ≡ bytesOf (jobFor first m)
+  pub size : length journal ≡ 13312
+  pub records : (m : ℕ) → m < k → slotAt 1 journal m ≡ bytesOf 1 (jobFor first m)
 
 other-left : (l : Ledger) (journal : List ℕ) (q : Request) → Other q → leftBy l journal q ≡ journal
 other-left l journal (propose bytes) h = absurd h
@@ -177,6 +180,7 @@ module _ (first : ℕ) (s : Settings) (k : ℕ) (l : Ledger) (journal : List ℕ
       subst (Standing first s k (stepOf l journal q .ledger)) (sym (other-left l journal q o))
       (record {
         settings = m .settings ∙ h .settings;
+        version = ap (λ (x : Settings). x .version) (m .settings) ∙ h .version;
         booked = m .booked ∙ h .booked;
         arrivals = m .arrivals (h .arrivals);
         next = omega (arith, vaults, m .next (omega (arith, vaults, h .next)) (omega (arith, vaults, h .next)));
@@ -201,51 +205,55 @@ module _ (first : ℕ) (s : Settings) (k : ℕ) (l : Ledger) (journal : List ℕ
         h .settings,
         lt-ltb v (s .n) vn,
         f,
-        le-leb (l .booked) (slots journal) (omega (
-          arith,
-          h .booked,
-          h .size,
-        )),
+        le-leb (l .booked) (slots (versionOf l) journal)
+            (place-whole (versionOf l) (l .booked) (length journal) (omega (arith, place-most (versionOf l) (l .booked), h .booked, h .size))),
         lt-ltb j (l .booked) (omega (arith, h .booked)),
       )
 
   -- ---- a proposal of the next record books it
   module _ (w : Lawful s) (small : first < 2 ^ 32) (more : k < 40) where
     abbrev bytes : List ℕ
-    bytes = bytesOf (jobFor first k)
+    bytes = bytesOf 1 (jobFor first k)
+
+    fits-in : (version : ℕ) → placeOf version (l .booked) + recordSize version ≤ length journal
+    fits-in version = omega (arith, place-most version (l .booked), size-most version, h .booked, h .size)
 
     fresh : NewAt l journal bytes
     unfolding insideOf
     fresh = record {
       sane = sane w (omega arith);
-      passes = record-passes first k small more;
+      passes = subst (λ (v : ℕ). examined v bytes ≡ Pass) (sym (h .version)) (record-passes first k small more);
       unknown = λ i b e. let c : i < k = omega (arith, b, h .booked) in
-          let z : i ≡ k = records-differ first i k small (omega arith) more (sym (h .records i c) ∙ e) in absurd (omega arith);
+          let z : i ≡ k = records-differ first i k small (omega arith) more
+          (sym (h .records i c) ∙ ap (λ (v : ℕ). slotAt v journal i) (sym (h .version)) ∙ e) in
+          absurd (omega arith);
       below = omega (arith, h .booked);
-      fits = omega (arith, h .booked, h .size);
+      fits = fits-in (versionOf l);
     }
 
     decides : proposeDecision l journal bytes ≡ record { outcome = Done (l .booked); change = Book }
     decides = means l journal bytes _ (new fresh)
 
-    put-standing : Standing first s (suc k) (booking l) (putAt journal (l .booked) bytes)
+    put-standing : Standing first s (suc k) (booking l) (putAt 1 journal (l .booked) bytes)
     unfolding booking
     put-standing =
-        let n = length-bytesOf (jobFor first k) (eight first k) in
-        let room : recordSize * l .booked + recordSize ≤ length journal = omega (arith, h .booked, h .size) in
+        let n = length-bytesOf 1 (jobFor first k) (eight first k) in
+        let room = fits-in 1 in
         record {
           settings = h .settings;
+          version = h .version;
           booked = omega (arith, h .booked);
           arrivals = h .arrivals;
           next = h .next;
-          size = put-length (l .booked) journal bytes n room ∙ h .size;
-          records = λ m g. by-cases (λ b. slotAt (putAt journal (l .booked) bytes) m ≡ bytesOf (jobFor first m)) (ltb m k)
-              (λ e. slot-before (l .booked) journal bytes n room m (omega (arith, h .booked, ltb-true m k e)) ∙ h .records m (ltb-true m k e))
+          size = put-length 1 (l .booked) journal bytes n room ∙ h .size;
+          records = λ m g. by-cases (λ b. slotAt 1 (putAt 1 journal (l .booked) bytes) m ≡ bytesOf 1 (jobFor first m)) (ltb m k)
+              (λ e. slot-before 1 (l .booked) journal bytes n room m (omega (arith, h .booked, ltb-true m k e)) ∙ h .records m (ltb-true m k e))
               (λ e. let z : m ≡ l .booked = omega (arith, ltb-false m k e, h .booked) in
-              ap (slotAt (putAt journal (l .booked) bytes)) z ∙ slot-put (l .booked) journal bytes n room
-              ∙ ap (λ (i : ℕ). bytesOf (jobFor first i)) (sym (z ∙ h .booked)));
+              ap (slotAt 1 (putAt 1 journal (l .booked) bytes)) z ∙ slot-put 1 (l .booked) journal bytes n room
+              ∙ ap (λ (i : ℕ). bytesOf 1 (jobFor first i)) (sym (z ∙ h .booked)));
         }
 
     pub proposed-standing : Standing first s (suc k) (stepOf l journal (propose bytes) .ledger) (leftBy l journal (propose bytes))
     unfolding journalAfter applied
-    proposed-standing = rw decides put-standing
+    proposed-standing =
+        rw decides (subst (λ (v : ℕ). Standing first s (suc k) (booking l) (putAt v journal (l .booked) bytes)) (sym (h .version)) put-standing)

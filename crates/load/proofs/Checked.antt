@@ -1,6 +1,7 @@
 -- Every record of a load passes checks 6 to 9, whatever its first draw.
 use mathlib.Core.Bool.{cond, true, true≢false}
 use mathlib.Core.List.{[], _∷_, append-nil}
+use mathlib.Core.Logic.{inr}
 use mathlib.Core.Path.{_∙_, _≡_, ap, refl, sym}
 use Prim.Native.Nat.{_%_, _*_, _+_, _-_, _/_, _<_, _^_, _≤_, suc, zero, ℕ}
 use native.Mathlib.Omega.{arith}
@@ -14,6 +15,7 @@ use Rattle.checks.specs.Checks.{
   checkOf,
   countsFormed,
   entryFormed,
+  trimmedFormed,
   examined,
   hasLabelOf,
   inputsFormed,
@@ -25,15 +27,15 @@ use Rattle.checks.specs.Checks.{
   wellFormed,
 }
 use Rattle.codec.proofs.Jobs.{length-bytesOf}
-use Rattle.codec.proofs.RoundTrip.{job-record-job}
-use Rattle.codec.specs.Codec.{EntriesFit, JobFits, bytesOf, jobOf, leAt}
+use Rattle.codec.proofs.RoundTrip.{job-record-job, said-same}
+use Rattle.codec.specs.Codec.{EntriesFit, JobFits, bytesOf, jobOf, leAt, recordSize, saysTrimmed}
 use Rattle.outcome.specs.declared.Verdict.{Verdict}
 use Rattle.outcome.specs.declared.Verdict.the-variants.{Fail, Pass}
 use Rattle.record.specs.Drives.{isDrive, supports}
 use Rattle.record.specs.Entries.{framesOf, isUsed, labelOf, noEntry, usedFrames}
 use Rattle.record.specs.Labels.{charAt, isAlphanumeric, isBetween, isLabel, mediumOf}
 use Rattle.record.specs.declared.Entry.{Entry}
-use Rattle.load.proofs.Writes.{eight}
+use Rattle.load.proofs.Writes.{eight, untrimmed}
 use Rattle.load.specs.Records.{A, B, accession, jobFor, labelFor, lowerFrames, mainJob, migration, rivalJob, sideJob, tape, upperFrames}
 use Rattle.load.specs.Visits.{isPass}
 
@@ -42,21 +44,21 @@ Fits e = (e .label < 2 ^ 64) × (e .frames < 2 ^ 32)
 
 -- ---- each kind of job, by computation; frames are known to be at least 1, and what is read to be what is written
 check-main : (f g r : ℕ) → r < 4 → 1 ≤ f → 1 ≤ g → checkOf (mainJob f g r) ≡ Pass
-unfolding mainJob labelFor leAt checkOf wellFormed isDrive countsFormed inputsFormed entryFormed isFilled isBlank isUsed isLabel mediumOf charAt
+unfolding mainJob labelFor leAt checkOf wellFormed isDrive countsFormed inputsFormed trimmedFormed entryFormed isFilled isBlank isUsed isLabel mediumOf charAt
     isAlphanumeric isBetween framesOf labelOf usedFrames repeatedAt hasLabelOf unsupportedAt isWritten supports balanced allBelow anyBelow firstBelow sumFrom
 check-main f g zero h p q = simp (le-leb 1 f p, le-leb 1 g q)
-check-main f g (suc zero) h p q = simp (le-leb 1 f p, le-leb 1 g q, eq-eqb (f + (g + 0)) (f + (g + 0)) refl)
-check-main f g (suc (suc zero)) h p q = simp (le-leb 1 f p, le-leb 1 g q, eq-eqb (f + (g + 0)) (f + (g + 0)) refl)
-check-main f g (suc (suc (suc zero))) h p q = simp (le-leb 1 f p, le-leb 1 g q, eq-eqb (f + (g + 0)) (f + (g + 0)) refl)
+check-main f g (suc zero) h p q = simp (le-leb 1 f p, le-leb 1 g q, eq-eqb (f + (g + 0)) (f + (g + 0) + 0) (omega arith))
+check-main f g (suc (suc zero)) h p q = simp (le-leb 1 f p, le-leb 1 g q, eq-eqb (f + (g + 0)) (f + (g + 0) + 0) (omega arith))
+check-main f g (suc (suc (suc zero))) h p q = simp (le-leb 1 f p, le-leb 1 g q, eq-eqb (f + (g + 0)) (f + (g + 0) + 0) (omega arith))
 check-main f g (suc (suc (suc (suc r)))) h p q = absurd (omega arith)
 
 check-rival : (f r : ℕ) → r < 4 → 1 ≤ f → checkOf (rivalJob f r) ≡ Pass
-unfolding rivalJob labelFor leAt checkOf wellFormed isDrive countsFormed inputsFormed entryFormed isFilled isBlank isUsed isLabel mediumOf charAt
+unfolding rivalJob labelFor leAt checkOf wellFormed isDrive countsFormed inputsFormed trimmedFormed entryFormed isFilled isBlank isUsed isLabel mediumOf charAt
     isAlphanumeric isBetween framesOf labelOf usedFrames repeatedAt hasLabelOf unsupportedAt isWritten supports balanced allBelow anyBelow firstBelow sumFrom
 check-rival f zero h p = simp (le-leb 1 f p)
-check-rival f (suc zero) h p = simp (le-leb 1 f p, eq-eqb (f + 0) (f + 0) refl)
-check-rival f (suc (suc zero)) h p = simp (le-leb 1 f p, eq-eqb (f + 0) (f + 0) refl)
-check-rival f (suc (suc (suc zero))) h p = simp (le-leb 1 f p, eq-eqb (f + 0) (f + 0) refl)
+check-rival f (suc zero) h p = simp (le-leb 1 f p, eq-eqb (f + 0) (f + 0 + 0) (omega arith))
+check-rival f (suc (suc zero)) h p = simp (le-leb 1 f p, eq-eqb (f + 0) (f + 0 + 0) (omega arith))
+check-rival f (suc (suc (suc zero))) h p = simp (le-leb 1 f p, eq-eqb (f + 0) (f + 0 + 0) (omega arith))
 check-rival f (suc (suc (suc (suc r)))) h p = absurd (omega arith)
 
 pass-is : (v : Verdict) → isPass v ≡ true → v ≡ Pass
@@ -64,7 +66,7 @@ pass-is Pass e = refl
 pass-is (Fail why) e = absurd (true≢false (sym e))
 
 side-checked : allBelow 40 (λ j. isPass (checkOf (sideJob j))) ≡ true
-unfolding sideJob labelFor leAt checkOf wellFormed isDrive countsFormed inputsFormed entryFormed isFilled isBlank isUsed isLabel mediumOf charAt
+unfolding sideJob labelFor leAt checkOf wellFormed isDrive countsFormed inputsFormed trimmedFormed entryFormed isFilled isBlank isUsed isLabel mediumOf charAt
     isAlphanumeric isBetween framesOf labelOf usedFrames repeatedAt hasLabelOf unsupportedAt isWritten supports balanced allBelow anyBelow firstBelow sumFrom
 side-checked = refl
 
@@ -137,12 +139,13 @@ fits-job first j b h = record {
       (λ e. by-cases (λ b. EntriesFit (cond b (rivalJob (lowerFrames first) (j / 10)) (sideJob j) .entries)) (eqb (j % 10) 1)
       (λ f. fits-rival (lowerFrames first) (j / 10) (omega arith) (omega arith))
       (λ f. fits-side j h));
+  trimmed = rw (untrimmed first j) (lit< tt);
 }
 
-pub record-reads : (first j : ℕ) → first < 2 ^ 32 → j < 40 → jobOf (bytesOf (jobFor first j)) ≡ jobFor first j
-record-reads first j b h = ap jobOf (sym (append-nil (bytesOf (jobFor first j)))) ∙ job-record-job (jobFor first j) [] (fits-job first j b h)
+pub record-reads : (first j : ℕ) → first < 2 ^ 32 → j < 40 → jobOf (bytesOf 1 (jobFor first j)) ≡ jobFor first j
+record-reads first j b h = job-record-job 1 (jobFor first j) (fits-job first j b h) ∙ said-same 1 (jobFor first j) (inr (untrimmed first j))
 
 -- "Every record written passes checks 6 to 9"
-pub record-passes : (first j : ℕ) → first < 2 ^ 32 → j < 40 → examined (bytesOf (jobFor first j)) ≡ Pass
-unfolding examined
-record-passes first j b h = simp (length-bytesOf (jobFor first j) (eight first j), record-reads first j b h, check-job first j h)
+pub record-passes : (first j : ℕ) → first < 2 ^ 32 → j < 40 → examined 1 (bytesOf 1 (jobFor first j)) ≡ Pass
+unfolding examined recordSize saysTrimmed
+record-passes first j b h = simp (length-bytesOf 1 (jobFor first j) (eight first j), record-reads first j b h, check-job first j h)

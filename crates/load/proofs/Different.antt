@@ -90,7 +90,7 @@ label-tells i j m k a b c d e =
     omega (arith, t, u)
 
 -- "At least forty different records are proposed"
-pub records-differ : (first i j : ℕ) → first < 2 ^ 32 → i < 40 → j < 40 → bytesOf (jobFor first i) ≡ bytesOf (jobFor first j) → i ≡ j
+pub records-differ : (first i j : ℕ) → first < 2 ^ 32 → i < 40 → j < 40 → bytesOf 1 (jobFor first i) ≡ bytesOf 1 (jobFor first j) → i ≡ j
 records-differ first i j b h g e =
     let same : jobFor first i ≡ jobFor first j = sym (record-reads first i b h) ∙ ap jobOf e ∙ record-reads first j b g in
     let x = own first i h in
@@ -99,9 +99,11 @@ records-differ first i j b h g e =
 
 -- ---- loads
 -- the first step proposes the record of job 0
-first-record : (seed n b : ℕ) → n ≤ 16 → 3 * b < n → stepAt (loadBytes seed n b) 9 ≡ request (propose (bytesOf (jobFor (drawn (next seed)) 0)))
+first-record : (seed n b : ℕ) → n ≤ 16 → 3 * b < n → stepAt 1 (loadBytes seed n b) 9 ≡ request (propose (bytesOf 1 (jobFor (drawn (next seed)) 0)))
 unfolding stepsOf stepsFrom stepFor asking planOf planWith
-first-record seed n b h g = next-step _ (Propose 0) _ (loadBytes seed n b) (begins (loadBytes seed n b)) (reads-load seed n b h g) .reads
+first-record seed n b h g =
+    let h′ = reads-load seed n b h g in
+    ap (λ (v : ℕ). stepAt v (loadBytes seed n b) 9) (sym (h′ .version)) ∙ next-step _ (Propose 0) _ (loadBytes seed n b) (begins (loadBytes seed n b)) h′ .reads
 
 abbrev framesAt : Job → ℕ → ℕ
 framesAt j e = getD (j .entries) e noEntry .frames
@@ -122,8 +124,8 @@ pub loads-differ : (seed other n b : ℕ) → n ≤ 16 → 3 * b < n → loadByt
 loads-differ seed other n b h g e =
     let x = drawn (next seed) in
     let y = drawn (next other) in
-    let bytes : bytesOf (jobFor x 0) ≡ bytesOf (jobFor y 0) =
-    proposed-bytes _ _ (sym (first-record seed n b h g) ∙ ap (λ (l : List ℕ). stepAt l 9) e ∙ first-record other n b h g) in
+    let bytes : bytesOf 1 (jobFor x 0) ≡ bytesOf 1 (jobFor y 0) =
+    proposed-bytes _ _ (sym (first-record seed n b h g) ∙ ap (λ (l : List ℕ). stepAt 1 l 9) e ∙ first-record other n b h g) in
     let same : jobFor x 0 ≡ jobFor y 0 = sym (record-reads x 0 (drawn-below seed) (omega arith)) ∙ ap jobOf bytes
     ∙ record-reads y 0 (drawn-below other) (omega arith) in
     let low : lowerFrames x ≡ lowerFrames y = sym (lower x) ∙ ap (λ (j : Job). framesAt j 4) same ∙ lower y in

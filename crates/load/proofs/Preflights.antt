@@ -133,10 +133,10 @@ module _ (first : ℕ) (small : first < 2 ^ 32) (p : Plan) (fair : Fair p) (s : 
       → Standing first s (bookedAt (suc i)) (replyOf l journal (commandFor first t) .ledger) (journalBy l journal (commandFor first t))
   after-step i t a h (proposes j e k) l journal st =
       let z : suc (bookedAt i) ≡ bookedAt (suc i) = omega arith in
-      subst (λ (m : ℕ). Standing first s m (replyOf l journal (request (propose (bytesOf (jobFor first j)))) .ledger) (journalBy l journal (request
-      (propose (bytesOf (jobFor first j)))))) z
-      (subst (λ (m : ℕ). Standing first s (suc (bookedAt i)) (replyOf l journal (request (propose (bytesOf (jobFor first m)))) .ledger)
-      (journalBy l journal (request (propose (bytesOf (jobFor first m)))))) (sym e)
+      subst (λ (m : ℕ). Standing first s m (replyOf l journal (request (propose (bytesOf 1 (jobFor first j)))) .ledger) (journalBy l journal (request
+      (propose (bytesOf 1 (jobFor first j)))))) z
+      (subst (λ (m : ℕ). Standing first s (suc (bookedAt i)) (replyOf l journal (request (propose (bytesOf 1 (jobFor first m)))) .ledger)
+      (journalBy l journal (request (propose (bytesOf 1 (jobFor first m)))))) (sym e)
       (proposed-standing first s (bookedAt i) l journal st lawful small (omega arith)))
   after-step i t a h (asks v j c b k) l journal st =
       let z : bookedAt i ≡ bookedAt (suc i) = omega arith in
@@ -202,16 +202,17 @@ module _ (seed n b : ℕ) (vaults : n ≤ 16) (few : 3 * b < n) where
   load = loadBytes seed n b
 
   abbrev settings : Settings
-  settings = record { n = n; b = b; faulty = faultyOf (planOf seed n b) }
+  settings = record { n = n; b = b; faulty = faultyOf (planOf seed n b); version = 1 }
 
   standing : Standing (drawn (next seed)) settings 0 (begins load .ledger) (begins load .journal)
   unfolding opened newLedger loadBytes headerBytes
   standing = record {
-    settings = ap (λ (f : ℕ). record { n = n; b = b; faulty = f }) (faulty-word seed n b vaults few);
+    settings = ap (λ (f : ℕ). record { n = n; b = b; faulty = f; version = 1 }) (faulty-word seed n b vaults few);
+    version = refl;
     booked = refl;
     arrivals = omega arith;
     next = omega (arith, few);
-    size = length-replicate {A = ℕ} 12800 0;
+    size = length-replicate {A = ℕ} 13312 0;
     records = λ m h. absurd (omega arith);
   }
 

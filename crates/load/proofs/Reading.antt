@@ -9,12 +9,16 @@ use lib.ListN.{drop, getD, length, length-append, take}
 use lib.Seq.{drop-append-add, getD-append-add, take-append-seam}
 use borrow.Author.Tests.{le-leb, lt-leb, lt-ltb}
 use Rattle.codec.proofs.Jobs.{length-bytesOf}
-use Rattle.codec.specs.Codec.{bytesOf, leBytes}
+use Rattle.codec.specs.Codec.{bytesOf, leBytes, recordSize}
+use Rattle.federation.specs.declared.Settings.{Settings}
+use Rattle.ledger.proofs.Effects.{applied-settings}
+use Rattle.ledger.specs.State.{versionOf}
+use Rattle.ledger.specs.declared.Ledger.{Ledger}
 use Rattle.ledger.specs.Worlds.{commit, faultyVote, generations, preflight, propose, show}
 use Rattle.vaults.specs.declared.Column.the-variants.{Acknowledgements, Signatures}
 use Rattle.runfile.specs.History.{itemOf, itemsNext}
 use Rattle.runfile.specs.Run.{Run, commandOf, ended, turn}
-use Rattle.runfile.specs.Steps.{Command, bodySize, draw, kindAt, kindOf, nextAt, request, stepAt, unreadable, wordAt}
+use Rattle.runfile.specs.Steps.{Command, bodySize, draw, kindAt, kindOf, nextAt, replyOf, request, stepAt, unreadable, wordAt}
 use Rattle.load.proofs.Writes.{eight}
 use Rattle.load.specs.Commands.{AllWritten, Written, commandFor, commandIn, commandsOf}
 use Rattle.load.specs.Loads.{allBytes}
@@ -25,8 +29,8 @@ use Rattle.load.specs.declared.Step.the-variants.{Commit, Draw, FaultyAc
 
 -- what a step's bytes are read as, and where the next step stands
 record Read (input : List ℕ) (pos : ℕ) (command : Command) (size : ℕ) : Type 0 where
-  command-is : stepAt input pos ≡ command
-  next-is : nextAt input pos ≡ pos + size
+  command-is : stepAt 1 input pos ≡ command
+  next-is : nextAt 1 input pos ≡ pos + size
 
 module _ (pre rest : List ℕ) where
   -- byte i of what stands behind pre
@@ -39,9 +43,9 @@ module _ (pre rest : List ℕ) where
   second : (t : List ℕ) → getD (pre ++ t) (length pre + 1 + 1) 0 ≡ getD t 2 0
   second t = ap (λ (n : ℕ). getD (pre ++ t) n 0) (add-assoc (length pre) 1 1) ∙ byte t 2
 
-  kind-at : (t : List ℕ) → bodySize (kindOf (getD t 0 0)) < length t → kindAt (pre ++ t) (length pre) ≡ kindOf (getD t 0 0)
+  kind-at : (t : List ℕ) → bodySize 1 (kindOf (getD t 0 0)) < length t → kindAt 1 (pre ++ t) (length pre) ≡ kindOf (getD t 0 0)
   unfolding kindAt
-  kind-at t h = rw (kind-byte t) (simp (lt-ltb (length pre + bodySize (kindOf (getD t 0 0))) (length (pre ++ t)) (simp length-append (omega arith))))
+  kind-at t h = rw (kind-byte t) (simp (lt-ltb (length pre + bodySize 1 (kindOf (getD t 0 0))) (length (pre ++ t)) (simp length-append (omega arith))))
 
   read-preflight : (v j : ℕ) → Read (pre ++ (2 ∷ v ∷ j ∷ rest)) (length pre) (request (preflight v j)) 3
   unfolding kindOf
@@ -90,15 +94,16 @@ module _ (pre rest : List ℕ) where
         next-is = simp k (omega arith);
       }
 
-  -- a proposal's record is the hundred bytes behind its kind
-  read-propose : (bytes : List ℕ) → length bytes ≡ 100 → Read (pre ++ (1 ∷ (bytes ++ rest))) (length pre) (request (propose bytes)) 101
+  -- a proposal's record is the bytes behind its kind
+  read-propose : (bytes : List ℕ) → length bytes ≡ recordSize 1 → Read (pre ++ (1 ∷ (bytes ++ rest))) (length pre) (request (propose bytes))
+      (suc (recordSize 1))
   unfolding kindOf
   read-propose bytes n =
       let t : List ℕ = 1 ∷ (bytes ++ rest) in
       let k = kind-at t (simp length-append (omega (arith, n))) in
       let body : drop (length pre + 1) (pre ++ t) ≡ bytes ++ rest = drop-append-add pre t 1 in
       record {
-        command-is = simp k (ap (λ (x : List ℕ). request (propose (take 100 x))) body
+        command-is = simp k (ap (λ (x : List ℕ). request (propose (take (recordSize 1) x))) body
             ∙ ap (λ (m : ℕ). request (propose (take m (bytes ++ rest)))) (sym n) ∙ ap (λ (x : List ℕ). request (propose x)) (take-append-seam bytes rest));
         next-is = simp k (omega arith);
       }
@@ -106,9 +111,9 @@ module _ (pre rest : List ℕ) where
   read-step : (first : ℕ) (s : Step) → Written s → Read (pre ++ (stepBytes first s ++ rest)) (length pre) (commandFor first s) (length (stepBytes first s))
   unfolding leBytes
   read-step first (Propose j) w =
-      let n = length-bytesOf (jobFor first j) (eight first j) in
-      subst (Read (pre ++ (1 ∷ (bytesOf (jobFor first j) ++ rest))) (length pre) (request (propose (bytesOf (jobFor first j))))) (sym (ap suc n))
-      (read-propose (bytesOf (jobFor first j)) n)
+      let n = length-bytesOf 1 (jobFor first j) (eight first j) in
+      subst (Read (pre ++ (1 ∷ (bytesOf 1 (jobFor first j) ++ rest))) (length pre) (request (propose (bytesOf 1 (jobFor first j))))) (sym (ap suc n))
+      (read-propose (bytesOf 1 (jobFor first j)) n)
   read-step first (Preflight v j) w = read-preflight v j
   read-step first (Commit v j signers) w = read-commit v j signers w
   read-step first (FaultySign v j) w = read-sign v j
@@ -133,6 +138,13 @@ pub record Reads (first : ℕ) (steps : List Step) (input : List ℕ) (r : Run) 
   pub here : r .pos ≡ length before
   pub whole : input ≡ before ++ allBytes first steps
   pub written : AllWritten steps
+  pub version : versionOf (r .ledger) ≡ 1
+
+-- a command leaves the version
+reply-version : (l : Ledger) (journal : List ℕ) (c : Command) → versionOf (replyOf l journal c .ledger) ≡ versionOf l
+reply-version l journal (request q) = ap (λ (s : Settings). s .version) (applied-settings l _ _ _)
+reply-version l journal (draw u) = refl
+reply-version l journal unreadable = refl
 
 -- the next step is read as what it is, and then the others are before the run
 pub record Next (first : ℕ) (s : Step) (steps : List Step) (input : List ℕ) (r : Run) : Type 0 where
@@ -149,12 +161,13 @@ next-step first s steps input r h =
     let at : Read input (r .pos) (commandFor first s) (length (stepBytes first s)) = rw (h .whole, h .here) read in
     record {
       more = lt-leb (length input) (r .pos) (omega (arith, size, h .here, step-nonempty first s));
-      reads = at .command-is;
+      reads = ap (λ (v : ℕ). stepAt v input (r .pos)) (h .version) ∙ at .command-is;
       onward = record {
         before = h .before ++ stepBytes first s;
-        here = at .next-is ∙ rw (h .here, length-append);
+        here = ap (λ (v : ℕ). nextAt v input (r .pos)) (h .version) ∙ at .next-is ∙ rw (h .here, length-append);
         whole = h .whole ∙ sym (append-assoc (h .before) (stepBytes first s) rest);
         written = h .written .1;
+        version = reply-version (r .ledger) (r .journal) (commandOf input r) ∙ h .version;
       };
     }
 

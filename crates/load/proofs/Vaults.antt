@@ -65,9 +65,16 @@ row-clear s b v h g k outside =
     not-true (hasBit (row s b) v) (rw o at t)
 
 -- ---- "the faulty set is lawful"
-pub faulty-lawful : (p : Plan) → Fair p → Lawful (record { n = p .n; b = p .b; faulty = faultyOf p })
+pub faulty-lawful : (p : Plan) → Fair p → Lawful (record { n = p .n; b = p .b; faulty = faultyOf p; version = 1 })
 unfolding faultyOf
-faulty-lawful p h = record { vaults = h .vaults; few = h .few; below = faulty-below p h; bound = omega (arith, row-ones (p .start) (p .b)) }
+faulty-lawful p h =
+    record {
+      vaults = h .vaults;
+      few = h .few;
+      below = faulty-below p h;
+      bound = omega (arith, row-ones (p .start) (p .b));
+      version = (omega arith, omega arith);
+    }
 
 -- ---- the correct vault from x
 pub record CorrectAt (p : Plan) (v : ℕ) : Type 0 where

@@ -15,11 +15,11 @@ use Rattle.federation.specs.Federation.{Lawful, isLawful}
 use Rattle.generator.specs.Generator.{drawn, next}
 use Rattle.ledger.specs.State.{newLedger}
 use Rattle.runfile.specs.History.{steps}
-use Rattle.runfile.specs.Run.{begins, isHeader, opened, opens}
+use Rattle.runfile.specs.Run.{begins, isHeader, opened, opens, opensUpTo}
 use Rattle.runfile.specs.Steps.{wordAt}
 use Rattle.load.proofs.Reading.{Reads, all-commands, step-nonempty}
 use Rattle.load.proofs.Vaults.{faulty-lawful, plan-fair}
-use Rattle.load.proofs.Writes.{eight}
+use Rattle.load.proofs.Writes.{eight, size-one}
 use Rattle.load.specs.Commands.{AllWritten, Written, commandFor, commandsOf}
 use Rattle.load.specs.Loads.{allBytes, loadBytes, stepsFrom, stepsOf}
 use Rattle.load.specs.Plans.{Fair, correctOf, faultyOf, planOf, planWith}
@@ -56,7 +56,7 @@ written-steps p h (suc count) i state = (written-step p h i (drawn (next state))
 -- ---- no step has more than 101 bytes
 step-size : (first : ℕ) (s : Step) → length (stepBytes first s) ≤ 101
 unfolding leBytes
-step-size first (Propose j) = omega (arith, length-bytesOf (jobFor first j) (eight first j))
+step-size first (Propose j) = omega (arith, length-bytesOf 1 (jobFor first j) (eight first j), size-one)
 step-size first (Preflight v j) = omega arith
 step-size first (Commit v j signers) = omega arith
 step-size first (FaultySign v j) = omega arith
@@ -94,12 +94,13 @@ module _ (seed n b : ℕ) (vaults : n ≤ 16) (few : 3 * b < n) where
   two-hundred = steps-count plan 200 0 (next (next (next seed)))
 
   pub reads-load : Reads (plan .first) (stepsOf seed n b) load (begins load)
-  unfolding stepsOf loadBytes headerBytes leBytes
+  unfolding stepsOf loadBytes headerBytes leBytes opened newLedger
   reads-load = record {
     before = headerBytes n b (faultyOf plan);
     here = refl;
     whole = refl;
     written = written-steps plan fair 200 0 (next (next (next seed)));
+    version = refl;
   }
 
   short : length load ≤ 20209
@@ -111,7 +112,7 @@ module _ (seed n b : ℕ) (vaults : n ≤ 16) (few : 3 * b < n) where
   long = omega (arith, steps-least (plan .first) (stepsOf seed n b), two-hundred)
 
   -- "the faulty set is lawful"
-  pub lawful-load : Lawful (record { n = n; b = b; faulty = faultyOf plan })
+  pub lawful-load : Lawful (record { n = n; b = b; faulty = faultyOf plan; version = 1 })
   unfolding planOf planWith
   lawful-load = faulty-lawful plan fair
 
@@ -125,15 +126,16 @@ module _ (seed n b : ℕ) (vaults : n ≤ 16) (few : 3 * b < n) where
 
   lawful-word : isLawful (opened load .settings) ≡ true
   unfolding opened newLedger loadBytes headerBytes
-  lawful-word = ap (λ (f : ℕ). isLawful (record { n = n; b = b; faulty = f })) faulty-word ∙ reflect-lawful (record {
+  lawful-word = ap (λ (f : ℕ). isLawful (record { n = n; b = b; faulty = f; version = 1 })) faulty-word ∙ reflect-lawful (record {
     n = n;
     b = b;
     faulty = faultyOf plan;
+    version = 1;
   }) .complete lawful-load
 
   -- check 1 lets the load through
   pub opens-load : opens load ≡ true
-  unfolding opens
+  unfolding opensUpTo
   opens-load = simp (le-leb (length load) 65536 (omega (arith, short)), headed, lawful-word)
 
   -- a run reads the load as its steps

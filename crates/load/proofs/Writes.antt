@@ -11,7 +11,7 @@ use lib.Seq.{drop-drop, sets, sets-eq}
 use borrow.Author.Tests.{le-leb}
 use Rattle.codec.proofs.Jobs.{length-bytesOf}
 use Rattle.codec.proofs.Numbers.{sets-append}
-use Rattle.codec.specs.Codec.{bytesOf, fitsRecord, written}
+use Rattle.codec.specs.Codec.{bytesOf, fitsRecord, recordSize, saysTrimmed, written}
 use Rattle.generator.specs.Generator.{drawn, next}
 use Rattle.record.specs.declared.Job.{Job}
 use Rattle.text.specs.Text.{Put}
@@ -25,6 +25,10 @@ if-entries : (b : Bool) (x y : Job) → length (cond b x y .entries) ≡ cond b 
 if-entries true x y = refl
 if-entries false x y = refl
 
+if-trimmed : (b : Bool) (x y : Job) → cond b x y .trimmed ≡ cond b (x .trimmed) (y .trimmed)
+if-trimmed true x y = refl
+if-trimmed false x y = refl
+
 if-same : (b : Bool) (n : ℕ) → cond b n n ≡ n
 if-same true n = refl
 if-same false n = refl
@@ -34,15 +38,25 @@ pub eight : (first j : ℕ) → length (jobFor first j .entries) ≡ 8
 unfolding jobFor mainJob rivalJob sideJob
 eight first j = simp (if-entries, if-same)
 
+-- and no trimmed frames
+pub untrimmed : (first j : ℕ) → jobFor first j .trimmed ≡ 0
+unfolding jobFor mainJob rivalJob sideJob
+untrimmed first j = simp (if-trimmed, if-same)
+
+-- "a version 1 run file"
+pub size-one : recordSize 1 ≡ 100
+unfolding recordSize saysTrimmed
+size-one = refl
+
 -- a record put into a part of the buffer
 pub recorded : (o ys : List ℕ) (at : ℕ) (j k : Job) → length (j .entries) ≡ 8 → at + 100 ≤ length o
-    → k ≡ j → ys ≡ written k (take (at + 100 - at) (drop at o))
-    → Put o at (bytesOf j) (take at o ++ (ys ++ drop (at + 100 - at) (drop at o))) (at + 100)
-unfolding written fitsRecord
+    → k ≡ j → ys ≡ written 1 k (take (at + 100 - at) (drop at o))
+    → Put o at (bytesOf 1 j) (take at o ++ (ys ++ drop (at + 100 - at) (drop at o))) (at + 100)
+unfolding written fitsRecord recordSize saysTrimmed
 recorded o ys at j k n h q e =
-    let size = length-bytesOf j n in
+    let size = length-bytesOf 1 j n in
     let part : length (take 100 (drop at o)) ≡ 100 = simp (length-take, length-drop) (omega arith) in
-    let whole : ys ≡ bytesOf j = e ∙ simp (
+    let whole : ys ≡ bytesOf 1 j = e ∙ simp (
       q,
       add-sub-cancel-left,
       le-leb 100 (length (take 100 (drop at o))) (omega arith),
@@ -51,7 +65,7 @@ recorded o ys at j k n h q e =
     ) in
     record {
       moved = omega (arith, size);
-      wrote = rw (whole, add-sub-cancel-left, drop-drop) (sym (sets-eq (bytesOf j) o at (omega arith)
+      wrote = rw (whole, add-sub-cancel-left, drop-drop) (sym (sets-eq (bytesOf 1 j) o at (omega arith)
           ∙ rw (size, append-assoc)));
     }
 

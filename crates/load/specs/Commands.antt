@@ -11,7 +11,7 @@ use Rattle.load.specs.declared.Step.{Step}
 use Rattle.load.specs.declared.Step.the-variants.{Commit, Draw, FaultyAcknowledge, FaultySign, Generations, Preflight, Propose, Show}
 
 abbrev pub commandFor : ℕ → Step → Command
-commandFor first (Propose j) = request (propose (bytesOf (jobFor first j)))
+commandFor first (Propose j) = request (propose (bytesOf 1 (jobFor first j)))
 commandFor first (Preflight v j) = request (preflight v j)
 commandFor first (Commit v j signers) = request (commit v j signers)
 commandFor first (FaultySign v j) = request (faultyVote Signatures v j)

@@ -37,7 +37,7 @@ loadBytes seed n b = headerBytes n b (faultyOf (planOf seed n b)) ++ allBytes (p
 
 -- ten bytes, "a 64-bit seed, n and b"; which faulty vaults there are is drawn, and none is lawful where some are
 unfoldable pub isRequest : List ℕ → Bool
-isRequest input = eqb (length input) 10 && isLawful (record { n = getD input 8 0; b = getD input 9 0; faulty = 0 })
+isRequest input = eqb (length input) 10 && isLawful (record { n = getD input 8 0; b = getD input 9 0; faulty = 0; version = 1 })
 
 -- "Settings that a run file may not have, or an input of another length, print `0 1 0` and no load."
 unfoldable pub answerOf : List ℕ → List ℕ

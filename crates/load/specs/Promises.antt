@@ -25,7 +25,7 @@ firstDraw seed = drawn (next seed)
 
 pub record Promises (seed n b : ℕ) : Type 0 where
   -- "writes a version 1 run file": its faulty set is lawful, and check 1 lets it through
-  pub lawful : Lawful (record { n = n; b = b; faulty = faultyOf (planOf seed n b) })
+  pub lawful : Lawful (record { n = n; b = b; faulty = faultyOf (planOf seed n b); version = 1 })
   pub opened : opens (loadBytes seed n b) ≡ true
   -- "of 200 steps": a run reads it as exactly these
   pub reads : commandsOf (steps (loadBytes seed n b)) ≡ map (commandFor (firstDraw seed)) (stepsOf seed n b)
@@ -33,11 +33,11 @@ pub record Promises (seed n b : ℕ) : Type 0 where
   -- "no step gets refusal 2"
   pub readable : In unreadable (commandsOf (steps (loadBytes seed n b))) → ⊥
   -- "Every record written passes checks 6 to 9", and no other job's record is written
-  pub passes : (j : ℕ) → j < 40 → examined (bytesOf (jobFor (firstDraw seed) j)) ≡ Pass
+  pub passes : (j : ℕ) → j < 40 → examined 1 (bytesOf 1 (jobFor (firstDraw seed) j)) ≡ Pass
   pub forty : (j : ℕ) → In (Propose j) (stepsOf seed n b) → j < 40
   -- "At least forty different records are proposed"
   pub proposed : (j : ℕ) → j < 40 → In (Propose j) (stepsOf seed n b)
-  pub different : (i j : ℕ) → i < 40 → j < 40 → bytesOf (jobFor (firstDraw seed) i) ≡ bytesOf (jobFor (firstDraw seed) j) → i ≡ j
+  pub different : (i j : ℕ) → i < 40 → j < 40 → bytesOf 1 (jobFor (firstDraw seed) i) ≡ bytesOf 1 (jobFor (firstDraw seed) j) → i ≡ j
   -- "at least forty steps are preflights of booked jobs at sound vaults"
   pub preflights : 40 ≤ length (keepIf (preflightsWell (loadBytes seed n b)) (runsNext (length (loadBytes seed n b)) (loadBytes seed n b) (begins
       (loadBytes seed n b))))

@@ -34,7 +34,7 @@ stepFor p i d = cond (ltb (i % 50) 29) (asking p (i / 50 * 10) (i % 50) d) (deli
 
 -- a kind byte and its body
 abbrev pub stepBytes : ℕ → Step → List ℕ
-stepBytes first (Propose j) = 1 ∷ bytesOf (jobFor first j)
+stepBytes first (Propose j) = 1 ∷ bytesOf 1 (jobFor first j)
 stepBytes first (Preflight v j) = 2 ∷ v ∷ j ∷ []
 stepBytes first (Commit v j signers) = 3 ∷ v ∷ j ∷ leBytes 2 signers
 stepBytes first (FaultySign v j) = 4 ∷ v ∷ j ∷ []

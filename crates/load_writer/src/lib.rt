@@ -52,6 +52,7 @@ fn is_request(input: &[u8]) -> bool
             n: input[8],
             b: input[9],
             faulty: 0,
+            version: 1,
         };
         return settings.is_lawful();
     }

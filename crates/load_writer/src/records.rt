@@ -56,6 +56,7 @@ fn accession(drive: u8, outputs: u8, first: Entry, second: Entry) -> Job
         inputs: 0,
         outputs,
         entries: [NONE, NONE, NONE, NONE, first, second, NONE, NONE],
+        trimmed: 0,
     }
 }
 
@@ -69,6 +70,7 @@ fn migration(drive: u8, count: u8, from: Entry, second: Entry, to: Entry, other:
         inputs: count,
         outputs: count,
         entries: [from, second, NONE, NONE, to, other, NONE, NONE],
+        trimmed: 0,
     }
 }
 

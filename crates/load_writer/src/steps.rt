@@ -120,16 +120,16 @@ fn put_byte(out: &mut [u8], at: usize, a: u8) -> usize
 
 fn put_record(out: &mut [u8], at: usize, first: u32, job: u8) -> usize
     requires { ⌜ at + 100 ≤ length (now out) ⌝ }
-    ensures { λ r. ⌜ Put (now (out .entry)) at (bytesOf (jobFor first job)) (now (out .exit)) r × (r ≡ at + 100) ⌝ }
+    ensures { λ r. ⌜ Put (now (out .entry)) at (bytesOf 1 (jobFor first job)) (now (out .exit)) r × (r ≡ at + 100) ⌝ }
 {
     let end = at + 100;
-    codec::write(records::job(first, job), &mut out[at..end]);
+    codec::write(1, records::job(first, job), &mut out[at..end]);
     end
 }
 
 fn put_proposal(out: &mut [u8], at: usize, first: u32, job: u8) -> usize
     requires { ⌜ at + 101 ≤ length (now out) ⌝ }
-    ensures { λ r. ⌜ Put (now (out .entry)) at (1 ∷ bytesOf (jobFor first job)) (now (out .exit)) r × (r ≡ at + 101) ⌝ }
+    ensures { λ r. ⌜ Put (now (out .entry)) at (1 ∷ bytesOf 1 (jobFor first job)) (now (out .exit)) r × (r ≡ at + 101) ⌝ }
 {
     let next = put_byte(out, at, 1);
     put_record(out, next, first, job)

@@ -15,7 +15,8 @@ pub(crate) fn booked_gate(ledger: Ledger, journal: &[u8], job: u8) -> Verdict
     ensures { λ r. ⌜ r ≡ bookedGate ledger (now (journal .entry)) job ⌝ }
 {
     if books::is_sane(ledger) {
-        if journal::is_booked(journal, ledger.booked, job as usize) {
+        let settings = ledger.settings;
+        if journal::is_booked(settings.version, journal, ledger.booked, job as usize) {
             return Verdict::Pass;
         }
         return Verdict::Fail(Refusal::NotBooked);
@@ -35,7 +36,7 @@ pub(crate) fn vault_gate(
 {
     if books::is_sane(ledger) {
         let settings = ledger.settings;
-        let booked = journal::is_booked(journal, ledger.booked, job as usize);
+        let booked = journal::is_booked(settings.version, journal, ledger.booked, job as usize);
         return decisions::gate(settings, vault, faulty, booked);
     }
     Verdict::Fail(Refusal::Settings)
@@ -63,12 +64,12 @@ pub(crate) fn turn_back(ledger: Ledger, why: Refusal) -> Reply
 }
 
 // A new record's bytes are put after the booked ones; no other change touches the journal.
-pub(crate) fn write(change: Change, journal: &mut [u8], booked: usize, bytes: &[u8])
-    requires { ⌜ Writable change booked (now journal) (now bytes) ⌝ }
-    ensures { λ _. ⌜ now (journal .exit) ≡ journalWith change booked (now (journal .entry)) (now (bytes .entry)) ⌝ }
+pub(crate) fn write(change: Change, version: u16, journal: &mut [u8], booked: usize, bytes: &[u8])
+    requires { ⌜ Writable change booked version (now journal) (now bytes) ⌝ }
+    ensures { λ _. ⌜ now (journal .exit) ≡ journalWith change booked version (now (journal .entry)) (now (bytes .entry)) ⌝ }
 {
     if books::is_book(change) {
-        journal::put_at(journal, booked, bytes);
+        journal::put_at(version, journal, booked, bytes);
         return;
     }
 }

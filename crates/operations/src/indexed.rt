@@ -11,38 +11,54 @@ use ledger::Decision;
 use outcome::Verdict;
 use vaults::Vault;
 
-pub(crate) fn propose(journal: &[u8], booked: usize, bytes: &[u8]) -> Decision
+pub(crate) fn propose(version: u16, journal: &[u8], booked: usize, bytes: &[u8]) -> Decision
     requires { ⌜ booked ≤ 128 ⌝ }
-    ensures { λ r. ⌜ r ≡ proposal (now (journal .entry)) booked (now (bytes .entry)) ⌝ }
+    ensures { λ r. ⌜ r ≡ proposal version (now (journal .entry)) booked (now (bytes .entry)) ⌝ }
 {
     let mut numbers = [0u16; index::NUMBERS];
     let mut sets = [0u64; index::SETS];
     let mut records = [0u16; index::RECORDS];
-    let inside = journal::inside(journal, booked);
-    index::build(&mut numbers, &mut sets, &mut records, journal, inside);
-    decisions::propose(&records, journal, booked, bytes)
+    let inside = journal::inside(version, journal, booked);
+    index::build(
+        &mut numbers,
+        &mut sets,
+        &mut records,
+        version,
+        journal,
+        inside,
+    );
+    decisions::propose(&records, version, journal, booked, bytes)
 }
 
 pub(crate) fn preflight(
     state: Vault,
+    version: u16,
     journal: &[u8],
     booked: usize,
     signers: u16,
     vault: u8,
     job: usize,
 ) -> Decision
-    requires { ⌜ (booked ≤ 128) × Booked (now journal) booked job ⌝ }
-    ensures { λ r. ⌜ r ≡ preflighting state (now (journal .entry)) booked signers vault job ⌝ }
+    requires { ⌜ (booked ≤ 128) × Booked version (now journal) booked job ⌝ }
+    ensures { λ r. ⌜ r ≡ preflighting state version (now (journal .entry)) booked signers vault job ⌝ }
 {
     let mut numbers = [0u16; index::NUMBERS];
     let mut sets = [0u64; index::SETS];
     let mut records = [0u16; index::RECORDS];
-    index::build(&mut numbers, &mut sets, &mut records, journal, booked);
+    index::build(
+        &mut numbers,
+        &mut sets,
+        &mut records,
+        version,
+        journal,
+        booked,
+    );
     decisions::preflight(
         Verdict::Pass,
         state,
         &numbers,
         &sets,
+        version,
         journal,
         booked,
         signers,
@@ -53,24 +69,33 @@ pub(crate) fn preflight(
 
 pub(crate) fn release(
     state: Vault,
+    version: u16,
     journal: &[u8],
     booked: usize,
     signers: u16,
     job: usize,
     rival: usize,
 ) -> Decision
-    requires { ⌜ (booked ≤ 128) × Booked (now journal) booked job ⌝ }
-    ensures { λ r. ⌜ r ≡ releasing state (now (journal .entry)) booked signers job rival ⌝ }
+    requires { ⌜ (booked ≤ 128) × Booked version (now journal) booked job ⌝ }
+    ensures { λ r. ⌜ r ≡ releasing state version (now (journal .entry)) booked signers job rival ⌝ }
 {
     let mut numbers = [0u16; index::NUMBERS];
     let mut sets = [0u64; index::SETS];
     let mut records = [0u16; index::RECORDS];
-    index::build(&mut numbers, &mut sets, &mut records, journal, booked);
+    index::build(
+        &mut numbers,
+        &mut sets,
+        &mut records,
+        version,
+        journal,
+        booked,
+    );
     decisions::release(
         Verdict::Pass,
         state,
         &numbers,
         &sets,
+        version,
         journal,
         booked,
         signers,
@@ -88,14 +113,22 @@ pub(crate) fn generations(
     booked: usize,
     job: usize,
 ) -> Decision
-    requires { ⌜ (settings .n ≤ 16) × (arrivals ≤ 128) × (length (now order) ≡ 128) × (booked ≤ 128) × Booked (now journal) booked job ⌝ }
-    ensures { λ r. ⌜ r ≡ ageing (isHeld settings vaults job) (ageIn (jobAt (now (journal .entry)) booked) (now (order .entry)) arrivals job) ⌝ }
+    requires { ⌜ (settings .n ≤ 16) × (arrivals ≤ 128) × (length (now order) ≡ 128) × (booked ≤ 128) × Booked (settings .version) (now journal) booked job ⌝ }
+    ensures { λ r. ⌜ r ≡ ageing (isHeld settings vaults job)
+        (ageIn (jobAt (settings .version) (now (journal .entry)) booked) (now (order .entry)) arrivals job) ⌝ }
 {
     let mut numbers = [0u16; index::NUMBERS];
     let mut sets = [0u64; index::SETS];
     let mut records = [0u16; index::RECORDS];
     let mut memo = [0u8; journal::CAPACITY];
-    index::build(&mut numbers, &mut sets, &mut records, journal, booked);
+    index::build(
+        &mut numbers,
+        &mut sets,
+        &mut records,
+        settings.version,
+        journal,
+        booked,
+    );
     decisions::generations(
         settings,
         vaults,

@@ -6,6 +6,7 @@ mod indexed;
 
 ghost use mathlib.Core.Path.{_≡_};
 ghost use Rattle.journal.specs.Journal.{recordAt};
+ghost use Rattle.ledger.specs.State.{versionOf};
 ghost use Rattle.ledger.specs.Steps.{
   commitOf,
   faultyVoteOf,
@@ -26,9 +27,10 @@ use vaults::Column;
 
 // The job's record inside the journal, or the empty part where check 4 fails.
 pub fn lookup(ledger: Ledger, journal: &[u8], job: u8) -> &[u8]
-    ensures { λ r. ⌜ now r ≡ recordAt (now (journal .entry)) (ledger .booked) job ⌝ }
+    ensures { λ r. ⌜ now r ≡ recordAt (versionOf ledger) (now (journal .entry)) (ledger .booked) job ⌝ }
 {
-    journal::lookup(journal, ledger.booked, job as usize)
+    let settings = ledger.settings;
+    journal::lookup(settings.version, journal, ledger.booked, job as usize)
 }
 
 // Kind 1. The value is the record's number. A new record is written after the booked ones; else the journal stays as it was.
@@ -37,10 +39,11 @@ pub fn propose(ledger: Ledger, journal: &mut [u8], bytes: &[u8]) -> Reply
     ensures { λ _. ⌜ now (journal .exit) ≡ journalAfter ledger (now (journal .entry)) (now (bytes .entry)) ⌝ }
 {
     if books::is_sane(ledger) {
+        let version = ledger.settings.version;
         let booked = ledger.booked;
-        let decision = indexed::propose(&journal[..], booked, bytes);
+        let decision = indexed::propose(version, &journal[..], booked, bytes);
         let change = decision.change;
-        gates::write(change, journal, booked, bytes);
+        gates::write(change, version, journal, booked, bytes);
         return gates::carry(ledger, decision, 0, 0);
     }
     gates::turn_back(ledger, Refusal::Settings)
@@ -57,8 +60,10 @@ pub fn preflight(ledger: Ledger, journal: &[u8], vault: u8, job: u8) -> Reply
             let j = job as usize;
             let state = ledger.vaults[v];
             let votes = ledger.votes[j];
+            let settings = ledger.settings;
             let decision = indexed::preflight(
                 state,
+                settings.version,
                 journal,
                 ledger.booked,
                 votes.signatures,
@@ -178,8 +183,10 @@ pub fn release(ledger: Ledger, journal: &[u8], vault: u8, job: u8, rival: u8) ->
             let j = job as usize;
             let state = ledger.vaults[v];
             let votes = ledger.votes[j];
+            let settings = ledger.settings;
             let decision = indexed::release(
                 state,
+                settings.version,
                 journal,
                 ledger.booked,
                 votes.signatures,

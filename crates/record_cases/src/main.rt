@@ -47,6 +47,7 @@ fn accession() -> Job {
         inputs: 0,
         outputs: 1,
         entries: [z, z, z, z, tape(b"VAA001L5", 1000), z, z, z],
+        trimmed: 0,
     }
 }
 
@@ -67,6 +68,7 @@ fn migration() -> Job {
             z,
             z,
         ],
+        trimmed: 0,
     }
 }
 
@@ -87,6 +89,7 @@ fn full() -> Job {
             tape(b"RZB004L6", 500),
             tape(b"000000L6", 12),
         ],
+        trimmed: 0,
     }
 }
 
@@ -103,7 +106,7 @@ fn report(verdict: Verdict) {
 }
 
 fn examined(bytes: &[u8; 100]) -> Verdict {
-    checks::examine(bytes)
+    checks::examine(1, bytes)
 }
 
 fn nudge(bytes: &mut [u8; 100], at: usize, step: u8) {
@@ -115,7 +118,7 @@ fn nudge(bytes: &mut [u8; 100], at: usize, step: u8) {
 // The record, with one byte moved by a step.
 fn off_by(job: Job, name: &[u8], at: usize, step: u8) {
     let mut bytes = [0u8; 100];
-    codec::write(job, &mut bytes);
+    codec::write(1, job, &mut bytes);
     nudge(&mut bytes, at, step);
     io::write_all(STDOUT_FILENO, name);
     io::write_all(STDOUT_FILENO, b" ");
@@ -144,6 +147,7 @@ fn move_one(drive: u8, from: Entry, to: Entry) -> Job {
         inputs: 1,
         outputs: 1,
         entries: [from, z, z, z, to, z, z, z],
+        trimmed: 0,
     }
 }
 
@@ -155,6 +159,7 @@ fn accession_of(drive: u8, to: Entry) -> Job {
         inputs: 0,
         outputs: 1,
         entries: [z, z, z, z, to, z, z, z],
+        trimmed: 0,
     }
 }
 
@@ -176,6 +181,7 @@ fn wrapped() -> Job {
             z,
             z,
         ],
+        trimmed: 0,
     }
 }
 
@@ -188,6 +194,7 @@ fn counted(inputs: u8, outputs: u8) -> Job {
         inputs,
         outputs,
         entries,
+        trimmed: 0,
     }
 }
 
@@ -223,7 +230,7 @@ fn drives() {
 
 fn line(job: Job, name: &[u8], drive: u8, label: &[u8; 8]) {
     let mut bytes = [0u8; 100];
-    codec::write(job, &mut bytes);
+    codec::write(1, job, &mut bytes);
     io::write_all(STDOUT_FILENO, name);
     io::write_all(STDOUT_FILENO, b" ");
     io::print_decimal(STDOUT_FILENO, drive as u64);
@@ -278,6 +285,7 @@ fn accession_of_two(drive: u8, one: Entry, other: Entry) -> Job {
         inputs: 0,
         outputs: 2,
         entries: [z, z, z, z, one, other, z, z],
+        trimmed: 0,
     }
 }
 
@@ -310,17 +318,59 @@ fn first(bytes: &[u8], n: usize, name: &[u8]) {
     io::write_all(STDOUT_FILENO, name);
     io::write_all(STDOUT_FILENO, b" 100 0 ");
     if n <= bytes.len() {
-        report(checks::examine(&bytes[0..n]));
+        report(checks::examine(1, &bytes[0..n]));
     }
 }
 
 fn lengths() {
     let mut bytes = [0u8; 101];
-    codec::write(migration(), &mut bytes);
+    codec::write(1, migration(), &mut bytes);
     let all: &[u8] = &bytes;
     first(all, 0, b"empty");
     first(all, 99, b"short");
     first(all, 101, b"long");
+}
+
+// A version 2 record: so many frames go in, come out and are trimmed (M-102).
+fn trimmed(kind: u8, from: u32, to: u32, cut: u32) -> Job {
+    let z = none();
+    let input = if kind == 1 {
+        tape(b"VAA001L5", from)
+    } else {
+        z
+    };
+    Job {
+        kind,
+        drive: 6,
+        inputs: kind % 2,
+        outputs: 1,
+        entries: [input, z, z, z, tape(b"VAB001L6", to), z, z, z],
+        trimmed: cut,
+    }
+}
+
+// Its line: the frames, and the answer for its first n bytes.
+fn cut_line(name: &[u8], job: Job, n: usize) {
+    let mut bytes = [0u8; 104];
+    codec::write(2, job, &mut bytes);
+    io::write_all(STDOUT_FILENO, name);
+    io::write_all(STDOUT_FILENO, b" 2 ");
+    io::print_decimal(STDOUT_FILENO, n as u64);
+    io::write_all(STDOUT_FILENO, b" ");
+    if n <= 104 {
+        report(checks::examine(2, &bytes[0..n]));
+    }
+}
+
+fn version_2() {
+    cut_line(b"10 of 1000", trimmed(1, 1000, 990, 10), 104);
+    cut_line(b"9 of 1000", trimmed(1, 1000, 990, 9), 104);
+    cut_line(b"none of 1000", trimmed(1, 1000, 1000, 0), 104);
+    cut_line(b"11 too many", trimmed(1, 990, 1000, 10), 104);
+    cut_line(b"2 ^ 32 apart", trimmed(1, 5, 5, 4294967295), 104);
+    cut_line(b"accession", trimmed(0, 0, 1000, 0), 104);
+    cut_line(b"accession less 1", trimmed(0, 0, 1000, 1), 104);
+    cut_line(b"in 100 bytes", trimmed(1, 1000, 1000, 0), 100);
 }
 
 fn main() {
@@ -332,4 +382,5 @@ fn main() {
     table();
     type_m();
     lengths();
+    version_2();
 }

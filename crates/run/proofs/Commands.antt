@@ -21,7 +21,7 @@ use Rattle.ledger.specs.Decisions.{ageing, answering, committing, gated, isBook
 use Rattle.ledger.specs.Decisions.{statusOf, voting}
 use Rattle.ledger.specs.Given.{Placed}
 use Rattle.ledger.specs.Meaning.{Proposed, Sane, failed, full, insane, known, new}
-use Rattle.ledger.specs.State.{applied, signersOf, vaultAt, votesAt, votesIn}
+use Rattle.ledger.specs.State.{applied, signersOf, vaultAt, versionOf, votesAt, votesIn}
 use Rattle.ledger.specs.Steps.{bookedGate, commitDecision, faultyVoteDecision, gateOf, generationsDecision, journalAfter}
 use Rattle.ledger.specs.Steps.{journalWith, preflightDecision, proposeDecision, releaseDecision, saneGate, showDecision, snapshotDecision, vaultGate}
 use Rattle.ledger.specs.Worlds.{decisionOf}
@@ -122,17 +122,18 @@ wide-kind Release w = cc
 wide-kind Unknown w = cc
 
 module _ (l : Ledger) (s : Sane l) (journal : List ℕ) where
-  vault-gate : (v job : ℕ) (faulty : Bool) → gateOf (l .settings) v faulty (isBooked journal (l .booked) job) ≡ vaultGate l journal v job faulty
+  vault-gate : (v job : ℕ) (faulty : Bool) → gateOf (l .settings) v faulty (isBooked (versionOf l) journal (l .booked) job) ≡ vaultGate l journal v job faulty
   unfolding vaultGate
   vault-gate v job faulty = simp (reflect-sane l .complete s)
 
-  pub booked-gate : (job : ℕ) → bookedOr (isBooked journal (l .booked) job) ≡ bookedGate l journal job
+  pub booked-gate : (job : ℕ) → bookedOr (isBooked (versionOf l) journal (l .booked) job) ≡ bookedGate l journal job
   unfolding bookedGate bookedOr
   booked-gate job = simp (reflect-sane l .complete s)
 
   -- behind an open gate the vault and the job modulo the arrays' lengths are themselves
   at-vault : (v job : ℕ) (faulty : Bool) (P : ℕ → ℕ → Decision)
-      → gated (gateOf (l .settings) v faulty (isBooked journal (l .booked) job)) (P (v % 16) (job % 128)) ≡ gated (vaultGate l journal v job faulty) (P v job)
+      → gated (gateOf (l .settings) v faulty (isBooked (versionOf l) journal (l .booked) job)) (P (v % 16) (job % 128)) ≡ gated
+      (vaultGate l journal v job faulty) (P v job)
   at-vault v job faulty P =
       ap (λ (g : Verdict). gated g (P (v % 16) (job % 128))) (vault-gate v job faulty)
       ∙ same-behind (vaultGate l journal v job faulty) _ _ placed
@@ -145,7 +146,7 @@ module _ (l : Ledger) (s : Sane l) (journal : List ℕ) where
           rw (a, b)
 
   at-job : (job : ℕ) (P : ℕ → Decision)
-      → gated (bookedOr (isBooked journal (l .booked) job)) (P (job % 128)) ≡ gated (bookedGate l journal job) (P job)
+      → gated (bookedOr (isBooked (versionOf l) journal (l .booked) job)) (P (job % 128)) ≡ gated (bookedGate l journal job) (P job)
   at-job job P = ap (λ (g : Verdict). gated g (P (job % 128))) (booked-gate job) ∙ same-behind (bookedGate l journal job) _ _ placed
     where
       placed : bookedGate l journal job ≡ Pass → P (job % 128) ≡ P job
@@ -157,13 +158,13 @@ module _ (l : Ledger) (s : Sane l) (journal : List ℕ) where
   -- ---- a kind whose body starts at `at`
   module _ (input : List ℕ) (at : ℕ) where
     abbrev command : Kind → Command
-    command k = commandIn k input at
+    command k = commandIn (versionOf l) k input at
 
     abbrev pub decision : Kind → Decision
     decision k = commandDecision l journal (command k)
 
     abbrev bytes : List ℕ
-    bytes = take recordSize (drop at input)
+    bytes = take (recordSize (versionOf l)) (drop at input)
 
     -- the first two bytes of the body
     abbrev first : ℕ
@@ -176,7 +177,7 @@ module _ (l : Ledger) (s : Sane l) (journal : List ℕ) where
     unfolding proposeDecision preflightDecision commitDecision faultyVoteDecision showDecision snapshotDecision saneGate votesIn releaseDecision
     decided-is Propose n = simp (reflect-sane l .complete s)
     decided-is Preflight n =
-        at-vault first second false (λ v job. preflighting (vaultAt l v) journal (l .booked) (signersOf l job) first second)
+        at-vault first second false (λ v job. preflighting (vaultAt l v) (versionOf l) journal (l .booked) (signersOf l job) first second)
     decided-is Commit n =
         at-vault first second false
         (λ v job. committing (l .settings) (vaultAt l v) (votesAt l job) first second (wordAt input (at + 2)))
@@ -189,7 +190,7 @@ module _ (l : Ledger) (s : Sane l) (journal : List ℕ) where
         let a : l .next % 16 ≡ l .next = omega (arith, s .next, s .lawful .vaults) in
         simp (reflect-sane l .complete s, a)
     decided-is Release n =
-        at-vault first second false (λ v job. releasing (vaultAt l v) journal (l .booked) (signersOf l job) second (getD input (at + 2) 0))
+        at-vault first second false (λ v job. releasing (vaultAt l v) (versionOf l) journal (l .booked) (signersOf l job) second (getD input (at + 2) 0))
     decided-is Unknown n = refl
 
     -- ---- generations
@@ -203,14 +204,14 @@ module _ (l : Ledger) (s : Sane l) (journal : List ℕ) where
 
     -- ---- only a proposal writes the journal
     abbrev LeftBy : Kind → Type 0
-    LeftBy k = journalBy l journal (command k) ≡ journalWith (decision k .change) (l .booked) journal bytes
+    LeftBy k = journalBy l journal (command k) ≡ journalWith (decision k .change) (l .booked) (versionOf l) journal bytes
 
     proposal-left : LeftBy Propose
     unfolding journalAfter
     proposal-left = refl
 
-    untouched : (d : Decision) → Bookless d → journal ≡ journalWith (d .change) (l .booked) journal bytes
-    untouched d b = unwritten (d .change) false (l .booked) journal bytes (sym (b .none)) refl
+    untouched : (d : Decision) → Bookless d → journal ≡ journalWith (d .change) (l .booked) (versionOf l) journal bytes
+    untouched d b = unwritten (d .change) false (l .booked) (versionOf l) journal bytes (sym (b .none)) refl
 
     bookless-left : (k : Kind) → Bookless (decision k) → LeftBy k
     bookless-left Propose b = proposal-left

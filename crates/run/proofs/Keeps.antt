@@ -14,7 +14,8 @@ use borrow.Author.Tests.{eqb-false, eqb-true, leb-false}
 use Rattle.base.proofs.Reflect.{by-cases, or-false}
 use Rattle.federation.proofs.Lawful.{reflect-lawful}
 use Rattle.federation.specs.Federation.{isLawful}
-use Rattle.codec.specs.Codec.{jobOf, recordSize}
+use Rattle.codec.proofs.Sizes.{place-next}
+use Rattle.codec.specs.Codec.{jobOf, placeOf, recordSize}
 use Rattle.journal.proofs.Putting.{put-length, slot-before}
 use Rattle.journal.specs.Journal.{capacity, jobAt, putAt}
 use Rattle.index.proofs.Inside.{slot-booked}
@@ -26,7 +27,7 @@ use Rattle.snapshot.proofs.Visits.{stays-below}
 use Rattle.generations.proofs.Memos.{memo-arrive, memo-book, memo-none}
 use Rattle.generations.specs.Memo.{Memo, Ready}
 use Rattle.ledger.specs.Given.{Writable}
-use Rattle.ledger.specs.State.{applied, arriving, booking, enqueued, hasArrived, newLedger, visited, voted, withVault}
+use Rattle.ledger.specs.State.{applied, arriving, booking, enqueued, hasArrived, newLedger, versionOf, visited, voted, withVault}
 use Rattle.ledger.specs.declared.Change.{Change}
 use Rattle.ledger.specs.declared.Change.the-variants.{Book, Hold, Nothing, Record, Release, See, Sign}
 use Rattle.ledger.specs.declared.Ledger.{Ledger}
@@ -56,14 +57,16 @@ module _ (order : List ℕ) (n job booked : ℕ) (below : job < booked) (arrived
 
 module _ (l : Ledger) (journal numbers sets records memo : List ℕ) (k : Kept l journal numbers sets records memo) where
   -- the booked jobs are read as before where one more record is put
-  grown-jobs : (bytes : List ℕ) → length bytes ≡ recordSize → recordSize * l .booked + recordSize ≤ length journal
-      → (j : ℕ) → j < l .booked → jobAt journal (l .booked) j ≡ jobAt (putAt journal (l .booked) bytes) (l .booked + 1) j
+  grown-jobs : (bytes : List ℕ) → length bytes ≡ recordSize (versionOf l) → placeOf (versionOf l) (l .booked) + recordSize (versionOf l) ≤ length journal
+      → (j : ℕ) → j < l .booked → jobAt (versionOf l) journal (l .booked) j ≡ jobAt (versionOf l) (putAt (versionOf l) journal (l .booked) bytes)
+      (l .booked + 1) j
   unfolding slotJob
   grown-jobs bytes size room j b =
-      let put = putAt journal (l .booked) bytes in
-      sym (slot-booked journal (l .booked) j (omega arith) b)
-      ∙ ap jobOf (sym (slot-before (l .booked) journal bytes size room j b))
-      ∙ slot-booked put (l .booked + 1) j (omega (arith, put-length (l .booked) journal bytes size room)) (omega arith)
+      let put = putAt (versionOf l) journal (l .booked) bytes in
+      sym (slot-booked (versionOf l) journal (l .booked) j (omega arith) b)
+      ∙ ap jobOf (sym (slot-before (versionOf l) (l .booked) journal bytes size room j b))
+      ∙ slot-booked (versionOf l) put (l .booked + 1) j
+      (omega (arith, put-length (versionOf l) (l .booked) journal bytes size room, place-next (versionOf l) (l .booked))) (omega arith)
 
   -- with a journal and an index afterwards
   module _ (journal′ numbers′ sets′ records′ : List ℕ) where
@@ -71,9 +74,9 @@ module _ (l : Ledger) (journal numbers sets records memo : List ℕ) (k : Kept l
     KeptBy m = Kept m journal′ numbers′ sets′ records′ memo
 
     abbrev StoredBy : Change → List ℕ → Type 0
-    StoredBy change bytes = Stored change (l .booked) journal bytes journal′ numbers′ sets′ records′
+    StoredBy change bytes = Stored change (l .booked) (versionOf l) journal bytes journal′ numbers′ sets′ records′
 
-    kept-book : (bytes : List ℕ) → Writable Book (l .booked) journal bytes → StoredBy Book bytes → KeptBy (booking l)
+    kept-book : (bytes : List ℕ) → Writable Book (l .booked) (versionOf l) journal bytes → StoredBy Book bytes → KeptBy (booking l)
     unfolding booking
     kept-book bytes w t =
         let few = w .few refl in
@@ -83,15 +86,16 @@ module _ (l : Ledger) (journal numbers sets records memo : List ℕ) (k : Kept l
           sane = record { lawful = k .sane .lawful; booked = omega arith; arrivals = k .sane .arrivals; next = k .sane .next };
           order-size = k .order-size;
           arrived = λ q h. omega (arith, k .arrived q h);
-          journal-size = ap length (t .written) ∙ put-length (l .booked) journal bytes size room ∙ k .journal-size;
+          journal-size = ap length (t .written) ∙ put-length (versionOf l) (l .booked) journal bytes size room ∙ k .journal-size;
           indexed = t .indexed;
           memo-size = k .memo-size;
-          right = subst (λ (x : List ℕ). Memo (jobAt x (l .booked + 1)) (l .order) (l .arrivals) memo) (sym (t .written))
-              (memo-book (jobAt journal (l .booked)) (jobAt (putAt journal (l .booked) bytes) (l .booked + 1)) (l .order) (l .arrivals) memo
+          right = subst (λ (x : List ℕ). Memo (jobAt (versionOf l) x (l .booked + 1)) (l .order) (l .arrivals) memo) (sym (t .written))
+              (memo-book (jobAt (versionOf l) journal (l .booked)) (jobAt (versionOf l) (putAt (versionOf l) journal (l .booked) bytes) (l .booked + 1))
+              (l .order) (l .arrivals) memo
               (λ q h. grown-jobs bytes size room (getD (l .order) q 0) (k .arrived q h)) (k .right));
         }
 
-    kept-same : (m : Ledger) → Alike m l → journal′ ≡ journal → Indexed journal′ (l .booked) numbers′ sets′ records′ → KeptBy m
+    kept-same : (m : Ledger) → Alike m l → journal′ ≡ journal → Indexed (versionOf l) journal′ (l .booked) numbers′ sets′ records′ → KeptBy m
     kept-same m a e i = record {
       sane = record {
         lawful = rw (a .settings) (k .sane .lawful);
@@ -102,9 +106,9 @@ module _ (l : Ledger) (journal numbers sets records memo : List ℕ) (k : Kept l
       order-size = ap length (a .order) ∙ k .order-size;
       arrived = λ q h. rw (a .order, a .booked) (k .arrived q (omega (arith, h)));
       journal-size = ap length e ∙ k .journal-size;
-      indexed = rw (a .booked) i;
+      indexed = rw (a .settings, a .booked) i;
       memo-size = k .memo-size;
-      right = rw (a .order, a .booked, a .arrivals, e) (k .right);
+      right = rw (a .settings, a .order, a .booked, a .arrivals, e) (k .right);
     }
 
     -- a job arrives
@@ -122,11 +126,11 @@ module _ (l : Ledger) (journal numbers sets records memo : List ℕ) (k : Kept l
           journal-size = same .journal-size;
           indexed = same .indexed;
           memo-size = same .memo-size;
-          right = memo-arrive (jobAt journal′ (m .booked)) (m .order) (m .arrivals) job memo (same .right);
+          right = memo-arrive (jobAt (versionOf m) journal′ (m .booked)) (m .order) (m .arrivals) job memo (same .right);
         }))
 
     -- whatever the change
-    pub kept-applied : (change : Change) (v job : ℕ) (bytes : List ℕ) → Writable change (l .booked) journal bytes
+    pub kept-applied : (change : Change) (v job : ℕ) (bytes : List ℕ) → Writable change (l .booked) (versionOf l) journal bytes
         → ((state : Vault) → change ≡ Hold state → job < l .booked) → StoredBy change bytes → KeptBy (applied l change v job)
     unfolding applied visited voted withVault
     kept-applied Nothing v job bytes w b t = kept-same l (search (k .sane .next)) (t .written) (t .indexed)
@@ -139,11 +143,11 @@ module _ (l : Ledger) (journal numbers sets records memo : List ℕ) (k : Kept l
         kept-same _ (search (stays-below (l .settings .n) (l .next) (omega (arith, k .sane .lawful .few)))) (t .written) (t .indexed)
 
   -- ---- generations
-  pub ready : Ready journal (l .booked) numbers sets (l .order) (l .arrivals) memo
+  pub ready : Ready (versionOf l) journal (l .booked) numbers sets (l .order) (l .arrivals) memo
   ready = record {
     few = k .indexed .few;
     inside = k .indexed .inside;
-    entered = indexed-entered journal (l .booked) numbers sets (entries-part journal (l .booked) numbers sets records (k .indexed));
+    entered = indexed-entered (versionOf l) journal (l .booked) numbers sets (entries-part (versionOf l) journal (l .booked) numbers sets records (k .indexed));
     short = k .sane .arrivals;
     placed = omega (arith, k .order-size, k .sane .arrivals);
     size = k .memo-size;
@@ -151,7 +155,7 @@ module _ (l : Ledger) (journal numbers sets records memo : List ℕ) (k : Kept l
   }
 
   -- another memo that is right
-  pub kept-memo : (memo′ : List ℕ) → Memo (jobAt journal (l .booked)) (l .order) (l .arrivals) memo′ → length memo′ ≡ capacity
+  pub kept-memo : (memo′ : List ℕ) → Memo (jobAt (versionOf l) journal (l .booked)) (l .order) (l .arrivals) memo′ → length memo′ ≡ capacity
       → Kept l journal numbers sets records memo′
   kept-memo memo′ r z = record {
     sane = k .sane;
@@ -164,15 +168,16 @@ module _ (l : Ledger) (journal numbers sets records memo : List ℕ) (k : Kept l
   }
 
 -- ---- the start
-pub kept-new : (n b faulty : ℕ) → isLawful (record { n = n; b = b; faulty = faulty }) ≡ true
-    → Kept (newLedger n b faulty) (replicate journalSize 0) (replicate numbersSize 0) (replicate setsSize 0) (replicate recordsSize 0) (replicate capacity 0)
+pub kept-new : (n b faulty version : ℕ) → isLawful (record { n = n; b = b; faulty = faulty; version = version }) ≡ true
+    → Kept (newLedger n b faulty version) (replicate journalSize 0) (replicate numbersSize 0) (replicate setsSize 0) (replicate recordsSize 0)
+    (replicate capacity 0)
 unfolding newLedger
-kept-new n b faulty e = let lawful = reflect-lawful (record { n = n; b = b; faulty = faulty }) .sound e in record {
+kept-new n b faulty version e = let lawful = reflect-lawful (record { n = n; b = b; faulty = faulty; version = version }) .sound e in record {
   sane = record { lawful = lawful; booked = omega arith; arrivals = omega arith; next = omega (arith, lawful .few) };
   order-size = refl;
   arrived = λ q h. absurd (not-suc-le-zero h);
   journal-size = length-replicate {A = ℕ} journalSize 0;
-  indexed = indexed-none _ _ _ _ (record { no-numbers = refl; no-sets = refl; no-records = refl });
+  indexed = indexed-none _ _ _ _ _ (record { no-numbers = refl; no-sets = refl; no-records = refl });
   memo-size = refl;
   right = memo-none _ _ _ capacity;
 }

@@ -12,7 +12,7 @@ use Rattle.generations.specs.Memo.{Ready}
 use Rattle.ledger.proofs.Writes.{unwritten}
 use Rattle.ledger.specs.Decisions.{isBook, isNothing}
 use Rattle.ledger.specs.Given.{Placed, Writable}
-use Rattle.ledger.specs.State.{applied}
+use Rattle.ledger.specs.State.{applied, versionOf}
 use Rattle.ledger.specs.Steps.{journalWith}
 use Rattle.ledger.specs.declared.Change.{Change}
 use Rattle.ledger.specs.declared.Change.the-variants.{Book, Hold, Nothing, Record, Release, See, Sign}
@@ -66,14 +66,14 @@ same-ledger : (l : Ledger) (c : Change) (v job : ℕ) → c ≡ Nothing → l �
 unfolding applied
 same-ledger l c v job e = rw e
 
-same-journal : (c : Change) (booked : ℕ) (journal bytes : List ℕ) → c ≡ Nothing → journal ≡ journalWith c booked journal bytes
-same-journal c booked journal bytes e = rw e
+same-journal : (c : Change) (booked version : ℕ) (journal bytes : List ℕ) → c ≡ Nothing → journal ≡ journalWith c booked version journal bytes
+same-journal c booked version journal bytes e = rw e
 
 module _ {input : List ℕ} {l₀ : Ledger} {pos₀ count₀ : ℕ} {journal₀ out₀ memo journal numbers sets records out : List ℕ} {l : Ledger} {pos count at : ℕ}
     (t : Turn input l₀ pos₀ count₀ journal₀ out₀ memo journal numbers sets records out l pos count at) (more : pos < length input)
-    (s : Step) (r : Read input pos (count + 1) s) where
+    (s : Step) (r : Read (versionOf l) input pos (count + 1) s) where
   abbrev command : Command
-  command = commandIn (s .kind) input (s .at)
+  command = commandIn (versionOf l) (s .kind) input (s .at)
 
   abbrev decision : Decision
   decision = commandDecision l journal command
@@ -87,17 +87,17 @@ module _ {input : List ℕ} {l₀ : Ledger} {pos₀ count₀ : ℕ} {journal₀ 
       Turn input l₀ pos₀ count₀ journal₀ out₀ memo′ journal′ numbers′ sets′ records′ out′ l′ (s .end) (count + 1) at′
 
   -- the command that was read stands there
-  stands : command ≡ stepAt input pos
-  stands = ap (λ (x : ℕ). commandIn (s .kind) input x) (r .at-is) ∙ ap (λ (k : Kind). commandIn k input (pos + 1)) (r .kind-is)
+  stands : command ≡ stepAt (versionOf l) input pos
+  stands = ap (λ (x : ℕ). commandIn (versionOf l) (s .kind) input x) (r .at-is) ∙ ap (λ (k : Kind). commandIn (versionOf l) k input (pos + 1)) (r .kind-is)
 
   -- the run that is left
   left-run : (l′ : Ledger) (journal′ : List ℕ) → l′ ≡ applied l (decision .change) (s .vault) (s .job) → journal′ ≡ journalBy l journal command
       → runAt l′ (s .end) (count + 1) journal′ ≡ turn input (runAt l pos count journal)
   unfolding turn
   left-run l′ journal′ el ej =
-      let a : l′ ≡ replyOf l journal (stepAt input pos) .ledger =
+      let a : l′ ≡ replyOf l journal (stepAt (versionOf l) input pos) .ledger =
       el ∙ rw (r .asked .vault-is, r .asked .job-is) (sym (reply-ledger l journal command) ∙ ap (λ (c : Command). replyOf l journal c .ledger) stands) in
-      let b : journal′ ≡ journalBy l journal (stepAt input pos) = ej ∙ ap (journalBy l journal) stands in
+      let b : journal′ ≡ journalBy l journal (stepAt (versionOf l) input pos) = ej ∙ ap (journalBy l journal) stands in
       rw (a, b, r .end-is)
 
   -- the loop goes on
@@ -107,7 +107,7 @@ module _ {input : List ℕ} {l₀ : Ledger} {pos₀ count₀ : ℕ} {journal₀ 
       → Next l′ memo′ journal′ numbers′ sets′ records′ out′ at′
   on d l′ memo′ journal′ numbers′ sets′ records′ out′ at′ eo el ej k w room same =
       let e = left-run l′ journal′ el ej in
-      let told : d .outcome ≡ replyOf l journal (stepAt input pos) .outcome =
+      let told : d .outcome ≡ replyOf l journal (stepAt (versionOf l) input pos) .outcome =
       eo ∙ sym (reply-outcome l journal command) ∙ ap (λ (c : Command). replyOf l journal c .outcome) stands in
       let before : count < length input = omega (arith, t .steps) in
       let text = step-text input (runAt l pos count journal) (runAt l′ (s .end) (count + 1) journal′) (d .outcome) more before told e in
@@ -132,7 +132,7 @@ module _ {input : List ℕ} {l₀ : Ledger} {pos₀ count₀ : ℕ} {journal₀ 
       on _ l memo′ journal numbers sets records out′ at′
       (rw (r .asked .job-is) (wide-outcome l (t .kept .sane) journal input (s .at) (s .kind) w))
       (same-ledger l (decision .change) (s .vault) (s .job) n)
-      (same-journal (decision .change) (l .booked) journal (recordIn input s) n
+      (same-journal (decision .change) (l .booked) (versionOf l) journal (recordIn (versionOf l) input s) n
       ∙ sym (left-by l (t .kept .sane) journal input (s .at) (s .kind) (inr (record { none = quiet }))))
       (kept-memo l journal numbers sets records memo (t .kept) memo′ (a .right) (a .size)) (a .said) room same
 
@@ -152,7 +152,7 @@ module _ {input : List ℕ} {l₀ : Ledger} {pos₀ count₀ : ℕ} {journal₀ 
 
     left : journal′ ≡ journalBy l journal command
     left =
-        c .stored .written ∙ ap (λ (x : Change). journalWith x (l .booked) journal (recordIn input s)) change-is
+        c .stored .written ∙ ap (λ (x : Change). journalWith x (l .booked) (versionOf l) journal (recordIn (versionOf l) input s)) change-is
         ∙ sym (left-by l (t .kept .sane) journal input (s .at) (s .kind)
         (subst (λ (d : Decision). (s .kind ≡ Propose) ⊎ Bookless d) found-is (books view journal input (s .at) (s .kind))))
 
@@ -162,13 +162,14 @@ module _ {input : List ℕ} {l₀ : Ledger} {pos₀ count₀ : ℕ} {journal₀ 
         on found l′ memo journal′ numbers′ sets′ records′ out′ (told .at) (ap (λ (d : Decision). d .outcome) found-is)
         (e ∙ ap (λ (x : Change). applied l x (s .vault) (s .job)) change-is) left k (c .said) room same
 
-    to-write : Writable (told .change) (l .booked) journal (recordIn input s)
+    to-write : Writable (told .change) (l .booked) (versionOf l) journal (recordIn (versionOf l) input s)
     to-write = rw (c .change-is) (writable view journal input (s .at) (s .kind) found refl)
 
     kept-so : ((state : Vault) → told .change ≡ Hold state → s .job < l .booked)
         → Kept (applied l (told .change) (s .vault) (s .job)) journal′ numbers′ sets′ records′ memo
     kept-so below =
-        kept-applied l journal numbers sets records memo (t .kept) journal′ numbers′ sets′ records′ (told .change) (s .vault) (s .job) (recordIn input s)
+        kept-applied l journal numbers sets records memo (t .kept) journal′ numbers′ sets′ records′ (told .change) (s .vault) (s .job)
+        (recordIn (versionOf l) input s)
         to-write below (c .stored)
 
     -- one that changes nothing
@@ -214,15 +215,15 @@ module _ {input : List ℕ} {l₀ : Ledger} {pos₀ count₀ : ℕ} {journal₀ 
   pub few-vaults : l .settings .n ≤ 16
   few-vaults = t .kept .sane .lawful .vaults
 
-  pub to-survey : Ready journal (l .booked) numbers sets (l .order) (l .arrivals) memo
+  pub to-survey : Ready (versionOf l) journal (l .booked) numbers sets (l .order) (l .arrivals) memo
   to-survey = ready l journal numbers sets records memo (t .kept)
 
-  pub numbered : (s : Step) → pos < length input → Read input pos (count + 1) s → s .number < 1000000
+  pub numbered : (s : Step) → pos < length input → Read (versionOf l) input pos (count + 1) s → s .number < 1000000
   numbered s more r = omega (arith, r .number-is, t .steps, t .few)
 
   -- the step that was read can be carried out
-  pub to-carry-out : (s : Step) → pos < length input → Read input pos (count + 1) s → at + longestText ≤ length out
-      → Asked input s × Indexed journal (l .booked) numbers sets records × (s .number < 1000000) × (at + longestText ≤ length out)
+  pub to-carry-out : (s : Step) → pos < length input → Read (versionOf l) input pos (count + 1) s → at + longestText ≤ length out
+      → Asked (versionOf l) input s × Indexed (versionOf l) journal (l .booked) numbers sets records × (s .number < 1000000) × (at + longestText ≤ length out)
   to-carry-out s more r room = (r .asked, t .kept .indexed, numbered s more r, room)
 
 -- ---- the loop's end
@@ -249,7 +250,7 @@ module _ (input : List ℕ) (p : Progress) (journal₀ out₀ memo journal numbe
   finished q e h = rw e (came (inl h))
 
 -- each step reads on
-pub reads-on : {input : List ℕ} {pos n : ℕ} {s : Step} → Read input pos n s → length input - s .end < length input - pos
+pub reads-on : {version : ℕ} {input : List ℕ} {pos n : ℕ} {s : Step} → Read version input pos n s → length input - s .end < length input - pos
 reads-on r = omega (arith, r .onward, r .inside)
 
 pub ruleset turning = (started, few-vaults, to-survey, numbered, to-carry-out, turn-wide, turn-quiet, turn-loud, loud-placed, reads-on, stopped, finished)

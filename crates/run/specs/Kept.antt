@@ -6,6 +6,7 @@ use lib.ListN.{getD, length}
 use Rattle.journal.specs.Journal.{capacity, jobAt}
 use Rattle.index.specs.Index.{Indexed}
 use Rattle.generations.specs.Memo.{Memo}
+use Rattle.ledger.specs.State.{versionOf}
 use Rattle.ledger.specs.Meaning.{Sane}
 use Rattle.ledger.specs.declared.Ledger.{Ledger}
 use Rattle.runfile.specs.Run.{journalSize}
@@ -16,6 +17,6 @@ pub record Kept (l : Ledger) (journal numbers sets records memo : List ℕ) : Ty
   -- the jobs that have arrived are booked
   pub arrived : (q : ℕ) → q < l .arrivals → getD (l .order) q 0 < l .booked
   pub journal-size : length journal ≡ journalSize
-  pub indexed : Indexed journal (l .booked) numbers sets records
+  pub indexed : Indexed (versionOf l) journal (l .booked) numbers sets records
   pub memo-size : length memo ≡ capacity
-  pub right : Memo (jobAt journal (l .booked)) (l .order) (l .arrivals) memo
+  pub right : Memo (jobAt (versionOf l) journal (l .booked)) (l .order) (l .arrivals) memo

@@ -3,14 +3,14 @@ ghost use mathlib.Core.Path.{_≡_};
 ghost use lib.ListN.{length, take};
 ghost use Rattle.runfile.specs.Run.{longest};
 ghost use Prim.Native.Nat.{_+_};
-use codec::RECORD;
+use codec::LONGEST;
 use journal::CAPACITY;
 
 // One byte more than the longest file, to see that there are too many.
 pub const INPUT: usize = 65537;
 
-// The run's own journal.
-pub const JOURNAL: usize = RECORD * CAPACITY;
+// The run's own journal has room for records of either version.
+pub const JOURNAL: usize = LONGEST * CAPACITY;
 
 // A piece of the text; any size that takes one line would do.
 pub const PIECE: usize = 32768;

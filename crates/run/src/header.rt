@@ -20,10 +20,7 @@ pub(crate) fn is_header(input: &[u8]) -> bool
     if input[1] != b'L' {
         return false;
     }
-    if input[2] != b'T' {
-        return false;
-    }
-    steps::word_at(input, 3) == 1
+    input[2] == b'T'
 }
 
 pub(crate) fn settings_in(input: &[u8]) -> Settings
@@ -34,6 +31,7 @@ pub(crate) fn settings_in(input: &[u8]) -> Settings
         n: input[5],
         b: input[6],
         faulty: steps::word_at(input, 7),
+        version: steps::word_at(input, 3),
     }
 }
 

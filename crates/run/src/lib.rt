@@ -33,7 +33,7 @@ pub fn start(input: &[u8], out: &mut [u8]) -> Progress
 {
     if header::opens(input) {
         let settings = header::settings_in(input);
-        let reply = books::new(settings.n, settings.b, settings.faulty);
+        let reply = books::new(settings.n, settings.b, settings.faulty, settings.version);
         let ledger = reply.ledger;
         return Progress {
             ledger,
@@ -43,7 +43,7 @@ pub fn start(input: &[u8], out: &mut [u8]) -> Progress
         };
     }
     let n = text::write_line(out, 0, 0, Outcome::Refused(Refusal::Settings));
-    let reply = books::new(0, 0, 0);
+    let reply = books::new(0, 0, 0, 0);
     let ledger = reply.ledger;
     Progress {
         ledger,
@@ -88,7 +88,7 @@ pub fn advance(
             return standing(ledger, pos, count, at);
         }
         count += 1;
-        let step = steps::step_at(input, pos, count);
+        let step = steps::step_at(ledger.settings.version, input, pos, count);
         pos = step.end;
         if step.wide {
             let order = &ledger.order;

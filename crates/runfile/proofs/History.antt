@@ -7,19 +7,22 @@ use mathlib.Core.Path.{_∙_, _≡_, ap, refl, subst, sym}
 use Prim.Native.Nat.{_*_, _+_, _-_, suc, zero, ℕ}
 use native.Mathlib.Omega.{arith}
 use lib.Dec.{leb}
-use lib.ListN.{drop, drop-of-length-le, getD, length, length-take, take, take-append-drop}
+use lib.ListN.{drop, drop-of-length-le, getD, length, length-take, replicate, take, take-append-drop}
 use lib.Seq.{take-length}
 use Rattle.base.proofs.Reflect.{and-true, by-cases}
-use Rattle.codec.specs.Codec.{recordSize}
+use Rattle.codec.proofs.Sizes.{place-first}
+use Rattle.codec.specs.Codec.{placeOf}
 use Rattle.ledger.proofs.Demand3.{demand3}
 use Rattle.federation.proofs.Lawful.{reflect-lawful}
+use Rattle.ledger.proofs.Effects.{applied-settings}
 use Rattle.ledger.proofs.Places.{examined-length, proposed}
 use Rattle.journal.proofs.Putting.{put-length}
 use Rattle.ledger.specs.Demand3.{Holds}
 use Rattle.federation.specs.Federation.{Lawful}
+use Rattle.federation.specs.declared.Settings.{Settings}
 use Rattle.ledger.specs.Meaning.{Proposed, failed, full, insane, known, new}
 use Rattle.ledger.specs.Register.{feedAll, log, newRegister}
-use Rattle.ledger.specs.State.{newLedger}
+use Rattle.ledger.specs.State.{newLedger, versionOf}
 use Rattle.ledger.specs.Steps.{journalAfter, journalWith, proposeDecision}
 use Rattle.ledger.specs.Worlds.{Request, commit, faultyVote, generations, preflight, propose, release, show, snapshot}
 use Rattle.ledger.specs.Worlds.{World, after as afterEvent, afterAll, leftBy, lend, lent, overlay, start, stepOf}
@@ -27,18 +30,18 @@ use Rattle.ledger.specs.declared.Decision.{Decision}
 use Rattle.ledger.specs.declared.Ledger.{Ledger}
 use Rattle.runfile.specs.History.{Item, RunKeeps, begun, eventOf, events, itemOf, itemsNext, steps, told, worldOf, worldWith}
 use Rattle.runfile.proofs.Turns.{runs-out}
-use Rattle.runfile.specs.Run.{Run, begins, commandOf, ended, isHeader, lastFrom, longest, opened, opens, runNext, turn}
-use Rattle.runfile.specs.Run.{runText, textFrom, textNext, textOf}
+use Rattle.runfile.specs.Run.{Run, begins, commandOf, ended, isHeader, journalSize, lastFrom, longest, opened, opens, opensUpTo, runNext, turn}
+use Rattle.runfile.specs.Run.{textFrom, textNext, textOf, textUpTo, versionIn}
 use Rattle.runfile.specs.Steps.{Command, draw, journalBy, listed, replyOf, request, unreadable, wordAt}
 
 -- ---- a step leaves the journal as long as it was
 proposed-length : (l : Ledger) (journal bytes : List ℕ) (d : Decision) → Proposed l journal bytes d
-    → length (journalWith (d .change) (l .booked) journal bytes) ≡ length journal
+    → length (journalWith (d .change) (l .booked) (versionOf l) journal bytes) ≡ length journal
 proposed-length l journal bytes d (insane n) = refl
 proposed-length l journal bytes d (failed why s e) = refl
 proposed-length l journal bytes d (known k h) = refl
 proposed-length l journal bytes d (full h) = refl
-proposed-length l journal bytes d (new h) = put-length (l .booked) journal bytes (examined-length bytes (h .passes)) (h .fits)
+proposed-length l journal bytes d (new h) = put-length (versionOf l) (l .booked) journal bytes (examined-length (versionOf l) bytes (h .passes)) (h .fits)
 
 left-length : (l : Ledger) (journal : List ℕ) (q : Request) → length (leftBy l journal q) ≡ length journal
 unfolding journalAfter
@@ -65,14 +68,24 @@ laid-over m journal left e =
 -- ---- one step of the run is one of the list
 module _ (r : Run) where
   whole : (q : Request) → lent (worldOf r) (eventOf r q) ≡ r .journal
-  whole q = lent-whole (recordSize * r .ledger .booked) (r .journal)
+  whole q = lent-whole (placeOf (versionOf (r .ledger)) (r .ledger .booked)) (r .journal)
+
+  -- a step leaves the version
+  same-version : (q : Request) → versionOf (stepOf (r .ledger) (r .journal) q .ledger) ≡ versionOf (r .ledger)
+  same-version q = ap (λ (s : Settings). s .version) (applied-settings (r .ledger) _ _ _)
+
+  abbrev at-version : ℕ → Ledger → List ℕ → World
+  at-version version l journal = record { ledger = l; booked = take (placeOf version (l .booked)) journal }
 
   after-event : (q : Request) → afterEvent (worldOf r) (eventOf r q) ≡ worldWith (stepOf (r .ledger) (r .journal) q .ledger) (leftBy (r .ledger) (r .journal) q)
   unfolding afterEvent
   after-event q =
-      ap (λ (j : List ℕ). worldWith (stepOf (r .ledger) j q .ledger) (overlay (leftBy (r .ledger) j q) (worldOf r .booked))) (whole q)
+      ap (λ (j : List ℕ). at-version (versionOf (r .ledger)) (stepOf (r .ledger) j q .ledger) (overlay (leftBy (r .ledger) j q) (worldOf r .booked))) (whole q)
+      ∙ ap (λ (version : ℕ). at-version version (stepOf (r .ledger) (r .journal) q .ledger) (overlay (leftBy (r .ledger) (r .journal) q) (worldOf r .booked)))
+      (sym (same-version q))
       ∙ ap (worldWith (stepOf (r .ledger) (r .journal) q .ledger))
-      (laid-over (recordSize * r .ledger .booked) (r .journal) (leftBy (r .ledger) (r .journal) q) (left-length (r .ledger) (r .journal) q))
+      (laid-over (placeOf (versionOf (r .ledger)) (r .ledger .booked)) (r .journal) (leftBy (r .ledger) (r .journal) q)
+      (left-length (r .ledger) (r .journal) q))
 
   -- the world after a command
   abbrev worldBy : Command → World
@@ -124,19 +137,27 @@ follows zero input r = record { world = refl; text = refl }
 follows (suc n) input r = next n input r (follows n input (turn input r))
 
 opens-lawful : (input : List ℕ) → opens input ≡ true → Lawful (opened input .settings)
-unfolding opens
+unfolding opensUpTo
 opens-lawful input o = reflect-lawful (opened input .settings) .sound (and-true (isHeader input) _ (and-true (leb (length input) longest) _ o .1) .1)
+
+-- nothing is booked where a run begins
+begun-world : (input : List ℕ) → begun input ≡ worldOf (begins input)
+unfolding start opened newLedger
+begun-world input =
+    ap (λ (n : ℕ). record { ledger = opened input; booked = take n (replicate journalSize 0) }) (sym (place-first (versionIn input)))
 
 -- demand 3 of the run of any input that check 1 lets through
 pub run-keeps : RunKeeps
-unfolding runText textFrom lastFrom start opened newLedger
+unfolding textUpTo textFrom lastFrom start opened newLedger
 run-keeps input o =
     let f = follows (length input - begins input .count) input (begins input) in
-    let d = demand3 (getD input 5 0) (getD input 6 0) (wordAt input 7) (opens-lawful input o) (events (steps input)) in
+    let d = demand3 (getD input 5 0) (getD input 6 0) (wordAt input 7) (versionIn input) (opens-lawful input o) (events (steps input)) in
+    let there = ap (λ (w : World). afterAll w (events (steps input))) (begun-world input) ∙ f .world in
     record {
       all = runs-out (length input - begins input .count) input (begins input) (omega arith);
-      world = f .world;
-      text = simp o (f .text);
-      holds = subst (λ (w : World). Holds (opened input .settings) w (feedAll newRegister (log (begun input) (events (steps input))))) (f .world) (d .0);
+      world = there;
+      text = simp o (f .text ∙ ap (λ (w : World). told 0 w (steps input)) (sym (begun-world input)));
+      holds = subst (λ (w : World). Holds (opened input .settings) w
+          (feedAll (newRegister (versionIn input)) (log (begun input) (events (steps input))))) there (d .0);
       never-one = d .1;
     }

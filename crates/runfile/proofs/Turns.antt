@@ -13,8 +13,9 @@ use Rattle.outcome.specs.declared.Outcome.{Outcome}
 use Rattle.outcome.specs.declared.Outcome.the-variants.{Refused}
 use Rattle.outcome.specs.declared.Refusal.the-variants.{Settings as BadSettings}
 use Rattle.text.specs.Text.{lineFor}
-use Rattle.runfile.specs.Run.{Run, begins, commandOf, ended, headerSize, isHeader, lastFrom, longest, opened, opens, runNext, turn}
-use Rattle.runfile.specs.Run.{runText, textFrom, textNext, textOf}
+use Rattle.ledger.specs.State.{versionOf}
+use Rattle.runfile.specs.Run.{Run, begins, commandOf, ended, headerSize, isHeader, lastFrom, longest, opened, opens, opensUpTo, runNext, turn}
+use Rattle.runfile.specs.Run.{runText, textFrom, textNext, textOf, textUpTo}
 use Rattle.runfile.specs.Steps.{endOf, kindAt, listed, replyOf}
 use Rattle.runfile.specs.declared.Kind.{Kind}
 use Rattle.runfile.specs.declared.Kind.the-variants.{
@@ -43,14 +44,14 @@ pub record Open (input : List ℕ) : Type 0 where
   pub lawful : isLawful (opened input .settings) ≡ true
 
 pub open-when : (input : List ℕ) → opens input ≡ true → Open input
-unfolding opens
+unfolding opensUpTo
 open-when input o =
     let h = and-true (leb (length input) longest) _ o in
     let g = and-true (isHeader input) _ (h .1) in
     record { few = leb-true (length input) longest (h .0); headed = header-long input (g .0); lawful = g .1 }
 
 pub opened-run : (input : List ℕ) → opens input ≡ true → runText input ≡ textFrom input (begins input)
-unfolding runText
+unfolding textUpTo
 opened-run input o = rw o
 
 -- ---- the end
@@ -74,28 +75,29 @@ none-after input r h = by (length input - r .count)
 -- the text of an input that check 1 turns back, before a run that has nothing left to read
 pub refused-run : (input : List ℕ) → opens input ≡ false → (r : Run) → length input ≤ r .pos
     → runText input ≡ lineFor 0 (Refused BadSettings) ++ textFrom input r
-unfolding runText
+unfolding textUpTo
 refused-run input o r h = rw (o, none-left input r h) (sym (append-nil (lineFor 0 (Refused BadSettings))))
 
 -- each step reads at least its kind, or is the last: so a run has no more steps than bytes
-reads-on : (kind : Kind) (pos size n : ℕ) → size ≤ pos + suc n → size ≤ endOf kind pos size + n
-reads-on Propose pos size n h = omega arith
-reads-on Preflight pos size n h = omega arith
-reads-on Commit pos size n h = omega arith
-reads-on FaultySign pos size n h = omega arith
-reads-on FaultyAcknowledge pos size n h = omega arith
-reads-on Show pos size n h = omega arith
-reads-on Draw pos size n h = omega arith
-reads-on Generations pos size n h = omega arith
-reads-on Snapshot pos size n h = omega arith
-reads-on Release pos size n h = omega arith
-reads-on Unknown pos size n h = omega arith
+reads-on : (version : ℕ) (kind : Kind) (pos size n : ℕ) → size ≤ pos + suc n → size ≤ endOf version kind pos size + n
+reads-on version Propose pos size n h = omega arith
+reads-on version Preflight pos size n h = omega arith
+reads-on version Commit pos size n h = omega arith
+reads-on version FaultySign pos size n h = omega arith
+reads-on version FaultyAcknowledge pos size n h = omega arith
+reads-on version Show pos size n h = omega arith
+reads-on version Draw pos size n h = omega arith
+reads-on version Generations pos size n h = omega arith
+reads-on version Snapshot pos size n h = omega arith
+reads-on version Release pos size n h = omega arith
+reads-on version Unknown pos size n h = omega arith
 
 pub runs-out : (n : ℕ) (input : List ℕ) (r : Run) → length input ≤ r .pos + n → ended input (runNext n input r) ≡ true
 unfolding runNext turn
 runs-out zero input r h = le-leb (length input) (r .pos) (omega (arith, h))
 runs-out (suc n) input r h =
-    let later = runs-out n input (turn input r) (reads-on (kindAt input (r .pos)) (r .pos) (length input) n h) in
+    let later = runs-out n input (turn input r)
+    (reads-on (versionOf (r .ledger)) (kindAt (versionOf (r .ledger)) input (r .pos)) (r .pos) (length input) n h) in
     by-cases (λ b. ended input (cond b r (runNext n input (turn input r))) ≡ true) (ended input r) (λ e. e) (λ e. later)
 
 -- ---- a step

@@ -43,19 +43,19 @@ kindOf b =
     (cond (eqb b 9) Snapshot
     (cond (eqb b 10) Release Unknown)))))))))
 
--- how long the body is
-abbrev pub bodySize : Kind → ℕ
-bodySize Propose = recordSize
-bodySize Preflight = 2
-bodySize Commit = 4
-bodySize FaultySign = 2
-bodySize FaultyAcknowledge = 2
-bodySize Show = 1
-bodySize Draw = 1
-bodySize Generations = 1
-bodySize Snapshot = 0
-bodySize Release = 3
-bodySize Unknown = 0
+-- how long the body is, in a file of the version
+abbrev pub bodySize : ℕ → Kind → ℕ
+bodySize version Propose = recordSize version
+bodySize version Preflight = 2
+bodySize version Commit = 4
+bodySize version FaultySign = 2
+bodySize version FaultyAcknowledge = 2
+bodySize version Show = 1
+bodySize version Draw = 1
+bodySize version Generations = 1
+bodySize version Snapshot = 0
+bodySize version Release = 3
+bodySize version Unknown = 0
 
 -- 16 bits, the low byte first
 abbrev pub wordAt : List ℕ → ℕ → ℕ
@@ -68,44 +68,44 @@ pub data Command : Type 0 where
   unreadable : Command
 
 -- the command of a kind whose body starts at `at`
-abbrev pub commandIn : Kind → List ℕ → ℕ → Command
-commandIn Propose input at = request (propose (take recordSize (drop at input)))
-commandIn Preflight input at = request (preflight (getD input at 0) (getD input (at + 1) 0))
-commandIn Commit input at = request (commit (getD input at 0) (getD input (at + 1) 0) (wordAt input (at + 2)))
-commandIn FaultySign input at = request (faultyVote Signatures (getD input at 0) (getD input (at + 1) 0))
-commandIn FaultyAcknowledge input at = request (faultyVote Acknowledgements (getD input at 0) (getD input (at + 1) 0))
-commandIn Show input at = request (show (getD input at 0))
-commandIn Draw input at = draw (getD input at 0)
-commandIn Generations input at = request (generations (getD input at 0))
-commandIn Snapshot input at = request snapshot
-commandIn Release input at = request (release (getD input at 0) (getD input (at + 1) 0) (getD input (at + 2) 0))
-commandIn Unknown input at = unreadable
+abbrev pub commandIn : ℕ → Kind → List ℕ → ℕ → Command
+commandIn version Propose input at = request (propose (take (recordSize version) (drop at input)))
+commandIn version Preflight input at = request (preflight (getD input at 0) (getD input (at + 1) 0))
+commandIn version Commit input at = request (commit (getD input at 0) (getD input (at + 1) 0) (wordAt input (at + 2)))
+commandIn version FaultySign input at = request (faultyVote Signatures (getD input at 0) (getD input (at + 1) 0))
+commandIn version FaultyAcknowledge input at = request (faultyVote Acknowledgements (getD input at 0) (getD input (at + 1) 0))
+commandIn version Show input at = request (show (getD input at 0))
+commandIn version Draw input at = draw (getD input at 0)
+commandIn version Generations input at = request (generations (getD input at 0))
+commandIn version Snapshot input at = request snapshot
+commandIn version Release input at = request (release (getD input at 0) (getD input (at + 1) 0) (getD input (at + 2) 0))
+commandIn version Unknown input at = unreadable
 
 -- the kind of the step at pos, where its body is all there: "2: kind unknown or body cut short"
-unfoldable pub kindAt : List ℕ → ℕ → Kind
-kindAt input pos =
+unfoldable pub kindAt : ℕ → List ℕ → ℕ → Kind
+kindAt version input pos =
     let kind = kindOf (getD input pos 0) in
-    cond (ltb (pos + bodySize kind) (length input)) kind Unknown
+    cond (ltb (pos + bodySize version kind) (length input)) kind Unknown
 
-abbrev pub stepAt : List ℕ → ℕ → Command
-stepAt input pos = commandIn (kindAt input pos) input (pos + 1)
+abbrev pub stepAt : ℕ → List ℕ → ℕ → Command
+stepAt version input pos = commandIn version (kindAt version input pos) input (pos + 1)
 
 -- where the next one stands; "refusal 2 prints its line and ends": nothing is left to read
-abbrev pub endOf : Kind → ℕ → ℕ → ℕ
-endOf Propose pos size = pos + bodySize Propose + 1
-endOf Preflight pos size = pos + bodySize Preflight + 1
-endOf Commit pos size = pos + bodySize Commit + 1
-endOf FaultySign pos size = pos + bodySize FaultySign + 1
-endOf FaultyAcknowledge pos size = pos + bodySize FaultyAcknowledge + 1
-endOf Show pos size = pos + bodySize Show + 1
-endOf Draw pos size = pos + bodySize Draw + 1
-endOf Generations pos size = pos + bodySize Generations + 1
-endOf Snapshot pos size = pos + bodySize Snapshot + 1
-endOf Release pos size = pos + bodySize Release + 1
-endOf Unknown pos size = size
+abbrev pub endOf : ℕ → Kind → ℕ → ℕ → ℕ
+endOf version Propose pos size = pos + bodySize version Propose + 1
+endOf version Preflight pos size = pos + bodySize version Preflight + 1
+endOf version Commit pos size = pos + bodySize version Commit + 1
+endOf version FaultySign pos size = pos + bodySize version FaultySign + 1
+endOf version FaultyAcknowledge pos size = pos + bodySize version FaultyAcknowledge + 1
+endOf version Show pos size = pos + bodySize version Show + 1
+endOf version Draw pos size = pos + bodySize version Draw + 1
+endOf version Generations pos size = pos + bodySize version Generations + 1
+endOf version Snapshot pos size = pos + bodySize version Snapshot + 1
+endOf version Release pos size = pos + bodySize version Release + 1
+endOf version Unknown pos size = size
 
-abbrev pub nextAt : List ℕ → ℕ → ℕ
-nextAt input pos = endOf (kindAt input pos) pos (length input)
+abbrev pub nextAt : ℕ → List ℕ → ℕ → ℕ
+nextAt version input pos = endOf version (kindAt version input pos) pos (length input)
 
 -- ---- a command carried out, by the functions that demand 3 speaks of
 abbrev pub reads : Outcome → Ledger → Reply

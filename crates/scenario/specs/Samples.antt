@@ -13,7 +13,7 @@ abbrev pub tapeWith : List ℕ → ℕ → Entry
 tapeWith characters frames = record { label = leAt characters 0 8; frames = frames }
 
 abbrev pub jobWith : ℕ → ℕ → ℕ → List Entry → Job
-jobWith kind inputs outputs entries = record { kind = kind; drive = 7; inputs = inputs; outputs = outputs; entries = entries }
+jobWith kind inputs outputs entries = record { kind = kind; drive = 7; inputs = inputs; outputs = outputs; entries = entries; trimmed = 0 }
 
 -- ---- "One run whole"
 

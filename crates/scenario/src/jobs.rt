@@ -49,6 +49,7 @@ fn job(kind: u8, inputs: u8, outputs: u8, entries: [Entry; 8]) -> Job
         inputs,
         outputs,
         entries,
+        trimmed: 0,
     }
 }
 

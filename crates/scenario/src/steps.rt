@@ -1,4 +1,4 @@
-// Each kind of step, carried out and printed.
+// Each kind of step, carried out and printed. Jobs are proposed as version 1 records.
 ghost use mathlib.Core.Path.{_≡_};
 ghost use Rattle.ledger.specs.Steps.{commitOf, faultyVoteOf, journalAfter, preflightOf, proposeOf, releaseOf};
 ghost use Rattle.vaults.specs.declared.Column.the-variants.{Acknowledgements, Signatures};
@@ -53,11 +53,11 @@ fn named(name: &[u8], vault: u8, job: u8) {
 }
 
 pub fn propose(l: Ledger, journal: &mut [u8], name: &[u8], job: Job) -> Ledger
-    ensures { λ r. ⌜ r ≡ proposeOf l (now (journal .entry)) (written job (replicate 100 0)) .ledger ⌝ }
-    ensures { λ _. ⌜ now (journal .exit) ≡ journalAfter l (now (journal .entry)) (written job (replicate 100 0)) ⌝ }
+    ensures { λ r. ⌜ r ≡ proposeOf l (now (journal .entry)) (written 1 job (replicate 100 0)) .ledger ⌝ }
+    ensures { λ _. ⌜ now (journal .exit) ≡ journalAfter l (now (journal .entry)) (written 1 job (replicate 100 0)) ⌝ }
 {
     let mut bytes = [0u8; 100];
-    codec::write(job, &mut bytes);
+    codec::write(1, job, &mut bytes);
     let reply = operations::propose(l, journal, &bytes);
     io::write_all(STDOUT_FILENO, b"propose.");
     report(name, reply)
@@ -125,6 +125,6 @@ pub fn lookup(l: Ledger, journal: &[u8], job: u8) {
     let part = operations::lookup(l, journal, job);
     figures(
         part.len() as u64,
-        record::frames(codec::read(part), 4) as u64,
+        record::frames(codec::read(1, part), 4) as u64,
     );
 }

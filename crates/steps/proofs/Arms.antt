@@ -2,8 +2,7 @@
 use mathlib.Core.Bool.{Bool, Bool·beq, false, true}
 use mathlib.Core.List.{List}
 use mathlib.Core.Path.{_∙_, _≡_, ap, refl, subst, sym}
-use Prim.Native.Nat.{_+_, _-_, _≤_, ℕ}
-use native.Mathlib.Nat.{add-sub-cancel-left}
+use Prim.Native.Nat.{_+_, _≤_, ℕ}
 use native.Mathlib.Omega.{arith}
 use lib.Dec.{ltb}
 use lib.ListN.{drop, getD, length, take}
@@ -14,6 +13,7 @@ use Rattle.outcome.specs.declared.Refusal.the-variants.{NoVault, NotBooked, Wro
 use Rattle.outcome.specs.declared.Verdict.{Verdict}
 use Rattle.outcome.specs.declared.Verdict.the-variants.{Pass}
 use Rattle.sets.specs.Bits.{hasBit}
+use Rattle.codec.proofs.Sizes.{place-whole}
 use Rattle.codec.specs.Codec.{recordSize}
 use Rattle.journal.proofs.Booked.{reflect-booked}
 use Rattle.journal.specs.Journal.{capacity, insideOf, isBooked, jobAt}
@@ -21,7 +21,7 @@ use Rattle.generations.specs.Memo.{Memo}
 use Rattle.index.proofs.Tables.{records-part}
 use Rattle.index.specs.Index.{Indexed, IndexedRecords}
 use Rattle.ledger.proofs.Gates.{passed-rest, passed-test}
-use Rattle.ledger.specs.Decisions.{committing, gated, releasing}
+use Rattle.ledger.specs.Decisions.{committing, gated, proposal, releasing}
 use Rattle.ledger.specs.Given.{Aged, Known, Searchable}
 use Rattle.ledger.specs.Steps.{gateOf}
 use Rattle.vaults.specs.declared.Column.the-variants.{Acknowledgements, Signatures}
@@ -41,12 +41,15 @@ use Rattle.steps.specs.declared.Step.{Step}
 use Rattle.steps.specs.declared.View.{View}
 
 -- all booked records lie inside a run's journal
-pub searched : (journal : List ℕ) (booked : ℕ) (numbers sets records : List ℕ) → Indexed journal booked numbers sets records
-    → Searchable journal booked records
+pub searched : (version : ℕ) (journal : List ℕ) (booked : ℕ) (numbers sets records : List ℕ) → Indexed version journal booked numbers sets records
+    → Searchable version journal booked records
 unfolding insideOf
-searched journal booked numbers sets records i =
-    let e : booked ≡ insideOf journal booked = omega (arith, i .inside) in
-    record { few = i .few; indexed = subst (λ (n : ℕ). IndexedRecords journal n records) e (records-part journal booked numbers sets records i) }
+searched version journal booked numbers sets records i =
+    let e : booked ≡ insideOf version journal booked = omega (arith, place-whole version booked (length journal) (i .inside)) in
+    record {
+      few = i .few;
+      indexed = subst (λ (n : ℕ). IndexedRecords version journal n records) e (records-part version journal booked numbers sets records i);
+    }
 
 -- a job whose gate passes is booked
 pub known-behind : (w : View) (journal : List ℕ) (v : ℕ) (faulty : Bool) (job : ℕ) (g : Verdict) → g ≡ gateBy w journal v faulty job
@@ -56,26 +59,28 @@ known-behind w journal v faulty job g h = record {
   below = λ p.
       let vault = passed-rest (ltb v (w .settings .n)) _ NoVault (sym h ∙ p) in
       let kind = passed-rest (Bool·beq (hasBit (w .settings .faulty) v) faulty) _ WrongVault vault in
-      reflect-booked journal (w .booked) job .sound (passed-test (isBooked journal (w .booked) job) Pass NotBooked kind) .below;
+      reflect-booked (w .settings .version) journal (w .booked) job .sound
+      (passed-test (isBooked (w .settings .version) journal (w .booked) job) Pass NotBooked kind) .below;
 }
 
 -- the command of a kind with this vault and this job
-abbrev again : Kind → ℕ → ℕ → List ℕ → ℕ → Command
-again Propose v job input at = request (propose (take (at + 100 - at) (drop at input)))
-again Preflight v job input at = request (preflight v job)
-again Commit v job input at = request (commit v job (wordAt input (at + 2)))
-again FaultySign v job input at = request (faultyVote Signatures v job)
-again FaultyAcknowledge v job input at = request (faultyVote Acknowledgements v job)
-again Show v job input at = request (show job)
-again Draw v job input at = draw job
-again Generations v job input at = request (generations job)
-again Snapshot v job input at = request snapshot
-again Release v job input at = request (release v job (getD input (at + 2) 0))
-again Unknown v job input at = unreadable
+abbrev again : ℕ → Kind → ℕ → ℕ → List ℕ → ℕ → Command
+again version Propose v job input at = request (propose (take (recordSize version) (drop at input)))
+again version Preflight v job input at = request (preflight v job)
+again version Commit v job input at = request (commit v job (wordAt input (at + 2)))
+again version FaultySign v job input at = request (faultyVote Signatures v job)
+again version FaultyAcknowledge v job input at = request (faultyVote Acknowledgements v job)
+again version Show v job input at = request (show job)
+again version Draw v job input at = draw job
+again version Generations v job input at = request (generations job)
+again version Snapshot v job input at = request snapshot
+again version Release v job input at = request (release v job (getD input (at + 2) 0))
+again version Unknown v job input at = unreadable
 
-module _ (input : List ℕ) (at : ℕ) where
-  same-command : (k : Kind) → again k (vaultOf (commandIn k input at)) (jobOf (commandIn k input at)) input at ≡ commandIn k input at
-  same-command Propose = simp add-sub-cancel-left
+module _ (version : ℕ) (input : List ℕ) (at : ℕ) where
+  same-command : (k : Kind) → again version k (vaultOf (commandIn version k input at))
+      (jobOf (commandIn version k input at)) input at ≡ commandIn version k input at
+  same-command Propose = refl
   same-command Preflight = refl
   same-command Commit = refl
   same-command FaultySign = refl
@@ -87,16 +92,19 @@ module _ (input : List ℕ) (at : ℕ) where
   same-command Release = refl
   same-command Unknown = refl
 
-module _ (w : View) (journal input : List ℕ) (s : Step) (a : Asked input s) where
-  pub told : (k : Kind) → s .kind ≡ k → (r : Decision) → r ≡ decidedBy w journal (again k (s .vault) (s .job) input (s .at))
-      → r ≡ decidedBy w journal (commandIn (s .kind) input (s .at))
+module _ (w : View) (journal input : List ℕ) (s : Step) (a : Asked (w .settings .version) input s) where
+  abbrev version : ℕ
+  version = w .settings .version
+
+  pub told : (k : Kind) → s .kind ≡ k → (r : Decision) → r ≡ decidedBy w journal (again version k (s .vault) (s .job) input (s .at))
+      → r ≡ decidedBy w journal (commandIn version (s .kind) input (s .at))
   told k e r h =
-      let same : again (s .kind) (s .vault) (s .job) input (s .at) ≡ commandIn (s .kind) input (s .at) =
-      rw (a .vault-is, a .job-is) (same-command input (s .at) (s .kind)) in
-      h ∙ ap (decidedBy w journal) (ap (λ (x : Kind). again x (s .vault) (s .job) input (s .at)) (sym e) ∙ same)
+      let same : again version (s .kind) (s .vault) (s .job) input (s .at) ≡ commandIn version (s .kind) input (s .at) =
+      rw (a .vault-is, a .job-is) (same-command version input (s .at) (s .kind)) in
+      h ∙ ap (decidedBy w journal) (ap (λ (x : Kind). again version x (s .vault) (s .job) input (s .at)) (sym e) ∙ same)
 
   -- of a proposal the record is all there
-  pub record-whole : s .kind ≡ Propose → s .at + recordSize ≤ length input
+  pub record-whole : s .kind ≡ Propose → s .at + recordSize version ≤ length input
   record-whole e = a .whole e
 
 -- behind a gate that was found
@@ -108,24 +116,29 @@ pub with-signers : (g : Verdict) (s : Settings) (state : Vault) (votes : Votes) 
     → r ≡ gated g (committing s state votes v job x) → r ≡ gated g (committing s state votes v job y)
 with-signers g s state votes v job x y r e h = rw e at h
 
+-- with the record that was read
+pub with-record : (version : ℕ) (journal : List ℕ) (booked : ℕ) (part bytes : List ℕ) (r : Decision) → part ≡ bytes
+    → r ≡ proposal version journal booked part → r ≡ proposal version journal booked bytes
+with-record version journal booked part bytes r e h = rw e at h
+
 -- with the rival that was read
-pub with-rival : (g : Verdict) (state : Vault) (journal : List ℕ) (booked signers job x y : ℕ) (r : Decision) → x ≡ y
-    → r ≡ gated g (releasing state journal booked signers job x) → r ≡ gated g (releasing state journal booked signers job y)
-with-rival g state journal booked signers job x y r e h = rw e at h
+pub with-rival : (g : Verdict) (state : Vault) (version : ℕ) (journal : List ℕ) (booked signers job x y : ℕ) (r : Decision) → x ≡ y
+    → r ≡ gated g (releasing state version journal booked signers job x) → r ≡ gated g (releasing state version journal booked signers job y)
+with-rival g state version journal booked signers job x y r e h = rw e at h
 
 pub drawn : (o o′ : Outcome) → o ≡ o′ → _≡_ {A = Decision} (record { outcome = o; change = Nothing }) (record { outcome = o′; change = Nothing })
 drawn o o′ e = rw e
 
-pub ruleset arms = (searched, known-behind, told, record-whole, regated, with-signers, with-rival, drawn)
+pub ruleset arms = (searched, known-behind, told, record-whole, regated, with-record, with-signers, with-rival, drawn)
 
 -- ---- generations
-module _ (a : Books) (order journal memo : List ℕ) (job : ℕ) (b : Bool) (e : b ≡ isBooked journal (a .booked) job) where
+module _ (a : Books) (order journal memo : List ℕ) (job : ℕ) (b : Bool) (e : b ≡ isBooked (a .settings .version) journal (a .booked) job) where
   pub aged : (d : Decision) → b ≡ true → Aged (a .settings) (a .vaults) order (a .arrivals) journal (a .booked) memo job d
       → Answered a order journal memo job (d .outcome)
   unfolding bookedOr
   aged d t h = record { outcome = simp (sym e ∙ t) (ap (λ (d : Decision). d .outcome) (h .decision)); right = h .right; size = h .size }
 
-  pub unbooked : b ≡ false → Memo (jobAt journal (a .booked)) order (a .arrivals) memo → length memo ≡ capacity
+  pub unbooked : b ≡ false → Memo (jobAt (a .settings .version) journal (a .booked)) order (a .arrivals) memo → length memo ≡ capacity
       → Answered a order journal memo job (Refused NotBooked)
   unfolding bookedOr
   unbooked f m z = record { outcome = simp (sym e ∙ f); right = m; size = z }

@@ -41,10 +41,10 @@ consented Already next signers v = record { none = refl }
 consented Fresh next signers v = record { none = refl }
 consented (Denied why) next signers v = record { none = refl }
 
-signed : (state : Vault) (journal : List ℕ) (booked signers v job : ℕ) → Bookless (preflighting state journal booked signers v job)
+signed : (state : Vault) (version : ℕ) (journal : List ℕ) (booked signers v job : ℕ) → Bookless (preflighting state version journal booked signers v job)
 unfolding preflighting consent
-signed state journal booked signers v job =
-    let answer = vaultPreflight state (admissionAt state journal booked job) job in
+signed state version journal booked signers v job =
+    let answer = vaultPreflight state (admissionAt state version journal booked job) job in
     consented (answer .consent) (answer .vault) signers v
 
 received : (state : Vault) (acknowledgers v job : ℕ) → Bookless (receiving state acknowledgers v job)
@@ -53,18 +53,22 @@ received state acknowledgers v job =
     by-cases (λ b. Bookless (cond b (answering (ones acknowledgers)) (voting acknowledgers v (Hold (holding state job)))))
     (jobHas (state .held) job) (λ e. record { none = refl }) (λ e. record { none = refl })
 
-released : (state : Vault) (journal : List ℕ) (booked signers job rival : ℕ) → Bookless (releasing state journal booked signers job rival)
+released : (state : Vault) (version : ℕ) (journal : List ℕ) (booked signers job rival : ℕ)
+    → Bookless (releasing state version journal booked signers job rival)
 unfolding releasing
-released state journal booked signers job rival = behind (supersession state journal booked job rival) _ (record { none = refl })
+released state version journal booked signers job rival = behind (supersession state version journal booked job rival) _ (record { none = refl })
 
 ruleset quiet = (behind, signed, received, released)
 
 module _ (w : View) (journal input : List ℕ) (at : ℕ) where
+  abbrev version : ℕ
+  version = w .settings .version
+
   abbrev decided : Kind → Decision
-  decided k = decidedBy w journal (commandIn k input at)
+  decided k = decidedBy w journal (commandIn version k input at)
 
   abbrev bytes : List ℕ
-  bytes = take recordSize (drop at input)
+  bytes = take (recordSize version) (drop at input)
 
   pub books : (k : Kind) → (k ≡ Propose) ⊎ Bookless (decided k)
   unfolding committing snapshotting
@@ -80,15 +84,15 @@ module _ (w : View) (journal input : List ℕ) (at : ℕ) where
   books Release = inr (search quiet)
   books Unknown = inr (search quiet)
 
-  unbooked : (d : Decision) → Bookless d → Writable (d .change) (w .booked) journal bytes
+  unbooked : (d : Decision) → Bookless d → Writable (d .change) (w .booked) version journal bytes
   unbooked d b =
       let no : d .change ≡ Book → ⊥ = λ e. true≢false (sym (ap isBook e) ∙ b .none) in
       record { few = λ e. absurd (no e); room = λ e. absurd (no e); size = λ e. absurd (no e) }
 
-  pub writable : (k : Kind) (d : Decision) → d ≡ decided k → Writable (d .change) (w .booked) journal bytes
+  pub writable : (k : Kind) (d : Decision) → d ≡ decided k → Writable (d .change) (w .booked) version journal bytes
   writable k d e =
-      subst (λ (x : Decision). Writable (x .change) (w .booked) journal bytes) (sym e)
+      subst (λ (x : Decision). Writable (x .change) (w .booked) version journal bytes) (sym e)
       (⊎-elim
-      (λ p. subst (λ (x : Kind). Writable (decided x .change) (w .booked) journal bytes) (sym p)
-      (writes journal (w .booked) bytes (proposal journal (w .booked) bytes) refl))
+      (λ p. subst (λ (x : Kind). Writable (decided x .change) (w .booked) version journal bytes) (sym p)
+      (writes version journal (w .booked) bytes (proposal version journal (w .booked) bytes) refl))
       (unbooked (decided k)) (books k))

@@ -40,22 +40,22 @@ bookedOr booked = cond booked Pass (Fail NotBooked)
 
 -- checks 3, 5 and 4, of a step that is for faulty vaults or for correct ones
 abbrev pub gateBy : View → List ℕ → ℕ → Bool → ℕ → Verdict
-gateBy w journal v faulty job = gateOf (w .settings) v faulty (isBooked journal (w .booked) job)
+gateBy w journal v faulty job = gateOf (w .settings) v faulty (isBooked (w .settings .version) journal (w .booked) job)
 
 -- generations look at more, and are decided apart
 abbrev pub requested : View → List ℕ → Request → Decision
-requested w journal (propose bytes) = proposal journal (w .booked) bytes
+requested w journal (propose bytes) = proposal (w .settings .version) journal (w .booked) bytes
 requested w journal (preflight v job) =
-    gated (gateBy w journal v false job) (preflighting (w .state) journal (w .booked) (w .votes .signatures) v job)
+    gated (gateBy w journal v false job) (preflighting (w .state) (w .settings .version) journal (w .booked) (w .votes .signatures) v job)
 requested w journal (commit v job named) =
     gated (gateBy w journal v false job) (committing (w .settings) (w .state) (w .votes) v job named)
 requested w journal (faultyVote column v job) = gated (gateBy w journal v true job) (voting (columnOf column (w .votes)) v (Record column))
 requested w journal (show job) =
-    gated (bookedOr (isBooked journal (w .booked) job)) (answering (statusOf (w .settings) (w .votes)))
+    gated (bookedOr (isBooked (w .settings .version) journal (w .booked) job)) (answering (statusOf (w .settings) (w .votes)))
 requested w journal (generations job) = refusing NotHeld
 requested w journal snapshot = snapshotting (w .settings) (w .next) (w .seen) (w .shown)
 requested w journal (release v job rival) =
-    gated (gateBy w journal v false job) (releasing (w .state) journal (w .booked) (w .votes .signatures) job rival)
+    gated (gateBy w journal v false job) (releasing (w .state) (w .settings .version) journal (w .booked) (w .votes .signatures) job rival)
 
 abbrev pub decidedBy : View → List ℕ → Command → Decision
 decidedBy w journal (request q) = requested w journal q
@@ -65,11 +65,11 @@ decidedBy w journal unreadable = refusing Unreadable
 -- kind 8, which looks at all vaults
 abbrev pub surveyed : Books → List ℕ → List ℕ → ℕ → Decision
 surveyed a order journal job =
-    gated (bookedOr (isBooked journal (a .booked) job))
-    (ageing (isHeld (a .settings) (a .vaults) job) (ageIn (jobAt journal (a .booked)) order (a .arrivals) job))
+    gated (bookedOr (isBooked (a .settings .version) journal (a .booked) job))
+    (ageing (isHeld (a .settings) (a .vaults) job) (ageIn (jobAt (a .settings .version) journal (a .booked)) order (a .arrivals) job))
 
 -- its answer, and a memo that stays right
 pub record Answered (a : Books) (order journal memo : List ℕ) (job : ℕ) (o : Outcome) : Type 0 where
   pub outcome : o ≡ surveyed a order journal job .outcome
-  pub right : Memo (jobAt journal (a .booked)) order (a .arrivals) memo
+  pub right : Memo (jobAt (a .settings .version) journal (a .booked)) order (a .arrivals) memo
   pub size : length memo ≡ capacity

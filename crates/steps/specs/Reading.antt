@@ -44,11 +44,11 @@ isWide Snapshot = false
 isWide Release = false
 isWide Unknown = false
 
-abbrev pub rowOf : Kind → Operation
-rowOf k = record { kind = k; size = bodySize k; form = formOf k; wide = isWide k }
+abbrev pub rowOf : ℕ → Kind → Operation
+rowOf version k = record { kind = k; size = bodySize version k; form = formOf k; wide = isWide k }
 
-unfoldable pub operationOf : ℕ → Operation
-operationOf b = rowOf (kindOf b)
+unfoldable pub operationOf : ℕ → ℕ → Operation
+operationOf version b = rowOf version (kindOf b)
 
 -- nothing that can be read
 abbrev pub unread : List ℕ → ℕ → ℕ → Step
@@ -66,20 +66,20 @@ formed OfVault o input number at end = naming o number (getD input at 0) (getD i
 formed Unreadable o input number at end = unread input number at
 
 -- the vault and the job of a step are those that its command names
-pub record Asked (input : List ℕ) (s : Step) : Type 0 where
+pub record Asked (version : ℕ) (input : List ℕ) (s : Step) : Type 0 where
   pub few : s .at ≤ longest
-  pub vault-is : s .vault ≡ vaultOf (commandIn (s .kind) input (s .at))
-  pub job-is : s .job ≡ jobOf (commandIn (s .kind) input (s .at))
+  pub vault-is : s .vault ≡ vaultOf (commandIn version (s .kind) input (s .at))
+  pub job-is : s .job ≡ jobOf (commandIn version (s .kind) input (s .at))
   -- a record is all there
-  pub whole : s .kind ≡ Propose → s .at + recordSize ≤ length input
+  pub whole : s .kind ≡ Propose → s .at + recordSize version ≤ length input
 
 -- the step that stands at pos, with its number
-pub record Read (input : List ℕ) (pos number : ℕ) (s : Step) : Type 0 where
+pub record Read (version : ℕ) (input : List ℕ) (pos number : ℕ) (s : Step) : Type 0 where
   pub number-is : s .number ≡ number
-  pub kind-is : s .kind ≡ kindAt input pos
+  pub kind-is : s .kind ≡ kindAt version input pos
   pub wide-is : s .wide ≡ isWide (s .kind)
   pub at-is : s .at ≡ pos + 1
-  pub asked : Asked input s
-  pub end-is : s .end ≡ nextAt input pos
+  pub asked : Asked version input s
+  pub end-is : s .end ≡ nextAt version input pos
   pub onward : pos < s .end
   pub inside : s .end ≤ length input

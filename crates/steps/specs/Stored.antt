@@ -17,6 +17,6 @@ bookedAfter (Release state) n = n
 bookedAfter (Record column) n = n
 bookedAfter (See seen) n = n
 
-pub record Stored (change : Change) (booked : ℕ) (journal bytes journal′ numbers′ sets′ records′ : List ℕ) : Type 0 where
-  pub written : journal′ ≡ journalWith change booked journal bytes
-  pub indexed : Indexed journal′ (bookedAfter change booked) numbers′ sets′ records′
+pub record Stored (change : Change) (booked version : ℕ) (journal bytes journal′ numbers′ sets′ records′ : List ℕ) : Type 0 where
+  pub written : journal′ ≡ journalWith change booked version journal bytes
+  pub indexed : Indexed version journal′ (bookedAfter change booked) numbers′ sets′ records′

@@ -27,20 +27,20 @@ pub record Said (number : ℕ) (d : Decision) (out : List ℕ) (at : ℕ) (out�
 
 -- what a step decides that was read
 abbrev pub decisionAt : View → List ℕ → List ℕ → Step → Decision
-decisionAt w journal input s = decidedBy w journal (commandIn (s .kind) input (s .at))
+decisionAt w journal input s = decidedBy w journal (commandIn (w .settings .version) (s .kind) input (s .at))
 
 -- the record that follows its kind
-abbrev pub recordIn : List ℕ → Step → List ℕ
-recordIn input s = take recordSize (drop (s .at) input)
+abbrev pub recordIn : ℕ → List ℕ → Step → List ℕ
+recordIn version input s = take (recordSize version) (drop (s .at) input)
 
 pub record CarriedOut (input : List ℕ) (s : Step) (w : View) (at : ℕ) (journal out : List ℕ) (r : Told)
     (journal′ numbers′ sets′ records′ out′ : List ℕ) : Type 0 where
   pub change-is : r .change ≡ decisionAt w journal input s .change
   pub said : Said (s .number) (decisionAt w journal input s) out at out′ (r .at)
-  pub stored : Stored (r .change) (w .booked) journal (recordIn input s) journal′ numbers′ sets′ records′
+  pub stored : Stored (r .change) (w .booked) (w .settings .version) journal (recordIn (w .settings .version) input s) journal′ numbers′ sets′ records′
 
 -- a step that looks at all vaults: nothing changes but the memo, which stays right
 pub record Surveyed (a : Books) (s : Step) (at : ℕ) (order journal out memo′ out′ : List ℕ) (r : ℕ) : Type 0 where
   pub said : Said (s .number) (surveyed a order journal (s .job)) out at out′ r
-  pub right : Memo (jobAt journal (a .booked)) order (a .arrivals) memo′
+  pub right : Memo (jobAt (a .settings .version) journal (a .booked)) order (a .arrivals) memo′
   pub size : length memo′ ≡ capacity

@@ -11,7 +11,6 @@ use crate::Books;
 use crate::Step;
 use crate::View;
 use crate::reading;
-use codec::RECORD;
 use ledger::Change;
 use ledger::Decision;
 use outcome::Outcome;
@@ -21,10 +20,10 @@ use runfile::Kind;
 use vaults::Column;
 
 // Check 4.
-fn booked_or(booked: usize, journal: &[u8], job: usize) -> Verdict
-    ensures { λ r. ⌜ r ≡ bookedOr (isBooked (now (journal .entry)) booked job) ⌝ }
+fn booked_or(version: u16, booked: usize, journal: &[u8], job: usize) -> Verdict
+    ensures { λ r. ⌜ r ≡ bookedOr (isBooked version (now (journal .entry)) booked job) ⌝ }
 {
-    if journal::is_booked(journal, booked, job) {
+    if journal::is_booked(version, journal, booked, job) {
         return Verdict::Pass;
     }
     Verdict::Fail(Refusal::NotBooked)
@@ -35,8 +34,9 @@ impl View {
     fn gate(self, journal: &[u8], vault: u8, faulty: bool, job: usize) -> Verdict
         ensures { λ r. ⌜ r ≡ gateBy self (now (journal .entry)) vault faulty job ⌝ }
     {
-        let known = journal::is_booked(journal, self.booked, job);
-        decisions::gate(self.settings, vault, faulty, known)
+        let settings = self.settings;
+        let known = journal::is_booked(settings.version, journal, self.booked, job);
+        decisions::gate(settings, vault, faulty, known)
     }
 }
 
@@ -50,23 +50,33 @@ pub(crate) fn decide(
     journal: &[u8],
     input: &[u8],
 ) -> Decision
-    requires { ⌜ Asked (now input) step × Indexed (now journal) (view .booked) (now numbers) (now sets) (now records) ⌝ }
-    ensures { λ r. ⌜ r ≡ decidedBy view (now (journal .entry)) (commandIn (step .kind) (now (input .entry)) (step .at)) ⌝ }
+    requires { ⌜ Asked (view .settings .version) (now input) step
+        × Indexed (view .settings .version) (now journal) (view .booked) (now numbers) (now sets) (now records) ⌝ }
+    ensures { λ r. ⌜ r ≡ decidedBy view (now (journal .entry)) (commandIn (view .settings .version) (step .kind) (now (input .entry)) (step .at)) ⌝ }
 {
     let kind = step.kind;
     let vault = step.vault;
     let at = step.at;
     let j = step.job as usize;
     let votes = view.votes;
+    let version = view.settings.version;
+    let booked = view.booked;
     match kind {
-        Kind::Propose => decisions::propose(records, journal, view.booked, &input[at..at + RECORD]),
+        Kind::Propose => decisions::propose(
+            records,
+            version,
+            journal,
+            booked,
+            reading::record_at(version, input, at),
+        ),
         Kind::Preflight => decisions::preflight(
             view.gate(journal, vault, false, j),
             view.state,
             numbers,
             sets,
+            version,
             journal,
-            view.booked,
+            booked,
             votes.signatures,
             vault,
             j,
@@ -92,7 +102,7 @@ pub(crate) fn decide(
             Column::Acknowledgements,
             vault,
         ),
-        Kind::Show => decisions::show(booked_or(view.booked, journal, j), view.settings, votes),
+        Kind::Show => decisions::show(booked_or(version, booked, journal, j), view.settings, votes),
         Kind::Draw => Decision {
             outcome: draw::draw(view.settings, step.job),
             change: Change::Nothing,
@@ -104,6 +114,7 @@ pub(crate) fn decide(
             view.state,
             numbers,
             sets,
+            version,
             journal,
             view.booked,
             votes.signatures,
@@ -125,14 +136,15 @@ pub(crate) fn age(
     job: u8,
 ) -> Outcome
     requires { ⌜ (books .settings .n ≤ 16)
-        × Ready (now journal) (books .booked) (now numbers) (now sets) (now order) (books .arrivals) (now memo) ⌝ }
+        × Ready (books .settings .version) (now journal) (books .booked) (now numbers) (now sets) (now order) (books .arrivals) (now memo) ⌝ }
     ensures { λ r. ⌜ Answered books (now (order .entry)) (now (journal .entry)) (now (memo .exit)) job r ⌝ }
 {
     let j = job as usize;
-    if journal::is_booked(journal, books.booked, j) {
+    let settings = books.settings;
+    if journal::is_booked(settings.version, journal, books.booked, j) {
         let vaults = books.vaults;
         return decisions::generations(
-            books.settings,
+            settings,
             vaults,
             order,
             books.arrivals,

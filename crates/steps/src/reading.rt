@@ -1,14 +1,14 @@
 // A step as it stands in the file.
 ghost use mathlib.Core.Path.{_≡_};
 ghost use Prim.Native.Nat.{_+_, _<_, _≤_};
-ghost use lib.ListN.{getD, length};
+ghost use lib.ListN.{drop, getD, length, take};
+ghost use Rattle.codec.specs.Codec.{recordSize};
 ghost use Rattle.runfile.specs.Run.{longest};
 ghost use Rattle.runfile.specs.Steps.{wordAt};
 ghost use Rattle.steps.specs.Reading.{Read, formed, operationOf, unread};
 use crate::Form;
 use crate::Operation;
 use crate::Step;
-use codec::RECORD;
 use runfile::Kind;
 
 // A byte is below 256.
@@ -36,6 +36,15 @@ pub fn word_at(input: &[u8], at: usize) -> u16
     wide(byte_at(input, at)) + 256 * wide(byte_at(input, at + 1))
 }
 
+// The record that starts at `at`, which is all there.
+pub(crate) fn record_at(version: u16, input: &[u8], at: usize) -> &[u8]
+    requires { ⌜ (at ≤ longest) × (at + recordSize version ≤ length (now input)) ⌝ }
+    ensures { λ r. ⌜ now r ≡ take (recordSize version) (drop at (now (input .entry))) ⌝ }
+{
+    let end = at + codec::record_size(version);
+    &input[at..end]
+}
+
 fn row(kind: Kind, size: usize, form: Form, wide: bool) -> Operation
     ensures { λ r. ⌜ r ≡ record { kind = kind; size = size; form = form; wide = wide } ⌝ }
 {
@@ -48,11 +57,16 @@ fn row(kind: Kind, size: usize, form: Form, wide: bool) -> Operation
 }
 
 // The one match over kind bytes.
-fn operation_of(byte: u8) -> Operation
-    ensures { λ r. ⌜ r ≡ operationOf byte ⌝ }
+fn operation_of(version: u16, byte: u8) -> Operation
+    ensures { λ r. ⌜ r ≡ operationOf version byte ⌝ }
 {
     match byte {
-        1 => row(Kind::Propose, RECORD, Form::Bare, false),
+        1 => row(
+            Kind::Propose,
+            codec::record_size(version),
+            Form::Bare,
+            false,
+        ),
         2 => row(Kind::Preflight, 2, Form::OfVault, false),
         3 => row(Kind::Commit, 4, Form::OfVault, false),
         4 => row(Kind::FaultySign, 2, Form::OfVault, false),
@@ -124,11 +138,11 @@ impl Operation {
 }
 
 // The step that stands at `pos`, with this number: nothing that can be read, where the kind is unknown or the body is cut short.
-pub fn step_at(input: &[u8], pos: usize, number: u32) -> Step
+pub fn step_at(version: u16, input: &[u8], pos: usize, number: u32) -> Step
     requires { ⌜ (pos < length (now input)) × (length (now input) ≤ longest) ⌝ }
-    ensures { λ r. ⌜ Read (now (input .entry)) pos number r ⌝ }
+    ensures { λ r. ⌜ Read version (now (input .entry)) pos number r ⌝ }
 {
-    let operation = operation_of(input[pos]);
+    let operation = operation_of(version, input[pos]);
     let at = pos + 1;
     let end = at + operation.size;
     if end <= input.len() {

@@ -6,7 +6,7 @@ ghost use Rattle.index.specs.Index.{Indexed};
 ghost use Rattle.ledger.specs.Given.{Writable};
 ghost use Rattle.runfile.specs.Run.{longest};
 ghost use Rattle.steps.specs.Stored.{Stored};
-use codec::RECORD;
+use crate::reading;
 use ledger::Change;
 
 pub(crate) fn store(
@@ -14,26 +14,28 @@ pub(crate) fn store(
     numbers: &mut [u16],
     sets: &mut [u64],
     records: &mut [u16],
+    version: u16,
     journal: &mut [u8],
     booked: usize,
     input: &[u8],
     at: usize,
 )
-    requires { ⌜ Writable change booked (now journal) (take recordSize (drop at (now input)))
-        × Indexed (now journal) booked (now numbers) (now sets) (now records)
+    requires { ⌜ Writable change booked version (now journal) (take (recordSize version) (drop at (now input)))
+        × Indexed version (now journal) booked (now numbers) (now sets) (now records)
         × (at ≤ longest) ⌝ }
-    ensures { λ _. ⌜ Stored change booked (now (journal .entry)) (take recordSize (drop at (now (input .entry))))
+    ensures { λ _. ⌜ Stored change booked version (now (journal .entry)) (take (recordSize version) (drop at (now (input .entry))))
         (now (journal .exit)) (now (numbers .exit)) (now (sets .exit)) (now (records .exit)) ⌝ }
 {
     if books::is_book(change) {
-        let bytes = &input[at..at + RECORD];
-        journal::put_at(journal, booked, bytes);
+        let bytes = reading::record_at(version, input, at);
+        journal::put_at(version, journal, booked, bytes);
         index::enter(
             numbers,
             sets,
             records,
+            version,
             &journal[..],
-            codec::read(bytes),
+            codec::read(version, bytes),
             booked,
         );
         return;

@@ -24,8 +24,8 @@ pub fn carry_out(
     out: &mut [u8],
     at: usize,
 ) -> Told
-    requires { ⌜ Asked (now input) step
-        × Indexed (now journal) (view .booked) (now numbers) (now sets) (now records)
+    requires { ⌜ Asked (view .settings .version) (now input) step
+        × Indexed (view .settings .version) (now journal) (view .booked) (now numbers) (now sets) (now records)
         × (step .number < 1000000)
         × (at + longestText ≤ length (now out)) ⌝ }
     ensures { λ r. ⌜ CarriedOut (now (input .entry)) step view at (now (journal .entry)) (now (out .entry)) r
@@ -43,11 +43,13 @@ pub fn carry_out(
     let change = decision.change;
     let outcome = decision.outcome;
     let end = text::write_line(out, at, step.number, outcome);
+    let settings = view.settings;
     storing::store(
         change,
         numbers,
         sets,
         records,
+        settings.version,
         journal,
         view.booked,
         input,
@@ -69,7 +71,7 @@ pub fn survey(
     at: usize,
 ) -> usize
     requires { ⌜ (books .settings .n ≤ 16)
-        × Ready (now journal) (books .booked) (now numbers) (now sets) (now order) (books .arrivals) (now memo)
+        × Ready (books .settings .version) (now journal) (books .booked) (now numbers) (now sets) (now order) (books .arrivals) (now memo)
         × (step .number < 1000000)
         × (at + longestText ≤ length (now out)) ⌝ }
     ensures { λ r. ⌜ Surveyed books step at (now (order .entry)) (now (journal .entry)) (now (out .entry))

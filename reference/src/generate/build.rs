@@ -5,9 +5,9 @@ use crate::random::Random;
 use crate::record::{Bytes, Label, Medium, Tape};
 use crate::refusal::Answer;
 use crate::settings::{Settings, MOST_VAULTS};
-use crate::step::Step;
+use crate::step::{decode, Step};
 use crate::watch::along_arrival;
-use crate::write::{self, header, set_of};
+use crate::write::{self, header_in, set_of};
 
 pub struct Builder {
     pub random: Random,
@@ -41,23 +41,33 @@ pub fn federation(random: &mut Random) -> (u8, u8, u16) {
 }
 
 impl Builder {
-    pub fn new(random: Random, n: u8, b: u8, faulty: u16) -> Builder {
+    pub fn new(mut random: Random, n: u8, b: u8, faulty: u16) -> Builder {
+        let version = if random.chance(40) { 2 } else { 1 };
         let settings = Settings {
             n: u64::from(n),
             b: u64::from(b),
             faulty,
+            version,
         };
         Builder {
             random,
             engine: Engine::new(settings),
-            bytes: header(n, b, faulty),
+            bytes: header_in(version, n, b, faulty),
             labels: 0,
         }
     }
 
+    /// The ledger takes the step as the file has it.
     pub fn step(&mut self, step: Step) -> Answer {
-        self.bytes.extend(step.encode());
-        self.engine.take(&step)
+        let version = self.version();
+        let bytes = step.encode_in(version);
+        let (written, _) = decode(version, &bytes).expect("a whole step");
+        self.bytes.extend(bytes);
+        self.engine.take(&written)
+    }
+
+    pub fn version(&self) -> u16 {
+        self.engine.settings.version
     }
 
     /// Proposes a record; its number if it was booked.

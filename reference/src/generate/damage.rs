@@ -6,7 +6,8 @@ use super::traffic::{action, look_at_all};
 use super::FAMILIES;
 use crate::random::Random;
 use crate::record::{
-    entry_start, Bytes, Medium, Tape, FIRST_OUTPUT, HEAD_BYTES, LABEL_BYTES, MEDIA, RECORD_BYTES,
+    entry_start, Bytes, Medium, Tape, FIRST_OUTPUT, HEAD_BYTES, LABEL_BYTES, LONG_RECORD_BYTES,
+    MEDIA,
 };
 use crate::settings::HEADER_BYTES;
 use crate::write::migration;
@@ -37,7 +38,7 @@ pub fn damaged_record(builder: &mut Builder) -> Bytes {
         2 => wrong_count(random, &mut record),
         3 => wrong_frames(random, &mut record),
         4 => wrong_label(random, &mut record),
-        5 => record[random.between(HEAD_BYTES as u64, RECORD_BYTES as u64 - 1) as usize] = 1,
+        5 => record[random.between(HEAD_BYTES as u64, LONG_RECORD_BYTES as u64 - 1) as usize] = 1,
         6 | 7 => equal_labels(random, &mut record),
         8 | 9 => other_media(random, &mut record),
         10 => {
@@ -49,7 +50,7 @@ pub fn damaged_record(builder: &mut Builder) -> Bytes {
             wrong_frames(random, &mut record);
         }
         12 => {
-            let at = random.below(RECORD_BYTES as u64) as usize;
+            let at = random.below(LONG_RECORD_BYTES as u64) as usize;
             record[at] ^= 1 << random.below(8);
         }
         _ => return wide_sums(builder),

@@ -8,7 +8,7 @@ use crate::engine::BOOK_RECORDS;
 use crate::random::Random;
 use crate::record::Bytes;
 use crate::settings::{HEADER_BYTES, LONGEST_FILE, MOST_VAULTS};
-use crate::write::{draw, generations, header, set_of, show};
+use crate::write::{draw, generations, header_in, set_of, show};
 
 /// Two distinct jobs less than the book holds, up to two more; then repeats of the first and of others.
 pub fn full_book(builder: &mut Builder) {
@@ -62,8 +62,10 @@ pub fn settings(random: &mut Random, turn: u64) -> Vec<u8> {
     let inner = Random::new(random.word());
     let mut builder = Builder::new(inner, n, b, faulty);
     traffic(&mut builder);
+    let version = builder.version();
     let mut file = builder.bytes;
-    let mut change = |n, b, faulty| file[..HEADER_BYTES].copy_from_slice(&header(n, b, faulty));
+    let mut change =
+        |n, b, faulty| file[..HEADER_BYTES].copy_from_slice(&header_in(version, n, b, faulty));
     match turn % 13 {
         0 => change(3 * b.max(1), b.max(1), 0),
         1 => change(n, n.div_ceil(3), faulty),
@@ -74,6 +76,7 @@ pub fn settings(random: &mut Random, turn: u64) -> Vec<u8> {
         6 => change(n, b, some_faulty(random, n, b + 1)),
         7 => change(n, b, some_faulty(random, n, b)),
         8 => file[random.below(3) as usize] ^= 1 << random.below(8),
+        9 if random.chance(50) => file[3] = 3,
         9 => file[random.between(3, 4) as usize] ^= 1 << random.below(8),
         10 => change(n, b, random.word() as u16),
         11 => file.truncate(random.between(0, 10) as usize),

@@ -3,7 +3,7 @@
 use super::build::Builder;
 use crate::random::Random;
 use crate::record::{medium, reads, writes, Bytes, Label, Medium, Tape, MEDIA};
-use crate::write::{accession, migration};
+use crate::write::{accession, migration, trimmed};
 
 const MOST: u64 = u32::MAX as u64;
 
@@ -55,7 +55,14 @@ pub fn new_accession(builder: &mut Builder) -> Bytes {
 /// A migration of these tapes to new ones, if a drive reads them all.
 pub fn new_migration(builder: &mut Builder, inputs: &[Tape]) -> Option<Bytes> {
     let drive = drive_for(&mut builder.random, inputs)?;
-    let total: u64 = inputs.iter().map(|tape| tape.frames).sum();
+    let sum: u64 = inputs.iter().map(|tape| tape.frames).sum();
+    // Some of version 2 trim, anything from one frame to all but one.
+    let trims = builder.version() == 2 && sum > 1 && builder.random.chance(50);
+    let cut = match trims {
+        true => builder.random.between(1, (sum - 1).min(MOST)),
+        false => 0,
+    };
+    let total = sum - cut;
     let fewest = total.div_ceil(MOST);
     let count = builder.random.between(fewest, total.min(4));
     let media = media_written(drive);
@@ -66,7 +73,7 @@ pub fn new_migration(builder: &mut Builder, inputs: &[Tape]) -> Option<Bytes> {
         })
         .collect();
     let outputs = share(&mut builder.random, total, &labels);
-    Some(migration(drive, inputs, &outputs))
+    Some(trimmed(migration(drive, inputs, &outputs), cut as u32))
 }
 
 /// Shares the total out among the labels, each between 1 and the most.

@@ -77,7 +77,7 @@ fn any_step(builder: &mut Builder) -> Step {
         low
     };
     let bytes = [kind, first, job, third, high];
-    decode(&bytes)
+    decode(builder.version(), &bytes)
         .expect("all but a proposal have short bodies")
         .0
 }

@@ -26,7 +26,7 @@ loop-again c =
     (omega arith, (l .inv .1 .0, (omega (arith, c .used-frames .ok), rw (c .used-frames .ensures) next)))
 
 returns : tie.Need-returns Inv-loop μ-loop
-returns c = sum-end _ _ _ _ (c .before .loop .i) _ (c .loop-test .left) (c .before .loop .inv .1 .1 .1)
+returns c = let l = c .before .loop in (sum-end _ _ _ _ (l .i) _ (c .loop-test .left) (l .inv .1 .1 .1), omega (arith, l .inv .1 .1 .0))
 
 pub total-spec : {M : Type 1} → statement M
 total-spec =

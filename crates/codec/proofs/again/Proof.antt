@@ -1,6 +1,9 @@
 -- What is written is the record of the job that the bytes say, and that is the bytes.
+use mathlib.Core.Path.{_≡_}
 use native.Mathlib.Omega.{arith}
+use lib.ListN.{length}
 use borrow.Author.Needs.{needs}
+use Rattle.codec.proofs.Jobs.{front-eight}
 use Rattle.codec.proofs.RoundTrip.{same-bytes}
 use Rattle.codec.proofs.again.Statement.{statement}
 use Rattle.codec.proofs.again.Tie as tie
@@ -9,8 +12,8 @@ returns : tie.Need-returns
 returns c =
     let k = c .before .before .before .before .before .before in
     let w = c .before .before in
-    same-bytes _ _ _ _ (k .before .pre .0) (k .before .pre .1) (λ i. omega (arith, k .shared-slice-known .given i))
-    (w .before .before .read .ensures)
+    let q = w .before .before .read .ensures in
+    same-bytes _ _ _ _ _ (front-eight _ _ _ q) (k .before .pre .0) (k .before .pre .1) (λ i. omega (arith, k .shared-slice-known .given i)) q
     (w .write .ensures .1)
 
 pub again-spec : {M : Type 1} → statement M

@@ -1,58 +1,60 @@
--- Each turn stores one entry, and what is stored with what remains is the whole record. A buffer too short is not touched.
-use mathlib.Core.Path.{_∙_, _≡_, refl, sym}
-use Prim.Native.Nat.{_*_, _+_, _-_, _≤_}
+-- The body is stored first, and in version 2 the trimmed frames after it. A buffer too short is not touched.
+use mathlib.Core.Path.{_∙_, _≡_, ap, sym}
 use native.Mathlib.Omega.{arith}
-use lib.ListN.{drop, length, length-set}
-use lib.Seq.{sets}
+use Prim.Native.Nat.{_≤_}
+use lib.ListN.{length}
 use borrow.Author.Needs.{needs}
 use borrow.Author.Tests.{le-leb, lt-leb}
 use denote.Ref.{now}
 use Rattle.record.proofs.Eight.{length-mapped}
-use Rattle.codec.proofs.Jobs.{write-done, write-step}
+use Rattle.codec.proofs.Jobs.{write-plain, write-trimmed}
+use Rattle.codec.proofs.Sizes.{trimmed-size}
 use Rattle.codec.proofs.write.Statement.{statement}
-use Rattle.codec.specs.Codec.{bytesOf, entriesBytes, fitsRecord, written}
+use Rattle.codec.specs.Codec.{fitsRecord, recordSize, written}
 use Rattle.codec.proofs.write.Tie as tie
 
-abbrev Inv-loop : tie.InvT-loop
-Inv-loop out₀ job i₀ out i =
-    (i ≤ 8)
-    × ((length out ≡ length out₀)
-    × ((100 ≤ length out₀) × (sets out (4 + 12 * i) (entriesBytes (drop i (job .entries))) ≡ sets out₀ 4 (entriesBytes (job .entries)))))
-
-abbrev μ-loop : tie.MeasureT-loop
-μ-loop out₀ job i₀ out i = 8 - i
-
-returns : tie.Need-returns Inv-loop μ-loop
+returns : tie.Need-returns
 unfolding written fitsRecord
-returns c = (sym (lt-leb _ _ (c .if1 .taken)), simp (lt-leb _ _ (c .if1 .taken)))
+returns c =
+    let a = c .before .before .before .args in
+    let short = lt-leb (recordSize (a .version)) (length (now (a .out))) (omega (arith, c .before .record-size .ensures .0, c .if1 .taken)) in
+    (sym short, simp short)
 
-loop-holds : tie.Need-loop-holds Inv-loop μ-loop
-loop-holds c = (omega arith, (refl, (simp length-set (c .if1 .left), refl)))
+-- In what follows b is the place after the body was stored, and f the one after the buffer was found long enough.
+put-number-requires : tie.Need-put-number-requires
+put-number-requires c κs =
+    let b = c .before .before .before .before .before .before in
+    let f = b .before .before in
+    let s = trimmed-size _ (sym (c .before .before .before .says-trimmed .ensures) ∙ c .before .before .if2 .taken) in
+    let room : 104 ≤ length (now (f .before .before .before .args .out)) = omega (arith, s, f .if1 .left, f .before .record-size .ensures .0) in
+    simp (b .put-body .kept .1 .0) (omega (arith, room))
 
-loop-again : tie.Need-loop-again Inv-loop μ-loop
-loop-again c =
-    let l = c .before .before .before .before .before .before .loop in
-    let a = c .before .before .before .before .before .before .before .before .before .args in
-    let p = c .before .before .put-entry in
-    let n : length (a .t1 .entries) ≡ 8 = search length-mapped in
-    (omega arith, (p .kept .0 ∙ l .inv .1 .0, (l .inv .1 .1 .0, rw (p .ensures) (write-step _ _ _ (l .i) (omega arith) ∙ l .inv .1 .1 .1))))
-
-same-length : tie.Need-same-length Inv-loop μ-loop
-same-length c = c .before .loop .inv .1 .0 ∙ simp length-set
-
-returns-2 : tie.Need-returns-2 Inv-loop μ-loop
-unfolding fitsRecord bytesOf
+returns-2 : tie.Need-returns-2
+unfolding fitsRecord
 returns-2 c =
-    let l = c .before .loop in
-    let a = c .before .before .before .before .args in
-    let n : length (a .t1 .entries) ≡ 8 = search length-mapped in (
-      sym (le-leb _ _ (c .before .before .if1 .left)),
-      write-done (now (a .out)) (l .out) (a .t1) (l .i) (c .loop-test .left) n (c .before .before .if1 .left) (l .inv .1 .1 .1),
-    )
+    let given = c .before .before .before .before .before .before .before .before .before .before .before .before .before .before .args in
+    let n : length (given .job .entries) ≡ 8 = search length-mapped in
+    let b = c .before .before .before .before .before .before .before .before .before in
+    let f = b .before .before in
+    let a = f .before .before .before .args in
+    let fits : recordSize (a .version) ≤ length (now (a .out)) = omega (arith, f .before .record-size .ensures .0, f .if1 .left) in
+    let says = sym (c .before .before .before .before .before .before .says-trimmed .ensures) ∙ c .before .before .before .before .before .if2 .taken in
+    (sym (le-leb _ _ fits), write-trimmed (a .version) (now (a .out)) _ _ (a .job) says n fits (b .put-body .ensures) (c .before .before .put-number .ensures))
+
+returns-3 : tie.Need-returns-3
+unfolding fitsRecord
+returns-3 c =
+    let given = c .before .before .before .before .before .before .before .before .before .args in
+    let n : length (given .job .entries) ≡ 8 = search length-mapped in
+    let b = c .before .before .before .before in
+    let f = b .before .before in
+    let a = f .before .before .before .args in
+    let fits : recordSize (a .version) ≤ length (now (a .out)) = omega (arith, f .before .record-size .ensures .0, f .if1 .left) in
+    let says = sym (c .before .says-trimmed .ensures) ∙ c .if2 .left in
+    (sym (le-leb _ _ fits), write-plain (a .version) (now (a .out)) _ (a .job) says n fits (b .put-body .ensures))
 
 pub write-spec : {M : Type 1} → statement M
 write-spec =
     tie.close
-    (tie.spec Inv-loop μ-loop returns (λ c. search needs) (λ c. simp length-set (omega arith)) (λ c. simp length-set (omega arith))
-    (λ c. simp length-set (omega arith)) loop-holds (λ c. search needs) (λ c. search needs) (λ c. search needs) (λ c. search needs)
-    (λ c κs. search needs) (λ c. search needs) (λ c. search needs) loop-again same-length returns-2)
+    (tie.spec (λ c κs. search needs) returns (λ c κs. search needs) (λ c κs. search needs) (λ c. search needs) put-number-requires
+    (λ c. search needs) returns-2 (λ c. search needs) returns-3)

@@ -13,7 +13,7 @@ use Rattle.custody.proofs.carry_out.Tie as tie
 record Turn (input : List ℕ) (progress : Progress) (memo journal numbers sets records out : List ℕ) : Type 0 where
   going : progress .pos < length input → Going input progress journal numbers sets records memo
   memo-size : length memo ≡ 128
-  journal-size : length journal ≡ 12800
+  journal-size : length journal ≡ 13312
   numbers-size : length numbers ≡ 4093
   sets-size : length sets ≡ 6144
   records-size : length records ≡ 1149

@@ -10,20 +10,20 @@ use mathlib.Core.Path.{_≡_}
 use native.Mathlib.Omega.{arith}
 
 -- what lies inside is booked
-inside-booked : (journal : List ℕ) (booked n : ℕ) → n ≡ insideOf journal booked → n ≤ booked
+inside-booked : (version : ℕ) (journal : List ℕ) (booked n : ℕ) → n ≡ insideOf version journal booked → n ≤ booked
 unfolding insideOf
-inside-booked journal booked n e = omega arith
+inside-booked version journal booked n e = omega arith
 
 -- the index is that of what lies inside
-searched : (journal : List ℕ) (booked n : ℕ) (records : List ℕ) → n ≡ insideOf journal booked
-    → IndexedRecords journal (insideOf journal booked) records → IndexedRecords journal n records
-searched journal booked n records e i = rw e i
+searched : (version : ℕ) (journal : List ℕ) (booked n : ℕ) (records : List ℕ) → n ≡ insideOf version journal booked
+    → IndexedRecords version journal (insideOf version journal booked) records → IndexedRecords version journal n records
+searched version journal booked n records e i = rw e i
 
 find-requires : tie.Need-find-requires
-find-requires c κs = (c .before .before .before .before .pre .0, searched _ _ _ _ (c .inside .ensures) (c .before .before .before .before .pre .1 .indexed))
+find-requires c κs = (c .before .before .before .before .pre .0, searched _ _ _ _ _ (c .inside .ensures) (c .before .before .before .before .pre .1 .indexed))
 
 place-requires : tie.Need-place-requires
-place-requires c κs = (c .before .before .before .before .before .before .pre .1 .few, inside-booked _ _ _ (c .before .before .inside .ensures))
+place-requires c κs = (c .before .before .before .before .before .before .pre .1 .few, inside-booked _ _ _ _ (c .before .before .inside .ensures))
 
 returns : tie.Need-returns
 unfolding settling equalIn

@@ -12,7 +12,7 @@ use borrow.Fn.Kinds.{In}
 use borrow.Fn.PlainCycle.{Measures, and, falls, is}
 use Rattle.record.specs.declared.Job.{Job}
 use Rattle.journal.specs.Journal.{jobAt}
-use Rattle.index.proofs.Inside.{slot-booked}
+use Rattle.index.proofs.Inside.{room-at, slot-booked}
 use Rattle.index.proofs.makers.Reads as makers-reads
 use Rattle.generations.proofs.Ages.{generation-le, input-from, input-new, input-used, most-end, most-le, most-more, most-start}
 use Rattle.generations.proofs.Creators.{creator-first, creator-is, inputs-le, past-none, tables-here}
@@ -33,10 +33,10 @@ use Rattle.generations.specs.Generations.{along, highest}
 use Rattle.generations.specs.Memo.{Memo, fromInput, inputsOf}
 
 abbrev μ-generation : Measures 5 generation-kinds.ps ℕ
-μ-generation κs a = 2 * a .1 .1 .1 .1 .1 .1 .0 + 1
+μ-generation κs a = 2 * a .1 .1 .1 .1 .1 .1 .1 .0 + 1
 
 abbrev μ-parent : Measures 5 parent-kinds.ps ℕ
-μ-parent κs a = 2 * a .1 .1 .1 .1 .1 .1 .0
+μ-parent κs a = 2 * a .1 .1 .1 .1 .1 .1 .1 .0
 
 abbrev generation-at : ℕ → In 5 generation-kinds.ps
 generation-at t = and 5 generation-kinds.ps (is 5 generation-kinds.ps μ-generation t) generation.Pre
@@ -59,11 +59,11 @@ record Turn (job : ℕ → Job) (order : List ℕ) (len p k count : ℕ) (memo :
   is : most ≡ highest i (fromInput job (along order) p)
 
 abbrev generation-Inv-loop : generation-lts.InvT-loop
-generation-Inv-loop journal booked numbers sets order memo₀ p job known count most₀ i₀ memo most i =
-    Turn (jobAt journal booked) order (length memo₀) p job count memo most i
+generation-Inv-loop version journal booked numbers sets order memo₀ p job known count most₀ i₀ memo most i =
+    Turn (jobAt version journal booked) order (length memo₀) p job count memo most i
 
 abbrev generation-μ-loop : generation-lts.MeasureT-loop
-generation-μ-loop journal booked numbers sets order memo₀ p job known count most₀ i₀ memo most i = count - i
+generation-μ-loop version journal booked numbers sets order memo₀ p job known count most₀ i₀ memo most i = count - i
 
 pub +generation+parent-spec : {M : Type 1} → statement M
 +generation+parent-spec =
@@ -87,7 +87,7 @@ pub +generation+parent-spec : {M : Type 1} → statement M
     (λ c κs. search needs)
     (λ c.
     let s = c .before .before .before .before .before .before .before .before in
-    (past-none _ _ (now (s .args .order)) (s .args .p) _ (c .before .wide .ensures .0) (c .if1 .taken), s .pre .1 .0 .right))
+    (past-none _ _ _ (now (s .args .order)) (s .args .p) _ (c .before .wide .ensures .0) (c .if1 .taken), s .pre .1 .0 .right))
     -- it is known
     (λ c. omega arith)
     (λ c. omega arith)
@@ -96,13 +96,14 @@ pub +generation+parent-spec : {M : Type 1} → statement M
     let at = c .before .before .before .wide .ensures .0 in
     (memo-known _ _ _ _ (s .pre .1 .0 .right) _ _ (c .if2 .taken) (rw (sym at) at (s .pre .1 .1)), s .pre .1 .0 .right))
     -- its inputs
-    (λ c κs. omega arith)
+    (λ c κs. let s = c .before .before .before .before .before .before .before .before .before .before in room-at (s .args .version)
+    (now (s .args .journal)) _ _ (s .pre .1 .0 .inside) (c .before .before .if1 .left))
     (λ c.
     let s = c .before .before .before .before .before .before .before .before .before .before .before in
     let below = c .before .before .before .if1 .left in
     record {
       upto = omega arith;
-      counted = c .inputs .ensures ∙ ap inputsOf (slot-booked _ _ _ (s .pre .1 .0 .inside) below);
+      counted = c .inputs .ensures ∙ ap inputsOf (slot-booked _ _ _ _ (s .pre .1 .0 .inside) below);
       same = refl;
       right = s .pre .1 .0 .right;
       is = most-start _ _ _;
@@ -112,7 +113,7 @@ pub +generation+parent-spec : {M : Type 1} → statement M
     let ready = s .pre .1 .0 in
     let l = c .before .before .loop in
     let k = c .before .before .before .before .before .before .before .wide .result in
-    let j = jobAt (now (s .args .journal)) (s .args .booked) k in (
+    let j = jobAt (s .args .version) (now (s .args .journal)) (s .args .booked) k in (
       omega arith,
       (
         record {
@@ -142,7 +143,7 @@ pub +generation+parent-spec : {M : Type 1} → statement M
     record {
       upto = omega arith;
       counted = l .inv .counted;
-      same = p .kept .1 .1 .1 .1 .1 .0 ∙ l .inv .same;
+      same = p .kept .1 .1 .1 .1 .1 .1 .0 ∙ l .inv .same;
       right = p .ensures .1;
       is = most-more _ _ _ _ _ _ _ (l .inv .is) (p .ensures .0) (c .larger .ensures);
     })
@@ -155,7 +156,7 @@ pub +generation+parent-spec : {M : Type 1} → statement M
     let l = c .before .loop in
     let at = c .before .before .before .before .before .before .wide .ensures .0 in
     let done =
-    most-end (jobAt (now (s .args .journal)) (s .args .booked)) (along (now (s .args .order))) (s .args .p) _ _ (l .inv .is)
+    most-end (jobAt (s .args .version) (now (s .args .journal)) (s .args .booked)) (along (now (s .args .order))) (s .args .p) _ _ (l .inv .is)
     (le-antisymm (l .inv .upto) (c .loop-test .left) ∙ rw at at (l .inv .counted)) in (
       done,
       memo-set _ _ _ _ (l .inv .right) _ _ _ (omega arith)
@@ -175,7 +176,7 @@ pub +generation+parent-spec : {M : Type 1} → statement M
     let s = c .before .before .before .before .before in
     let ready = s .pre .1 .0 in
     let input = s .pre .1 .1 in
-    (omega (arith, input .below, ready .few), omega (arith, input .four), tables-here _ _ _ _ [] (ready .few) (ready .inside) (ready .entered)))
+    (omega (arith, input .below, ready .few), omega (arith, input .four), tables-here _ _ _ _ _ [] (ready .few) (ready .inside) (ready .entered)))
     (λ c κs. omega arith)
     (λ c κs.
     let s = c .before .before .before .before .before .before .before .before .before in
@@ -191,7 +192,7 @@ pub +generation+parent-spec : {M : Type 1} → statement M
       s .pre .1 .0 .short,
       s .pre .1 .1 .placed,
       c .before .before .before .before .if1 .taken,
-      generation-le (jobAt (now (s .args .journal)) (s .args .booked)) (along (now (s .args .order))) q,
+      generation-le (jobAt (s .args .version) (now (s .args .journal)) (s .args .booked)) (along (now (s .args .order))) q,
     ))
     (λ c. search needs)
     (λ c.
@@ -201,7 +202,7 @@ pub +generation+parent-spec : {M : Type 1} → statement M
     let input = s .pre .1 .1 in
     let d = c .before .before .before .before .before in
     let made =
-    creator-is _ _ _ _ _ (ready .few) (ready .inside) (ready .entered) _ _ _ _ _ input (d .before .makers .ensures .0) (d .creator .ensures) in
+    creator-is _ _ _ _ _ _ (ready .few) (ready .inside) (ready .entered) _ _ _ _ _ input (d .before .makers .ensures .0) (d .creator .ensures) in
     let from = input-from _ _ _ _ _ (rw (sym (input .at)) at (input .used)) made (c .before .before .before .before .if1 .taken) in
     (omega (arith, g .ensures .0, from), g .ensures .1))
     (λ c.
@@ -210,5 +211,5 @@ pub +generation+parent-spec : {M : Type 1} → statement M
     let input = s .pre .1 .1 in
     let d = c .before in
     let made =
-    creator-is _ _ _ _ _ (ready .few) (ready .inside) (ready .entered) _ _ _ _ _ input (d .before .makers .ensures .0) (d .creator .ensures) in
+    creator-is _ _ _ _ _ _ (ready .few) (ready .inside) (ready .entered) _ _ _ _ _ input (d .before .makers .ensures .0) (d .creator .ensures) in
     (sym (input-new _ _ _ _ _ (rw (sym (input .at)) at (input .used)) made (c .if1 .left)), ready .right)))

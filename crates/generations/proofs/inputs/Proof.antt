@@ -14,16 +14,17 @@ use Rattle.journal.specs.Journal.{slotAt}
 use native.Mathlib.Omega.{arith}
 
 -- by the record that stands there
-counted : (journal part : List ℕ) (k count : ℕ) → part ≡ slotAt journal k → count ≡ jobOf part .inputs → count ≡ slotJob journal k .inputs
-counted journal part k count p e = e ∙ ap (λ (x : Job). x .inputs) (part-job journal part k p)
+counted : (version : ℕ) (journal part : List ℕ) (k count : ℕ) → part ≡ slotAt version journal k → count ≡ jobOf part .inputs
+    → count ≡ slotJob version journal k .inputs
+counted version journal part k count p e = e ∙ ap (λ (x : Job). x .inputs) (part-job version journal part k p)
 
 returns : tie.Need-returns
 unfolding inputsOf
-returns c = let r = c .before .before in omega (arith, c .before .wide .ensures .0, counted _ _ _ _ (r .before .slot .ensures) (r .inputs-of .ensures))
+returns c = let r = c .before .before in omega (arith, c .before .wide .ensures .0, counted _ _ _ _ _ (r .before .slot .ensures) (r .inputs-of .ensures))
 
 returns-2 : tie.Need-returns-2
 unfolding inputsOf
-returns-2 c = let r = c .before .before in omega (arith, c .before .wide .ensures .0, counted _ _ _ _ (r .before .slot .ensures) (r .inputs-of .ensures))
+returns-2 c = let r = c .before .before in omega (arith, c .before .wide .ensures .0, counted _ _ _ _ _ (r .before .slot .ensures) (r .inputs-of .ensures))
 
 pub inputs-spec : {M : Type 1} → statement M
 inputs-spec = tie.close (tie.spec (λ c κs. search needs) (λ c κs. search needs) (λ c κs. search needs) returns returns-2)

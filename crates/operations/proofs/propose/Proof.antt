@@ -13,7 +13,7 @@ propose-requires : tie.Need-propose-requires
 propose-requires c κs = search by
 
 write-requires : tie.Need-write-requires
-write-requires c κs = writes _ _ _ _ (c .before .propose .ensures)
+write-requires c κs = writes _ _ _ _ _ (c .before .propose .ensures)
 
 carry-requires : tie.Need-carry-requires
 carry-requires c κs = search by

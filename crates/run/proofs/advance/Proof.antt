@@ -1,6 +1,6 @@
 -- A turn of the loop is a step of the run (proofs/Turning.antt); the loop ends where nothing is left to read, or where the longest text may not fit.
 use mathlib.Core.List.{List}
-use mathlib.Core.Path.{_≡_}
+use mathlib.Core.Path.{_∙_, _≡_}
 use Prim.Native.Nat.{_-_, ℕ}
 use lib.ListN.{length}
 use borrow.Author.Needs.{needs}
@@ -18,6 +18,20 @@ record Same (memo₀ journal₀ numbers₀ sets₀ records₀ out₀ memo journa
   same-sets : length sets ≡ length sets₀
   same-records : length records ≡ length records₀
   same-out : length out ≡ length out₀
+
+-- and stay so where a step is carried out
+still-same : {memo₀ journal₀ numbers₀ sets₀ records₀ out₀ memo journal numbers sets records out journal′ numbers′ sets′ records′ out′ : List ℕ}
+    → length numbers′ ≡ length numbers → length sets′ ≡ length sets → length records′ ≡ length records → length journal′ ≡ length journal
+    → length out′ ≡ length out → Same memo₀ journal₀ numbers₀ sets₀ records₀ out₀ memo journal numbers sets records out
+    → Same memo₀ journal₀ numbers₀ sets₀ records₀ out₀ memo journal′ numbers′ sets′ records′ out′
+still-same a b c d e s = record {
+  same-memo = s .same-memo;
+  same-journal = d ∙ s .same-journal;
+  same-numbers = a ∙ s .same-numbers;
+  same-sets = b ∙ s .same-sets;
+  same-records = c ∙ s .same-records;
+  same-out = e ∙ s .same-out;
+}
 
 abbrev Inv-loop : tie.InvT-loop
 Inv-loop memo₀ journal₀ numbers₀ sets₀ records₀ input out₀ l₀ pos₀ count₀ at₀ memo journal numbers sets records out l pos count at =
@@ -76,7 +90,8 @@ loop-again-3 c =
       turn-loud (s .before .before .before .loop .inv .0) (s .before .before .loop-test .taken) _ (s .step-at .ensures) (n .if2 .left) _ _ _ _ _ _
           (t .carry-out .ensures) _
           (c .before .before .is-nothing .ensures) (c .before .if3 .left) _ (c .apply .ensures) (s .before .if1 .left) (search needs),
-      search (needs, t .carry-out .kept, s .before .before .before .loop .inv .1),
+      still-same (t .carry-out .kept .1 .1 .0) (t .carry-out .kept .1 .1 .1 .0) (t .carry-out .kept .1 .1 .1 .1 .0) (t .carry-out .kept .1 .1 .1 .1 .1 .0)
+          (t .carry-out .kept .1 .1 .1 .1 .1 .1 .1 .0) (s .before .before .before .loop .inv .1),
     )
 
 pub advance-spec : {M : Type 1} → statement M

@@ -22,16 +22,16 @@ use Rattle.ledger.specs.State.{newLedger}
 use Rattle.ledger.specs.Steps.{newOf}
 use Rattle.ledger.specs.declared.Ledger.{Ledger}
 use Rattle.ledger.specs.declared.Reply.{Reply}
-use Rattle.runfile.specs.Run.{begins, headerSize, journalSize, opened, textFrom}
+use Rattle.runfile.specs.Run.{begins, headerSize, journalSize, opened, textFrom, versionIn}
 use Rattle.runfile.specs.Steps.{wordAt}
 use Rattle.run.specs.Kept.{Kept}
 use Rattle.run.specs.Pieces.{blank, runAt}
 
 -- the new ledger has the header's settings
-began : (input : List ℕ) (s : Settings) → s ≡ opened input .settings → (r : Reply) → r ≡ newOf (s .n) (s .b) (s .faulty) → r .ledger ≡ opened input
+began : (input : List ℕ) (s : Settings) → s ≡ opened input .settings → (r : Reply) → r ≡ newOf (s .n) (s .b) (s .faulty) (s .version) → r .ledger ≡ opened input
 unfolding opened newOf newLedger
 began input s e r q =
-    by-cases (λ b. r .ledger ≡ opened input) (isLawful (record { n = s .n; b = s .b; faulty = s .faulty }))
+    by-cases (λ b. r .ledger ≡ opened input) (isLawful (record { n = s .n; b = s .b; faulty = s .faulty; version = s .version }))
     (λ t. ap (λ (x : Reply). x .ledger) q ∙ simp t (rw e)) (λ t. ap (λ (x : Reply). x .ledger) q ∙ simp t (rw e))
 
 begins-at : (input : List ℕ) (l : Ledger) → l ≡ opened input → runAt l headerSize 0 (blank journalSize) ≡ begins input
@@ -40,7 +40,7 @@ begins-at input l e = rw e
 kept-begun : (input : List ℕ) (l : Ledger) → l ≡ opened input → isLawful (opened input .settings) ≡ true
     → Kept l (blank journalSize) (blank numbersSize) (blank setsSize) (blank recordsSize) (blank capacity)
 unfolding opened newLedger
-kept-begun input l e h = rw e (kept-new (getD input 5 0) (getD input 6 0) (wordAt input 7) h)
+kept-begun input l e h = rw e (kept-new (getD input 5 0) (getD input 6 0) (wordAt input 7) (versionIn input) h)
 
 settings-in-requires : tie.Need-settings-in-requires
 settings-in-requires c κs = open-when _ (sym (c .before .opens .ensures) ∙ c .if1 .taken) .headed

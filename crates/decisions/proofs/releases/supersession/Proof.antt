@@ -9,7 +9,7 @@ is-superseded-requires : tie.Need-is-superseded-requires
 is-superseded-requires c κs =
     let b = c .before .before in
     let p = b .before .before .before .before .before .pre in
-    (p .0, reflect-booked _ _ _ .sound (sym (b .before .is-booked .ensures) ∙ b .if1 .taken) .below, p .1)
+    (p .0, reflect-booked _ _ _ _ .sound (sym (b .before .is-booked .ensures) ∙ b .if1 .taken) .below, p .1)
 
 returns : tie.Need-returns
 unfolding supersession

@@ -1,28 +1,11 @@
--- Each return is one way through the tests of `isLawful`.
-use mathlib.Core.Path.{_∙_, sym}
+-- Each return is one way through the test of `isLawful`.
 use borrow.Author.Needs.{needs}
-use borrow.Author.Tests.{le-leb, lt-ltb, not-false, not-true}
 use Rattle.base.proofs.Tests.{chain}
 use Rattle.federation.proofs.Settings.is_lawful.Statement.{statement}
-use Rattle.federation.specs.Federation.{isLawful}
+use Rattle.federation.specs.Federation.{isLawfulUpTo}
 use Rattle.federation.proofs.Settings.is_lawful.Tie as tie
 
-returns-3 : tie.Need-returns-3
-unfolding isLawful
-returns-3 c =
-    let d = c .before in
-    simp (le-leb _ _ (d .before .before .if1 .left), lt-ltb _ _ (d .before .if2 .left), sym (d .within .ensures) ∙ not-true _ (c .if3 .taken))
-
-returns-4 : tie.Need-returns-4
-unfolding isLawful
-returns-4 c =
-    let d = c .before .before in
-    let within = sym (d .within .ensures) ∙ not-false _ (c .before .if3 .left) in
-    simp (le-leb _ _ (d .before .before .if1 .left), lt-ltb _ _ (d .before .if2 .left), within, c .size .ensures)
-
 pub is-lawful-spec : {M : Type 1} → statement M
-unfolding isLawful
+unfolding isLawfulUpTo
 is-lawful-spec =
-    tie.close
-    (tie.spec (λ c. search needs) (λ c. search chain) (λ c. search needs) (λ c. search needs) (λ c. search chain depth 8)
-    (λ c κs. search needs) returns-3 (λ c κs. search needs) returns-4)
+    tie.close (tie.spec (λ c κs. search needs) (λ c κs. search needs) (λ c. search chain depth 8) (λ c. search chain depth 8))

@@ -10,10 +10,10 @@ use Rattle.index.specs.Places.{slotJob}
 use Rattle.index.proofs.entering.enter_entries.Tie as tie
 
 abbrev Inv-loop : tie.InvT-loop
-Inv-loop numbers₀ sets₀ journal a n e₀ numbers sets e = (e ≤ 8) × Entries (slotJob journal) (8 * n + e) numbers sets
+Inv-loop numbers₀ sets₀ version journal a n e₀ numbers sets e = (e ≤ 8) × Entries (slotJob version journal) (8 * n + e) numbers sets
 
 abbrev μ-loop : tie.MeasureT-loop
-μ-loop numbers₀ sets₀ journal a n e₀ numbers sets e = 8 - e
+μ-loop numbers₀ sets₀ version journal a n e₀ numbers sets e = 8 - e
 
 ruleset by = (entries-begin, entries-on, entries-all, needs)
 

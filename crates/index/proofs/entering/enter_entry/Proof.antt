@@ -1,10 +1,11 @@
 -- An entry that is not used changes nothing.
 use borrow.Author.Needs.{needs}
+use Rattle.index.proofs.Inside.{record-holds}
 use Rattle.index.proofs.Tables.{unused-entry, used-entry}
 use Rattle.index.proofs.entering.enter_entry.Statement.{statement}
 use Rattle.index.proofs.entering.enter_entry.Tie as tie
 
-ruleset by = (used-entry, unused-entry, needs)
+ruleset by = (used-entry, unused-entry, record-holds, needs)
 
 pub enter-entry-spec : {M : Type 1} → statement M
 enter-entry-spec =

@@ -1,12 +1,13 @@
 -- The two numbers of the place are stored and its job is marked at them.
 use native.Mathlib.Omega.{arith}
 use borrow.Author.Needs.{needs}
+use Rattle.index.proofs.Inside.{holds-before}
 use Rattle.index.proofs.Tables.{entries-next, entries-numbered, numbers-size, sets-size}
 use Rattle.index.proofs.entering.enter_used.Statement.{statement}
 use Rattle.index.proofs.entering.enter_used.Tie as tie
 
 numbers-of-requires : tie.Need-numbers-of-requires
-numbers-of-requires c κs = let p = c .before .before .before .before .pre in (search needs, entries-numbered _ _ _ _ (p .2) (omega arith))
+numbers-of-requires c κs = let p = c .before .before .before .before .pre in (holds-before _ _ _ (p .0), entries-numbered _ _ _ _ (p .2) (omega arith))
 
 mark-requires : tie.Need-mark-requires
 mark-requires c κs = (omega arith, omega arith, omega arith, sets-size _ _ _ _ (c .before .before .before .before .before .before .pre .2) (omega arith))

@@ -12,7 +12,7 @@ use Rattle.index.proofs.rivals.conflict.Tie as tie
 conflicts-by-requires : tie.Need-conflicts-by-requires
 conflicts-by-requires c κs =
     let p = c .before .before .before .before .before .before .before .before .pre in
-    (omega (arith, p .0, p .2 .few), indexed-tables _ _ _ _ (p .2))
+    (omega (arith, p .0, p .2 .few), indexed-tables _ _ _ _ _ (p .2))
 
 returns : tie.Need-returns
 returns c =
@@ -21,7 +21,7 @@ returns c =
     let start = counts .before .before .before .before .before in
     let p = start .pre in
     let set = c .before .with .ensures ∙ ap (λ (s : JobSet). jobWith s (start .args .other)) (one .empty .ensures) in
-    conflict-booked _ _ _ _ (p .2) _ _ _ _ _ _ _ (p .0) (p .1) (counts .before .lookup .ensures) (counts .inputs-of .ensures)
+    conflict-booked _ _ _ _ _ (p .2) _ _ _ _ _ _ _ (p .0) (p .1) (counts .before .lookup .ensures) (counts .inputs-of .ensures)
     (one .before .outputs-of .ensures) set (c .conflicts-by .ensures)
 
 pub conflict-spec : {M : Type 1} → statement M

@@ -1,18 +1,26 @@
 -- The loop's invariant is the walk along the bucket's chain, and a place seen on it that has the label.
+use Prim.Native.Nat.{_-_}
+use native.Mathlib.Omega.{arith}
 use borrow.Author.Needs.{needs}
+use Rattle.index.proofs.Inside.{holds-at}
 use Rattle.index.proofs.Seeks.{Look, look-end, look-found, look-less, look-next, look-start}
 use Rattle.index.proofs.seeking.numbers_of.Statement.{statement}
 use Rattle.index.specs.Places.{slotJob}
 use Rattle.index.proofs.seeking.numbers_of.Tie as tie
 
 abbrev Inv-loop : tie.InvT-loop
-Inv-loop journal numbers label frames m seen₀ x₀ seen x = Look (slotJob journal) label frames m x seen
+Inv-loop version journal numbers label frames m seen₀ x₀ seen x = Look (slotJob version journal) label frames m x seen
 
 abbrev μ-loop : tie.MeasureT-loop
-μ-loop journal numbers label frames m seen₀ x₀ seen x = x
+μ-loop version journal numbers label frames m seen₀ x₀ seen x = x
 
 loop-holds : tie.Need-loop-holds Inv-loop μ-loop
 loop-holds c = look-start _ _ _ (c .before .before .before .before .pre .1) _ _ _ _ (c .before .bucket .ensures) (c .number .ensures .0)
+
+entry-at-requires : tie.Need-entry-at-requires Inv-loop μ-loop
+entry-at-requires c κs =
+    let s = c .before .before .before .before .before .before in holds-at _ _ (s .args .m) (c .before .loop .x - 1) (s .pre .0)
+    (omega (arith, c .before .loop .inv .walk .below, c .loop-test .taken))
 
 returns : tie.Need-returns Inv-loop μ-loop
 returns c =
@@ -42,5 +50,5 @@ pub numbers-of-spec : {M : Type 1} → statement M
 numbers-of-spec =
     tie.close
     (tie.spec Inv-loop μ-loop (λ c κs. search needs) (λ c. search needs) (λ c κs. search needs) loop-holds (λ c. search needs)
-    (λ c κs. search needs) (λ c κs. search needs) (λ c κs. search needs) (λ c. search needs) (λ c κs. search needs) returns
+    entry-at-requires (λ c κs. search needs) (λ c κs. search needs) (λ c. search needs) (λ c κs. search needs) returns
     (λ c κs. search needs) (λ c. search needs) (λ c κs. search needs) loop-less loop-again (λ c κs. search needs) returns-2)

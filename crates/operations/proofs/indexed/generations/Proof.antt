@@ -14,8 +14,8 @@ generations-requires c κs =
       record {
         few = i .few;
         inside = i .inside;
-        entered = indexed-entered _ _ _ _
-            (entries-part _ _ _ _ _ i);
+        entered = indexed-entered _ _ _ _ _
+            (entries-part _ _ _ _ _ _ i);
         short = p .1;
         placed = omega arith;
         size = refl;

@@ -6,12 +6,12 @@ use mathlib.Core.Path.{refl}
 
 build-requires : tie.Need-build-requires
 build-requires c κs =
-    let b = buildable _ _ _ (c .before .before .before .before .before .before .pre) (c .before .before .before .inside .ensures) in
+    let b = buildable _ _ _ _ (c .before .before .before .before .before .before .pre) (c .before .before .before .inside .ensures) in
     (b .0, b .1, record { no-numbers = refl; no-sets = refl; no-records = refl })
 
 propose-requires : tie.Need-propose-requires
 propose-requires c κs =
-    searchable _ _ _ _ _ _ (c .before .before .before .before .before .before .before .before .before .before .before .pre)
+    searchable _ _ _ _ _ _ _ (c .before .before .before .before .before .before .before .before .before .before .before .pre)
     (c .before .before .before .before .before .before .before .before .inside .ensures) (c .before .before .before .before .build .ensures)
 
 pub propose-spec : {M : Type 1} → statement M

@@ -1,4 +1,6 @@
 -- Each return is one way through the tests.
+use mathlib.Core.Bool.{Bool, _&&_, true}
+use mathlib.Core.Path.{_≡_, sym}
 use borrow.Author.Needs.{needs}
 use borrow.Author.Tests.{eq-eqb, le-leb}
 use Rattle.base.proofs.Tests.{chain}
@@ -6,13 +8,16 @@ use Rattle.run.proofs.header.is_header.Statement.{statement}
 use Rattle.runfile.specs.Run.{isHeader}
 use Rattle.run.proofs.header.is_header.Tie as tie
 
-returns-5 : tie.Need-returns-5
+-- three tests that pass leave the last
+behind : (a b c d : Bool) → a ≡ true → b ≡ true → c ≡ true → (a && (b && (c && d))) ≡ d
+behind a b c d p q r = rw (p, q, r)
+
+returns-4 : tie.Need-returns-4
 unfolding isHeader
-returns-5 c =
-    let t = c .before in
-    let l = t .before .before in
+returns-4 c =
+    let l = c .before in
     let v = l .before .before in
-    simp (le-leb _ _ (v .before .before .if1 .left), eq-eqb _ _ (v .if2 .left), eq-eqb _ _ (l .if3 .left), eq-eqb _ _ (t .if4 .left), c .word-at .ensures)
+    sym (behind _ _ _ _ (le-leb _ _ (v .before .before .if1 .left)) (eq-eqb _ _ (v .if2 .left)) (eq-eqb _ _ (l .if3 .left)))
 
 pub is-header-spec : {M : Type 1} → statement M
 unfolding isHeader
@@ -25,6 +30,4 @@ is-header-spec =
     (λ c. search needs)
     (λ c. search chain depth 8)
     (λ c. search needs)
-    (λ c. search chain depth 8)
-    (λ c κs. search needs)
-    returns-5)
+    returns-4)

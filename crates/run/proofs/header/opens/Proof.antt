@@ -1,5 +1,5 @@
 -- Each return is one way through the tests.
-use Rattle.runfile.specs.Run.{opens}
+use Rattle.runfile.specs.Run.{opensUpTo}
 use Rattle.runfile.proofs.Turns.{header-long}
 use mathlib.Core.Path.{_∙_, sym}
 use borrow.Author.Tests.{le-leb, lt-leb, not-false, not-true}
@@ -8,18 +8,18 @@ use Rattle.run.proofs.header.opens.Statement.{statement}
 use Rattle.run.proofs.header.opens.Tie as tie
 
 returns : tie.Need-returns
-unfolding opens
+unfolding opensUpTo
 returns c = simp (lt-leb _ _ (c .if1 .taken))
 
 returns-2 : tie.Need-returns-2
-unfolding opens
+unfolding opensUpTo
 returns-2 c = simp (le-leb _ _ (c .before .before .if1 .left), sym (c .before .is-header .ensures) ∙ not-true _ (c .if2 .taken))
 
 settings-in-requires : tie.Need-settings-in-requires
 settings-in-requires c κs = header-long _ (sym (c .before .is-header .ensures) ∙ not-false _ (c .if2 .left))
 
 returns-3 : tie.Need-returns-3
-unfolding opens
+unfolding opensUpTo
 returns-3 c =
     let h = c .before .before in
     simp (

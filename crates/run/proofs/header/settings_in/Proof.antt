@@ -8,4 +8,5 @@ use Rattle.run.proofs.header.settings_in.Tie as tie
 pub settings-in-spec : {M : Type 1} → statement M
 unfolding opened newLedger
 settings-in-spec =
-    tie.close (tie.spec (λ c. search needs) (λ c. search needs) (λ c κs. search needs) (λ c. simp (c .word-at .ensures)))
+    tie.close (tie.spec (λ c. search needs) (λ c. search needs) (λ c κs. search needs) (λ c κs. search needs)
+    (λ c. simp (c .before .word-at .ensures, c .word-at2 .ensures)))

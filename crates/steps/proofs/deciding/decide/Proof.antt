@@ -1,3 +1,4 @@
+-- Each arm is its command's (proofs/Arms.antt).
 use Rattle.steps.proofs.Arms.{arms}
 use Rattle.steps.proofs.deciding.decide.Statement.{statement}
 use Rattle.steps.proofs.deciding.decide.Tie as tie
@@ -11,10 +12,7 @@ decide-spec =
     (tie.spec
     (λ c. search by)
     (λ c. search by)
-    (λ c. search by)
-    (λ c. search by)
-    (λ c. search by)
-    (λ c. search by)
+    (λ c κs. search by)
     (λ c κs. search by)
     (λ c. search by)
     (λ c κs. search by)

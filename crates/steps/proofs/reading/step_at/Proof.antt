@@ -1,3 +1,4 @@
+use Rattle.codec.proofs.Sizes.{size-most}
 use Rattle.steps.proofs.Rows.{rows, size-small}
 use Rattle.steps.proofs.reading.step_at.Statement.{statement}
 use Rattle.steps.proofs.reading.step_at.Tie as tie
@@ -8,7 +9,7 @@ ruleset by = (rows, needs)
 
 -- no body is longer than a record
 add-end : tie.Need-add-end
-add-end c = omega (arith, size-small _ _ (c .before .operation-of .ensures))
+add-end c = omega (arith, size-most (c .before .before .before .before .args .version), size-small _ _ _ (c .before .operation-of .ensures))
 
 pub step-at-spec : {M : Type 1} → statement M
 step-at-spec =

@@ -1,3 +1,4 @@
+-- A new record is put and entered, and no other change touches the journal (proofs/Records.antt).
 use Rattle.steps.proofs.Records.{records-laws}
 use Rattle.steps.proofs.storing.store.Statement.{statement}
 use Rattle.steps.proofs.storing.store.Tie as tie
@@ -10,10 +11,7 @@ store-spec =
     tie.close
     (tie.spec
     (λ c κs. search by)
-    (λ c. search by)
-    (λ c. search by)
-    (λ c. search by)
-    (λ c. search by)
+    (λ c κs. search by)
     (λ c κs. search by)
     (λ c κs. search by)
     (λ c κs. search by)
