@@ -45,7 +45,7 @@ use Rattle.record.specs.declared.Entry.{Entry}
 use Rattle.record.specs.declared.Job.{Job}
 use Rattle.ledger.proofs.Gates.{passed-rest}
 use Rattle.ledger.specs.Demand3.{OneCreator, accessionedAlong, madeAlong, retire, standingAlong, standingFrom, trimmedAlong}
-use Rattle.ledger.specs.Register.{Register, accessionOf, entering, isAdmissible, passes, tabled, taking, withoutInputs}
+use Rattle.ledger.specs.Register.{Register, accessionOf, entering, isAdmissible, newRegister, passes, tabled, taking, withoutInputs}
 
 -- ---- what admissible means
 pub record CanTake (r : Register) (bytes : List ℕ) : Type 0 where
@@ -132,6 +132,23 @@ pub record Books (r : Register) : Type 0 where
   pub marks : r .made ≡ madeAlong (tabled (r .table)) (r .taken)
   pub mints : r .accessioned ≡ accessionedAlong (tabled (r .table)) (r .taken)
   pub frames : framesIn (r .standing) + trimmedAlong (tabled (r .table)) (r .taken) ≡ r .accessioned
+
+-- ---- the empty register
+pub books-new : (version : ℕ) → Books (newRegister version)
+books-new version = record {
+  known = λ k m. absurd m;
+  stands = λ k t m. absurd m;
+  stands-by = λ t m. absurd m;
+  made-by = λ x m. absurd m;
+  made-all = λ k x m. absurd m;
+  makers-once = λ i k x m. absurd m;
+  creators = λ k m. absurd m;
+  once = tt;
+  along = refl;
+  marks = refl;
+  mints = refl;
+  frames = refl;
+}
 
 -- ---- a job is taken
 module _ (r : Register) (k : ℕ) (b : Books r) (h : k < length (r .table)) (a : CanTake r (getD (r .table) k [])) where

@@ -25,6 +25,7 @@ use Rattle.sets.proofs.Jobs.{has-no-jobs}
 use Rattle.sets.specs.Bits.{hasBit}
 use Rattle.sets.specs.Jobs.{jobHas, noJobs}
 use Rattle.sets.specs.declared.job_set.JobSet.{JobSet}
+use Rattle.ledger.proofs.Account.{books-new}
 use Rattle.ledger.proofs.Changes.{Change, appends, changes, holds, idle, nothing, releases, sees, shape-sane, signs, votes}
 use Rattle.ledger.proofs.Effects.{hold-settings}
 use Rattle.ledger.proofs.Gates.{reflect-sane}
@@ -142,20 +143,7 @@ module _ (n b faulty version : ℕ) where
     };
     version = refl;
     fit = λ x m. absurd m;
-    books = record {
-      known = λ k m. absurd m;
-      stands = λ k t m. absurd m;
-      stands-by = λ t m. absurd m;
-      made-by = λ x m. absurd m;
-      made-all = λ k x m. absurd m;
-      makers-once = λ i k x m. absurd m;
-      creators = λ k m. absurd m;
-      once = tt;
-      along = refl;
-      marks = refl;
-      mints = refl;
-      frames = refl;
-    };
+    books = books-new version;
     running = refl;
     table = refl;
     unique = tt;

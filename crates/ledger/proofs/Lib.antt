@@ -9,9 +9,11 @@ pub mod Example
 pub mod Gates
 pub mod Growth
 pub mod Holders
+pub mod Independence
 pub mod Invariant
 pub mod Lending
 pub mod Meaning
+pub mod OneLabel
 pub mod Paper
 pub mod Places
 pub mod Refusals

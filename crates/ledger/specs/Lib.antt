@@ -5,6 +5,7 @@ pub mod Given
 pub mod Graph
 pub mod Growth
 pub mod Holders
+pub mod Independence
 pub mod Meaning
 pub mod Register
 pub mod Rounds
