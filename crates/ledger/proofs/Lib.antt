@@ -16,6 +16,7 @@ pub mod Meaning
 pub mod Paper
 pub mod Places
 pub mod Ready
+pub mod ReadyExample
 pub mod Refusals
 pub mod Releases
 pub mod Rivals
