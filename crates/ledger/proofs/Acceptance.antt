@@ -37,7 +37,6 @@ use Rattle.ledger.proofs.Invariant.{Inv}
 use Rattle.ledger.proofs.Lending.{records-length, records-snoc}
 use Rattle.ledger.proofs.Places.{examined-length}
 use Rattle.ledger.proofs.Views.{ackedAt, heldAt, recordedAt, signedAt, voted-added, votedAt}
-use Rattle.ledger.specs.Demand2.{Signs}
 use Rattle.ledger.specs.Demand3.{Apart, bookedJob, recordsIn}
 use Rattle.ledger.specs.Graph.{Algorithm1, Lister}
 use Rattle.ledger.specs.Ready.{Spares}
@@ -256,8 +255,8 @@ module _ {w : World} {r : Register} (i : Inv w r) (e : Event) (s j v : ℕ) (boo
   abbrev Over : World → Job → Type 0
   Over u = Algorithm1 (bookedJob u) (u .ledger .booked) (vaultAt (u .ledger) v .held) (jobWithout (vaultAt (u .ledger) v .signed) j)
 
-  algorithm-lasts : Over w (bookedJob w j) → Over w′ (bookedJob w j)
-  algorithm-lasts a =
+  still-allowed : Over w (bookedJob w j) → Over w′ (bookedJob w j)
+  still-allowed a =
       let here = a .admissible in
       record {
         admissible = record {
@@ -283,8 +282,11 @@ module _ {w : World} {r : Register} (i : Inv w r) (e : Event) (s j v : ℕ) (boo
         unmarked-outputs = λ x m y. a .unmarked-outputs x m (maker old-signed x m y);
       }
 
-  pub lasts : Signs w v j → Signs w′ v j
+  -- a job that is signed there stays signed
+  pub signed-lasts : jobHas (vaultAt before v .signed) j ≡ true → jobHas (vaultAt later v .signed) j ≡ true
   unfolding signedAt
-  lasts =
-      ⊎-elim (λ t. inl (at-vault .still t))
-      (λ a. inr (subst (Over w′) (sym (grown .jobs j booked)) (algorithm-lasts a)))
+  signed-lasts = at-vault .still
+
+  -- and one that Algorithm 1 signs it goes on signing
+  pub algorithm-lasts : Over w (bookedJob w j) → Over w′ (bookedJob w′ j)
+  algorithm-lasts a = subst (Over w′) (sym (grown .jobs j booked)) (still-allowed a)

@@ -10,33 +10,36 @@ use native.Mathlib.Omega.{arith}
 use lib.Count.{ones}
 use lib.ListN.{length}
 use lib.Dec.{eqb}
-use borrow.Author.Tests.{eqb-false, eqb-true, le-leb}
+use borrow.Author.Tests.{eqb-false, eqb-true, le-leb, ltb-true}
 use Rattle.base.proofs.Members.{in-map}
 use Rattle.base.proofs.Reflect.{by-test}
 use Rattle.base.specs.Lists.{In}
 use Rattle.outcome.specs.declared.Outcome.the-variants.{Done}
+use Rattle.conflicts.specs.Conflicts.{conflicting}
 use Rattle.conflicts.specs.Tapes.{inputTapes, outputTapes}
 use Rattle.record.specs.declared.Entry.{Entry}
 use Rattle.record.specs.declared.Job.{Job}
 use Rattle.journal.proofs.Booked.{reflect-booked}
-use Rattle.sets.proofs.Bits.{ones-subset, reflect-subset}
+use Rattle.sets.proofs.Bits.{ones-subset, reflect-subset, reflect-within}
 use Rattle.sets.proofs.Size.{below-power, reflect-at-least}
 use Rattle.sets.specs.Bits.{hasBit}
 use Rattle.federation.specs.Federation.{Lawful, thresholdOf}
 use Rattle.federation.specs.declared.Settings.{Settings}
-use Rattle.ledger.proofs.Acceptance.{Acknowledged, Leaves, acknowledged-on, lasts, leaves, more}
+use Rattle.ledger.proofs.Acceptance.{Acknowledged, Leaves, acknowledged-on, algorithm-lasts, leaves, more, signed-lasts}
 use Rattle.ledger.proofs.Changes.{changes, shape-sane}
 use Rattle.ledger.proofs.Demand2.{obeys}
 use Rattle.ledger.proofs.Demand3.{along, first, kept, same-settings, settings-along}
 use Rattle.ledger.proofs.Gates.{entered, reflect-sane}
 use Rattle.ledger.proofs.Growth.{grow, grows}
-use Rattle.ledger.proofs.Invariant.{Inv, held-by, tally}
+use Rattle.ledger.proofs.Invariant.{Inv, clear, held-by, tally}
+use Rattle.ledger.proofs.Paper.{admission-unblocked, signs-admission}
 use Rattle.ledger.proofs.Releases.{done-gate}
-use Rattle.ledger.proofs.Safety.{Rooted, certified-apart}
+use Rattle.ledger.proofs.Rivals.{Rival, apart-peaceful, apart-sym, peaceful-apart, rival-sym}
+use Rattle.ledger.proofs.Safety.{Rooted, certified-apart, meeting, unreleased}
 use Rattle.ledger.proofs.Views.{heldAt, recordedAt, signedAt, votedAt}
 use Rattle.ledger.specs.Decisions.{statusOf}
 use Rattle.ledger.specs.Demand2.{InPlace, Signs}
-use Rattle.ledger.specs.Demand3.{Apart, Correct, bookedJob}
+use Rattle.ledger.specs.Demand3.{Apart, Correct, Held, bookedJob}
 use Rattle.ledger.specs.Ready.{
   Accepted,
   AcceptedGetsThrough,
@@ -48,6 +51,7 @@ use Rattle.ledger.specs.Ready.{
   AtEach,
   EachStep,
   HoldsCreators,
+  NoRival,
   ReadyGetsThrough,
   SomeStep,
   Spares,
@@ -149,7 +153,10 @@ module _ (s j : ℕ) where
     inv = kept w r (f .inv) e;
     booked = still-booked (f .inv) e j (f .booked);
     correct = λ v m. still-correct (f .inv) e v (f .correct v m);
-    signs = λ v m. lasts (f .inv) e s j v (f .booked) m a (f .signs v m);
+    signs = λ v m. ⊎-elim
+        (λ t. inl (signed-lasts (f .inv) e s j v (f .booked) m a t))
+        (λ t. inr (algorithm-lasts (f .inv) e s j v (f .booked) m a t))
+        (f .signs v m);
   }
 
   welcome-done : (w : World) (r : Register) (e : Event) (v : ℕ) → Welcome w r → hasBit s v ≡ true → Asks (preflight v j) w e
@@ -365,8 +372,36 @@ module _ {w : World} {r : Register} (i : Inv w r) (s j v : ℕ) (a : Accepts w j
       absurd (apart .outputs (t .label) (in-map (λ (t : Entry). t .label) (outputTapes (bookedJob w (c .maker))) t (c .makes))
       (in-map (λ (t : Entry). t .label) (outputTapes (bookedJob w k)) t o)))
 
+-- a held rival would have a quorum that has not signed the job, and shares with the set a vault that has signed the rival: that vault would not accept the job
+module _ {w : World} {r : Register} (i : Inv w r) (s j : ℕ) (a : Accepted w s j) where
+  abbrev jobs : ℕ → Job
+  jobs = tabled (r .table)
+
+  no-rival : (v k : ℕ) → Correct (w .ledger .settings) v → heldAt (w .ledger) v k ≡ true → Rival jobs k j → ⊥
+  unfolding signedAt
+  no-rival v k c h rival =
+      let o = i .safe .outvoted v k j c h rival in
+      let small = ltb-true s _ (reflect-within s s (w .ledger .settings .n) (below-power s) .complete (λ u b m. placed i j u (a .each u m) .correct .below)) in
+      let m = meeting (i .shape .lawful) (o .quorum) s (o .below) small (o .enough) (a .enough) in
+      let u = m .vault in
+      let signed = unreleased (i .safe) (tally i) u (o .rival) (m .correct) (o .signed u (m .first)) (i .safe .certified (o .holder) (o .rival) (o .holds)) in
+      ⊎-elim
+      (λ t. o .without u (m .correct) (m .first) (i .safe .backed u j t))
+      (λ x.
+      let clear = clear i u j (admission-unblocked _ _ _ _ _ (signs-admission _ _ _ _ _ x)) in
+      apart-peaceful (clear .apart (o .rival) signed (o .is .other)) (rival-sym (o .is) .conflicts))
+      (accepted-signs i j u (a .each u (m .second)))
+
+  unopposed : (k : ℕ) → Held (w .ledger) k → NoRival w j k
+  unfolding heldAt
+  unopposed k h ne b =
+      subst (λ (job : ℕ → Job). Apart (job j) (job k)) (ap tabled (i .table))
+      (by-test (conflicting (jobs k) (jobs j))
+      (λ e. absurd (no-rival (h .vault) k (h .by .correct) (h .by .held) (record { other = ne; conflicts = e })))
+      (λ e. apart-sym (peaceful-apart e)))
+
 pub accepted-is-ready : AcceptedIsReady
 accepted-is-ready n b faulty lawful past s j a =
     let i = along past (start n b faulty) newRegister (first n b faulty lawful) in
     let f = welcomed i s j a in
-    record { booked = f .booked; correct = f .correct; creators = λ v m. holds-creators i s j v (a .each v m) }
+    record { booked = f .booked; correct = f .correct; creators = λ v m. holds-creators i s j v (a .each v m); unopposed = unopposed i s j a }

@@ -163,6 +163,8 @@ pub record AlreadyReady (w : World) (s j : ℕ) : Type 0 where
   pub booked : j < w .ledger .booked
   pub correct : AtEach s (Correct (w .ledger .settings))
   pub creators : AtEach s (HoldsCreators w j)
+  -- no correct vault holds a rival of it, so no vault can release it
+  pub unopposed : (k : ℕ) → Held (w .ledger) k → NoRival w j k
 
 abbrev pub AcceptedIsReady : Type 0
 AcceptedIsReady =
