@@ -1,3 +1,4 @@
+pub mod Acceptance
 pub mod Account
 pub mod Algorithms
 pub mod Changes
@@ -14,6 +15,8 @@ pub mod Lending
 pub mod Meaning
 pub mod Paper
 pub mod Places
+pub mod Ready
+pub mod ReadyExample
 pub mod Refusals
 pub mod Releases
 pub mod Rivals

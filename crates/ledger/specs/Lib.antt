@@ -6,6 +6,7 @@ pub mod Graph
 pub mod Growth
 pub mod Holders
 pub mod Meaning
+pub mod Ready
 pub mod Register
 pub mod Rounds
 pub mod State
