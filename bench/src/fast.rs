@@ -43,7 +43,7 @@ fn take_steps<'a>(mut ledger: Ledger<'a>, mut rest: &'a [u8], out: &mut Vec<u8>)
 fn step<'a>(ledger: &mut Ledger<'a>, rest: &'a [u8]) -> Option<(Answer, &'a [u8])> {
     Some(match *rest {
         [kind::PROPOSE, ref body @ ..] => {
-            let (record, rest) = body.split_first_chunk()?;
+            let (record, rest) = body.split_at_checked(ledger.record_bytes())?;
             (ledger.propose(record), rest)
         }
         [kind::PREFLIGHT, vault, job, ref rest @ ..] => (ledger.preflight(vault, job), rest),

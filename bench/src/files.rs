@@ -7,11 +7,12 @@ mod mixed_preflights;
 mod repeats;
 mod shared_labels;
 mod tapes;
+mod trimming;
 mod writer;
 
 pub use growing::growing;
 use reference::settings::HEADER_BYTES;
-use reference::step::step_length;
+use reference::step::step_length_in;
 use writer::Run;
 
 /// Orders are random, but the same in every run.
@@ -19,6 +20,7 @@ const SEED: u64 = 0;
 
 pub struct File {
     pub name: String,
+    pub version: u16,
     pub bytes: Vec<u8>,
     /// For each step, the refusal that it is meant to get, 0 where it is meant to be accepted.
     pub intended: Vec<u8>,
@@ -36,7 +38,7 @@ impl File {
         self.intended.truncate(steps);
         let mut end = HEADER_BYTES;
         for _ in &self.intended {
-            end += step_length(self.bytes[end]).expect("a known kind");
+            end += step_length_in(self.version, self.bytes[end]).expect("a known kind");
         }
         self.bytes.truncate(end);
         self
@@ -60,6 +62,7 @@ pub fn measured() -> Vec<File> {
         repeats::file(),
         shared_labels::file(),
         mixed::file(),
+        trimming::file(),
         Run::new(16, 5, 0).named("header_only"),
     ]
 }

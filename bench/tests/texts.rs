@@ -5,7 +5,7 @@ use proved::Buffer;
 use reference::engine::BOOK_RECORDS;
 use reference::refusal::REFUSALS;
 use reference::settings::{HEADER_BYTES, LONGEST_FILE};
-use reference::step::{kind, step_length};
+use reference::step::{kind, step_length, step_length_in};
 
 fn fast_text(input: &[u8]) -> String {
     let mut out = Vec::new();
@@ -56,7 +56,7 @@ fn file(name: &str) -> File {
 fn files_are_as_large_as_meant() {
     for file in measured().iter().chain(&growth()) {
         let room = LONGEST_FILE - file.bytes.len();
-        let longest_step = step_length(kind::PROPOSE).expect("a known kind");
+        let longest_step = step_length_in(file.version, kind::PROPOSE).expect("a known kind");
         let full = room < longest_step;
         assert!(full || file.name == "header_only", "{}", file.name);
     }

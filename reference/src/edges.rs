@@ -48,7 +48,11 @@ pub fn all() -> Vec<Edge> {
             full_long_book(),
             &full_book_answers(),
         ),
-        edge("a version 2 proposal of 100 bytes", short_by_4(), &[(0, 0), (2, 0)]),
+        edge(
+            "a version 2 proposal of 100 bytes",
+            short_by_4(),
+            &[(0, 0), (2, 0)],
+        ),
         version(0),
         version(3),
         version(258),

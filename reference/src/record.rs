@@ -238,9 +238,7 @@ fn drive_cannot(record: &Record) -> Option<u64> {
 fn balanced(record: &Record) -> bool {
     match record.kind {
         Kind::Accession => true,
-        Kind::Migration => {
-            frames_of(&record.inputs) == frames_of(&record.outputs) + record.trimmed
-        }
+        Kind::Migration => frames_of(&record.inputs) == frames_of(&record.outputs) + record.trimmed,
     }
 }
 

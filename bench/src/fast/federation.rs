@@ -1,4 +1,5 @@
 //! The settings in a run file's header.
+use reference::record::record_bytes;
 use reference::settings::{LONGEST_FILE, MOST_VAULTS};
 
 #[derive(Clone, Copy)]
@@ -6,16 +7,23 @@ pub struct Federation {
     pub n: u8,
     pub b: u8,
     pub faulty: u16,
+    /// How long a record is.
+    pub record_bytes: usize,
 }
 
 impl Federation {
     /// The settings and the steps after them; none where refusal 1 is due.
     pub fn read(input: &[u8]) -> Option<(Federation, &[u8])> {
-        let &[b'V', b'L', b'T', 1, 0, n, b, low, high, ref steps @ ..] = input else {
+        let &[b'V', b'L', b'T', version @ 1..=2, 0, n, b, low, high, ref steps @ ..] = input else {
             return None;
         };
         let faulty = u16::from_le_bytes([low, high]);
-        let federation = Federation { n, b, faulty };
+        let federation = Federation {
+            n,
+            b,
+            faulty,
+            record_bytes: record_bytes(version.into()),
+        };
         (input.len() <= LONGEST_FILE && federation.is_lawful()).then_some((federation, steps))
     }
 

@@ -70,6 +70,11 @@ impl<'a> Ledger<'a> {
         }
     }
 
+    #[inline]
+    pub fn record_bytes(&self) -> usize {
+        self.federation.record_bytes
+    }
+
     /// A booked equal has passed checks 6 to 9, so it may be sought first.
     pub fn propose(&mut self, record: &'a Record) -> Answer {
         let slot = match self.repeats.find(record) {

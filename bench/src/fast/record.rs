@@ -1,7 +1,9 @@
 //! Job records and checks 6 to 9.
 use super::text::Answer;
-pub use reference::record::Bytes as Record;
 use reference::record::{ENTRIES, ENTRY_BYTES, FIRST_OUTPUT, LABEL_BYTES};
+
+/// The bytes of a record, as many as its version has.
+pub type Record = [u8];
 
 #[derive(Clone, Copy, Default)]
 pub struct Entry {
@@ -16,6 +18,7 @@ pub struct Job {
     drive: u8,
     inputs: usize,
     outputs: usize,
+    trimmed: u32,
 }
 
 /// The media that each drive reads and writes, bits 0 to 4 for L5 to L9, bit 5 for M8; drives from 5.
@@ -62,7 +65,16 @@ impl Job {
             drive,
             inputs: usize::from(inputs),
             outputs: usize::from(outputs),
+            trimmed: 0,
         };
+        // A version 1 record ends with its entries.
+        let (entries, trimmed) = entries.split_at(ENTRIES * ENTRY_BYTES);
+        if let Ok(trimmed) = trimmed.try_into() {
+            job.trimmed = u32::from_le_bytes(trimmed);
+        }
+        if job.inputs == 0 && job.trimmed != 0 {
+            return None;
+        }
         for (i, bytes) in entries.chunks_exact(ENTRY_BYTES).enumerate() {
             let entry = read_entry(bytes);
             let used = job.is_used(i);
@@ -100,7 +112,8 @@ impl Job {
 
     /// Check 9.
     fn is_balanced(&self) -> bool {
-        self.inputs == 0 || frames(self.inputs()) == frames(self.outputs())
+        self.inputs == 0
+            || frames(self.inputs()) == frames(self.outputs()) + u64::from(self.trimmed)
     }
 }
 

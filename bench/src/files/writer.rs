@@ -2,11 +2,12 @@
 use super::File;
 use reference::record::Bytes;
 use reference::settings::LONGEST_FILE;
-use reference::step::{step_length, Step};
-use reference::write::{self, header, set_of};
+use reference::step::{step_length_in, Step};
+use reference::write::{self, header_in, set_of};
 use std::ops::Range;
 
 pub struct Run {
+    version: u16,
     bytes: Vec<u8>,
     intended: Vec<u8>,
     preparation: usize,
@@ -15,8 +16,13 @@ pub struct Run {
 
 impl Run {
     pub fn new(n: u8, b: u8, faulty: u16) -> Run {
+        Run::of_version(1, n, b, faulty)
+    }
+
+    pub fn of_version(version: u16, n: u8, b: u8, faulty: u16) -> Run {
         Run {
-            bytes: header(n, b, faulty),
+            version,
+            bytes: header_in(version, n, b, faulty),
             intended: Vec::new(),
             preparation: 0,
             booked: 0,
@@ -27,6 +33,7 @@ impl Run {
         assert!(self.bytes.len() <= LONGEST_FILE, "{name} is too long");
         File {
             name: name.to_string(),
+            version: self.version,
             bytes: self.bytes,
             intended: self.intended,
             preparation: self.preparation,
@@ -40,12 +47,12 @@ impl Run {
 
     /// Whether the file may have one more step of the kind.
     pub fn has_room(&self, kind: u8) -> bool {
-        let length = step_length(kind).expect("a known kind");
+        let length = step_length_in(self.version, kind).expect("a known kind");
         self.bytes.len() + length <= LONGEST_FILE
     }
 
     fn step(&mut self, intended: u8, step: Step) {
-        self.bytes.extend(step.encode());
+        self.bytes.extend(step.encode_in(self.version));
         self.intended.push(intended);
     }
 

@@ -75,6 +75,6 @@ fn rounds(l: Ledger, journal: &[u8; 400]) {
 pub(crate) fn releases() {
     let mut journal = [0u8; 400];
     steps::heading(b"releases");
-    let l = propose(books::new(4, 1, 8).ledger, &mut journal);
+    let l = propose(books::new(4, 1, 8, 1).ledger, &mut journal);
     rounds(l, &journal);
 }

@@ -6,7 +6,8 @@ use super::traffic::{action, look_at_all};
 use super::FAMILIES;
 use crate::random::Random;
 use crate::record::{
-    entry_start, Bytes, Medium, Tape, FIRST_OUTPUT, HEAD_BYTES, LABEL_BYTES, LONG_RECORD_BYTES, MEDIA,
+    entry_start, Bytes, Medium, Tape, FIRST_OUTPUT, HEAD_BYTES, LABEL_BYTES, LONG_RECORD_BYTES,
+    MEDIA,
 };
 use crate::settings::HEADER_BYTES;
 use crate::write::migration;

@@ -76,6 +76,7 @@ pub fn settings(random: &mut Random, turn: u64) -> Vec<u8> {
         6 => change(n, b, some_faulty(random, n, b + 1)),
         7 => change(n, b, some_faulty(random, n, b)),
         8 => file[random.below(3) as usize] ^= 1 << random.below(8),
+        9 if random.chance(50) => file[3] = 3,
         9 => file[random.between(3, 4) as usize] ^= 1 << random.below(8),
         10 => change(n, b, random.word() as u16),
         11 => file.truncate(random.between(0, 10) as usize),
