@@ -19,8 +19,9 @@ use Rattle.draw.specs.Draw.{drawOf, failing, thousandths, toEven}
 use Rattle.cases.specs.Table.{answered, given, table}
 
 pub cases : answered table ≡ given table
-unfolding sameList anyBelow allBelow firstBelow sumFrom inputsFormed countsFormed isFilled isBlank entryFormed trimmedFormed wellFormed hasLabelOf repeatedAt
-    isWritten unsupportedAt balanced checkOf examined recordSize saysTrimmed placeOf wholeIn leAt entryAt entriesAt jobOf isDrive supports labelOf framesOf isUsed usedFrames isBetween
-    charAt isAlphanumeric mediumOf isLabel isKnown isFederation isLawfulUpTo thresholdOf equalAt equalIn hasRoom insideOf slotAt booking isSane newLedger applied placing
-    settling proposal newOf proposeDecision proposeOf saneGate choose factorial drawOf failing thousandths toEven ones
+unfolding sameList anyBelow allBelow firstBelow sumFrom inputsFormed countsFormed isFilled isBlank entryFormed trimmedFormed wellFormed hasLabelOf
+    repeatedAt isWritten unsupportedAt balanced checkOf examined recordSize saysTrimmed placeOf wholeIn leAt entryAt entriesAt jobOf isDrive supports
+    labelOf framesOf isUsed usedFrames isBetween charAt isAlphanumeric mediumOf isLabel isKnown isFederation isLawfulUpTo thresholdOf equalAt equalIn
+    hasRoom insideOf slotAt booking isSane newLedger applied placing settling proposal newOf proposeDecision proposeOf saneGate choose factorial
+    drawOf failing thousandths toEven ones
 cases = refl

@@ -1,6 +1,7 @@
 -- A record and its job are one another's.
-use mathlib.Core.Bool.{cond, false}
+use mathlib.Core.Bool.{cond, false, true, true≢false}
 use mathlib.Core.List.{List, [], _++_, _∷_, append-assoc, append-nil, map}
+use mathlib.Core.Logic.{_⊎_, ⊎-elim}
 use mathlib.Core.Path.{_∙_, _≡_, ap, ap₂, refl, sym}
 use Prim.Native.Nat.{_%_, _*_, _+_, _/_, _<_, _^_, _≤_, suc, zero, ℕ}
 use native.Mathlib.Nat.{add-assoc, add-zero}
@@ -181,3 +182,12 @@ unfolding jobOf recordSize
 plain-untrimmed version r e n =
     let plain : recordSize version ≡ 100 = simp e in
     leAt-past 4 r bodySize (omega (arith, n, plain))
+
+-- what a record says of a job is the job, in version 2, and in version 1 if it trims nothing
+pub said-same : (version : ℕ) (j : Job) → (saysTrimmed version ≡ true) ⊎ (j .trimmed ≡ 0) → saidOf version j ≡ j
+unfolding saidOf
+said-same version j h =
+    ap (λ (t : ℕ). record { kind = j .kind; drive = j .drive; inputs = j .inputs; outputs = j .outputs; entries = j .entries; trimmed = t })
+    (by-cases (λ t. saysTrimmed version ≡ t → cond t (j .trimmed) 0 ≡ j .trimmed) (saysTrimmed version)
+    (λ _ e. refl)
+    (λ _ e. ⊎-elim (λ t. absurd (true≢false (sym t ∙ e))) (λ z. sym z) h) refl)

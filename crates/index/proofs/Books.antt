@@ -9,5 +9,6 @@ use Rattle.index.proofs.Inside.{slot-booked}
 use Rattle.index.specs.Places.{Entered, slotJob}
 
 module _ (version : ℕ) (journal : List ℕ) (booked : ℕ) (inside : placeOf version booked ≤ length journal) where
-  pub entered-booked : (numbers sets : List ℕ) → Entered (slotJob version journal) (8 * booked) numbers sets → Entered (jobAt version journal booked) (8 * booked) numbers sets
+  pub entered-booked : (numbers sets : List ℕ) → Entered (slotJob version journal) (8 * booked) numbers sets → Entered (jobAt version journal booked)
+      (8 * booked) numbers sets
   entered-booked = entered-alike (slotJob version journal) (jobAt version journal booked) booked (λ k l. slot-booked version journal booked k inside l)

@@ -85,7 +85,8 @@ module _ (p q : ℕ → Bool) (sub : (i : ℕ) → q i ≡ true → p i ≡ true
       near = by-cases (λ t. firstOr q y (cond t y d) ≡ firstOr q (suc y) d) (q y) (λ h. sym (or-yes q y d h)) (λ h. sym (or-no q y d h))
 
 -- ---- the records of a journal
-equal-sum : (version : ℕ) (journal bytes : List ℕ) (k : ℕ) → equalAt version journal bytes k ≡ true → inSum (slotJob version journal) (sumOf (jobOf bytes)) k ≡ true
+equal-sum : (version : ℕ) (journal bytes : List ℕ) (k : ℕ) → equalAt version journal bytes k ≡ true → inSum (slotJob version journal)
+    (sumOf (jobOf bytes)) k ≡ true
 unfolding equalAt inSum slotJob
 equal-sum version journal bytes k h =
     let e = reflect-same (slotAt version journal k) bytes .sound h in
@@ -120,7 +121,8 @@ module _ (version : ℕ) (journal bytes records : List ℕ) (n : ℕ) (t : Filed
     pub find-less : (y : ℕ) → y ≡ getD records (buckets + (x - 1)) 0 → y < x
     find-less y e = omega (arith, e, link, last-le chain (x - 1))
 
-    pub find-next : (y f : ℕ) → y ≡ getD records (buckets + (x - 1)) 0 → f ≡ cond (equalAt version journal bytes (x - 1)) (x - 1) d → Seeking version journal bytes n y f
+    pub find-next : (y f : ℕ) → y ≡ getD records (buckets + (x - 1)) 0 → f ≡ cond (equalAt version journal bytes (x - 1)) (x - 1) d
+        → Seeking version journal bytes n y f
     find-next y f e g = hunt-next chain (equalAt version journal bytes) (equal-sum version journal bytes) n (x - 1) d y f at (e ∙ link) g
 
   pub find-end : (x d : ℕ) → x ≤ 0 → Seeking version journal bytes n x d → d ≡ firstBelow n (equalAt version journal bytes)

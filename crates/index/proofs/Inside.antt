@@ -17,11 +17,13 @@ use Rattle.index.specs.Index.{HasRecord}
 use Rattle.index.specs.Places.{Holds, framesAt, labelAt, slotJob}
 
 -- a booked record is the one in its place
-part-slot : (version : ℕ) (journal : List ℕ) (booked k : ℕ) → placeOf version booked ≤ length journal → k < booked → recordAt version journal booked k ≡ slotAt version journal k
+part-slot : (version : ℕ) (journal : List ℕ) (booked k : ℕ) → placeOf version booked ≤ length journal → k < booked
+    → recordAt version journal booked k ≡ slotAt version journal k
 unfolding recordAt isBooked
 part-slot version journal booked k h l = simp (le-leb booked (slots version journal) (place-whole version booked (length journal) h), lt-ltb k booked l)
 
-pub slot-booked : (version : ℕ) (journal : List ℕ) (booked k : ℕ) → placeOf version booked ≤ length journal → k < booked → slotJob version journal k ≡ jobAt version journal booked k
+pub slot-booked : (version : ℕ) (journal : List ℕ) (booked k : ℕ) → placeOf version booked ≤ length journal → k < booked
+    → slotJob version journal k ≡ jobAt version journal booked k
 unfolding slotJob jobAt
 slot-booked version journal booked k h l = ap jobOf (sym (part-slot version journal booked k h l))
 
@@ -30,7 +32,8 @@ pub part-job : (version : ℕ) (journal part : List ℕ) (k : ℕ) → part ≡ 
 unfolding slotJob
 part-job version journal part k e = ap jobOf e
 
-pub place-read : (version : ℕ) (journal part : List ℕ) (at : ℕ) (r : Entry) → part ≡ slotAt version journal (at / 8) → r ≡ getD (jobOf part .entries) (at % 8) noEntry
+pub place-read : (version : ℕ) (journal part : List ℕ) (at : ℕ) (r : Entry) → part ≡ slotAt version journal (at / 8) → r ≡ getD (jobOf part .entries)
+    (at % 8) noEntry
     → (r .label ≡ labelAt (slotJob version journal) at) × (r .frames ≡ framesAt (slotJob version journal) at)
 unfolding labelAt framesAt labelOf framesOf
 place-read version journal part at r p e =

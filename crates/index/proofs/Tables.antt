@@ -156,13 +156,15 @@ module _ (version : ℕ) (journal : List ℕ) (n : ℕ) (numbers sets : List ℕ
   pub indexed-booked : Entered (jobAt version journal n) (8 * n) numbers sets
   indexed-booked = entered-booked version journal n (t .inside) numbers sets indexed-entered
 
-pub indexed-filed : (version : ℕ) (journal : List ℕ) (n : ℕ) (records : List ℕ) → IndexedRecords version journal n records → Filed (slotJob version journal) n records
+pub indexed-filed : (version : ℕ) (journal : List ℕ) (n : ℕ) (records : List ℕ) → IndexedRecords version journal n records → Filed
+    (slotJob version journal) n records
 indexed-filed version journal n records t = rw (t .records-are) (tables-filed (slotJob version journal) n (t .few))
 
 -- checks 11 to 14 of a booked job by the counts of its record
 pub admission-booked : (version : ℕ) (journal : List ℕ) (n : ℕ) (numbers sets : List ℕ) → IndexedEntries version journal n numbers sets
     → (held others : JobSet) → InWords held → InWords others → (job inputs outputs : ℕ) (part : List ℕ) (r : Verdict) → job < n
-    → part ≡ recordAt version journal n job → inputs ≡ jobOf part .inputs → outputs ≡ jobOf part .outputs → r ≡ admissionBy numbers sets inputs outputs held others job
+    → part ≡ recordAt version journal n job → inputs ≡ jobOf part .inputs → outputs ≡ jobOf part .outputs
+    → r ≡ admissionBy numbers sets inputs outputs held others job
     → r ≡ admission (jobAt version journal n) n held others (jobAt version journal n job)
 unfolding jobAt
 admission-booked version journal n numbers sets t held others hw ow job inputs outputs part r l ep ei eo er =
@@ -205,7 +207,8 @@ module _ (version : ℕ) (journal : List ℕ) (n : ℕ) (numbers sets records : 
   indexed-all m l h = let e : m ≡ n = omega arith in rw e t
 
   pub indexed-next : (a : Job) (numbers′ sets′ records′ : List ℕ) → HasRecord version journal n → a ≡ slotJob version journal n
-      → Entries (slotJob version journal) (8 * (n + 1)) numbers′ sets′ → records′ ≡ recordsWith records (sumOf a) n → Indexed version journal (n + 1) numbers′ sets′ records′
+      → Entries (slotJob version journal) (8 * (n + 1)) numbers′ sets′ → records′ ≡ recordsWith records (sumOf a) n → Indexed version journal
+      (n + 1) numbers′ sets′ records′
   unfolding recordsOf
   indexed-next a numbers′ sets′ records′ h ea e r = record {
     few = omega (arith, h .few);
@@ -220,11 +223,13 @@ module _ (version : ℕ) (journal : List ℕ) (n : ℕ) (numbers sets records : 
       → Indexed version (putAt version journal n bytes) n numbers sets records
   unfolding slotJob
   indexed-put bytes size room =
-      let same : (k : ℕ) → k < n → slotJob version journal k ≡ slotJob version (putAt version journal n bytes) k = λ k l. ap jobOf (sym (slot-before version n journal bytes size room k l)) in
+      let same : (k : ℕ) → k < n → slotJob version journal k ≡ slotJob version (putAt version journal n bytes) k = λ k l. ap jobOf
+      (sym (slot-before version n journal bytes size room k l)) in
       record {
         few = t .few;
         inside = omega (arith, t .inside, put-length version n journal bytes size room);
-        numbers-are = t .numbers-are ∙ numbers-alike (slotJob version journal) (slotJob version (putAt version journal n bytes)) n same (8 * n) (le-refl (8 * n));
+        numbers-are = t .numbers-are ∙ numbers-alike (slotJob version journal) (slotJob version (putAt version journal n bytes)) n same (8 * n)
+            (le-refl (8 * n));
         sets-are = t .sets-are ∙ sets-alike (slotJob version journal) (slotJob version (putAt version journal n bytes)) n same (8 * n) (le-refl (8 * n));
         records-are = t .records-are ∙ records-alike (slotJob version journal) (slotJob version (putAt version journal n bytes)) n same n (le-refl n);
       }

@@ -51,7 +51,8 @@ fn enter_used(
     label: u64,
     frames: u32,
 )
-    requires { ⌜ Holds version (now journal) (m + 1) × UsedEntry (slotJob version (now journal)) m label frames × Entries (slotJob version (now journal)) m (now numbers) (now sets) ⌝ }
+    requires { ⌜ Holds version (now journal) (m + 1) × UsedEntry (slotJob version (now journal)) m label frames
+        × Entries (slotJob version (now journal)) m (now numbers) (now sets) ⌝ }
     ensures { λ _. ⌜ Entries (slotJob version (now (journal .entry))) (m + 1) (now (numbers .exit)) (now (sets .exit)) ⌝ }
 {
     let own = seeking::numbers_of(version, journal, &numbers[..], label, frames, m);
@@ -69,7 +70,8 @@ fn enter_entry(
     n: usize,
     e: usize,
 )
-    requires { ⌜ (e < 8) × HasRecord version (now journal) n × (a ≡ slotJob version (now journal) n) × Entries (slotJob version (now journal)) (8 * n + e) (now numbers) (now sets) ⌝ }
+    requires { ⌜ (e < 8) × HasRecord version (now journal) n × (a ≡ slotJob version (now journal) n)
+        × Entries (slotJob version (now journal)) (8 * n + e) (now numbers) (now sets) ⌝ }
     ensures { λ _. ⌜ Entries (slotJob version (now (journal .entry))) (8 * n + e + 1) (now (numbers .exit)) (now (sets .exit)) ⌝ }
 {
     if record::used(a, e) {
@@ -95,7 +97,8 @@ fn enter_entries(
     a: Job,
     n: usize,
 )
-    requires { ⌜ HasRecord version (now journal) n × (a ≡ slotJob version (now journal) n) × Entries (slotJob version (now journal)) (8 * n) (now numbers) (now sets) ⌝ }
+    requires { ⌜ HasRecord version (now journal) n × (a ≡ slotJob version (now journal) n)
+        × Entries (slotJob version (now journal)) (8 * n) (now numbers) (now sets) ⌝ }
     ensures { λ _. ⌜ Entries (slotJob version (now (journal .entry))) (8 * (n + 1)) (now (numbers .exit)) (now (sets .exit)) ⌝ }
 {
     for e in 0..8 {
@@ -113,7 +116,8 @@ pub fn enter(
     a: Job,
     n: usize,
 )
-    requires { ⌜ HasRecord version (now journal) n × (a ≡ slotJob version (now journal) n) × Indexed version (now journal) n (now numbers) (now sets) (now records) ⌝ }
+    requires { ⌜ HasRecord version (now journal) n × (a ≡ slotJob version (now journal) n)
+        × Indexed version (now journal) n (now numbers) (now sets) (now records) ⌝ }
     ensures { λ _. ⌜ Indexed version (now (journal .entry)) (n + 1) (now (numbers .exit)) (now (sets .exit)) (now (records .exit)) ⌝ }
 {
     enter_entries(numbers, sets, version, journal, a, n);

@@ -10,7 +10,8 @@ use Rattle.codec.specs.Codec.{placeOf, recordSize}
 use Rattle.base.proofs.Lists.{take-drop}
 use Rattle.journal.specs.Journal.{putAt, slotAt}
 
-module _ (version n : ℕ) (journal bytes : List ℕ) (size : length bytes ≡ recordSize version) (room : placeOf version n + recordSize version ≤ length journal) where
+module _ (version n : ℕ) (journal bytes : List ℕ) (size : length bytes ≡ recordSize version)
+    (room : placeOf version n + recordSize version ≤ length journal) where
   pub put-length : length (putAt version journal n bytes) ≡ length journal
   unfolding putAt
   put-length = simp (length-append, length-take, length-drop) (omega (arith, size))

@@ -230,7 +230,8 @@ module _ (w : World) (sh : Shape (w .ledger) (w .booked)) (size : ℕ) (beyond :
   unfolding admissionAt
   unblocked v k h e =
       subst (λ (job : ℕ → Job). Unblocked job (l .booked) (vaultAt l v .held) (jobWithout (vaultAt l v .signed) k) (job k)) (jobs h)
-      (admission-unblocked (jobAt (versionOf l) journal (l .booked)) (l .booked) (vaultAt l v .held) (jobWithout (vaultAt l v .signed) k) (jobAt (versionOf l) journal (l .booked) k) e)
+      (admission-unblocked (jobAt (versionOf l) journal (l .booked)) (l .booked) (vaultAt l v .held) (jobWithout (vaultAt l v .signed) k)
+      (jobAt (versionOf l) journal (l .booked) k) e)
 
   signed-booked : (v k : ℕ) → signedBy l v k .booked ≡ l .booked
   unfolding voted withVault
@@ -340,7 +341,8 @@ module _ (w : World) (sh : Shape (w .ledger) (w .booked)) (size : ℕ) (beyond :
   unfolding insideOf
   slot-tabled k h =
       let before = place-before (versionOf l) k (l .booked) (omega arith) in
-      slot-agrees (versionOf l) k size bs beyond (omega (arith, sh .records, before)) (whole-room (versionOf l) k (length journal) (omega arith)) ∙ sym (records-at (versionOf l) (l .booked) k bs (omega arith))
+      slot-agrees (versionOf l) k size bs beyond (omega (arith, sh .records, before)) (whole-room (versionOf l) k (length journal) (omega arith)) ∙ sym
+      (records-at (versionOf l) (l .booked) k bs (omega arith))
 
   found : (bytes : List ℕ) (k : ℕ) → KnownAt l journal bytes k → In bytes (tableOf w)
   unfolding insideOf

@@ -202,7 +202,8 @@ module _ {w : World} {r : Register} (i : Inv w r) where
     made = subst (λ (ks : List ℕ). r .made ≡ madeAlong (tabled (r .table)) ks) (i .taken) (i .books .marks);
     accessioned = subst (λ (ks : List ℕ). r .accessioned ≡ accessionedAlong (tabled (r .table)) ks) (i .taken) (i .books .mints);
     frames = i .books .frames;
-    frames-along = subst Balanced (i .taken) (ap (λ (st : List Entry). framesIn st + trimmedAlong job (r .taken)) (sym (i .books .along)) ∙ i .books .frames ∙ i .books .mints);
+    frames-along = subst Balanced (i .taken)
+        (ap (λ (st : List Entry). framesIn st + trimmedAlong job (r .taken)) (sym (i .books .along)) ∙ i .books .frames ∙ i .books .mints);
     creators = i .books .creators;
     certified = finished-certified;
   }
@@ -221,7 +222,8 @@ never-ones (e ∷ es) w r i o m =
 pub demand3 : Demand3
 demand3 n b faulty version lawful es =
     let i : Inv (start n b faulty version) (newRegister version) = first n b faulty version lawful in (
-      inv-holds (along es (start n b faulty version) (newRegister version) i) _ (settings-along es (start n b faulty version) (newRegister version) i ∙ settings-first n b faulty version),
+      inv-holds (along es (start n b faulty version) (newRegister version) i) _
+          (settings-along es (start n b faulty version) (newRegister version) i ∙ settings-first n b faulty version),
       never-ones es (start n b faulty version) (newRegister version) i,
     )
 

@@ -111,12 +111,13 @@ pub whole-run :
       accessioned = 1000;
     })
 unfolding sameList anyBelow allBelow firstBelow sumFrom hasBit withBit withMember withoutBit subsetOf jobHas jobWith jobWithout inputsFormed
-    countsFormed isFilled isBlank entryFormed trimmedFormed wellFormed hasLabelOf repeatedAt isWritten unsupportedAt balanced checkOf examined recordSize saysTrimmed placeOf wholeIn leAt entryAt
-    entriesAt jobOf isLabelAt labelIn isTapeAt makesTape isDrive supports labelOf framesOf isUsed usedFrames isBetween charAt isAlphanumeric mediumOf
-    isLabel usedFrom sameTape makesAt madeBy listsAt listedBy notCreatedAt consumedAt madeBefore remadeAt admission isKnown isFederation isLawfulUpTo thresholdOf highest
-    createdAt creatorOf generationFrom generationsBefore generationAt holdsAt isHeld isAt ageIn slotAt isBooked recordAt jobAt insideOf equalAt
-    equalIn hasRoom putAt isAdmissible taking stopped entering feedProposal feedCommit votesIn hasArrived isSane newLedger booking voted withVault
-    enqueued arriving applied bookedGate gateOf saneGate vaultGate placing settling proposal proposeDecision journalAfter consent preflighting
-    preflightDecision certificate receiving committing commitDecision faultyVoteDecision statusOf showDecision ageing generationsDecision signing
-    holding admissionAt vaultPreflight lend overlay after start ones onesIn
+    countsFormed isFilled isBlank entryFormed trimmedFormed wellFormed hasLabelOf repeatedAt isWritten unsupportedAt balanced checkOf examined
+    recordSize saysTrimmed placeOf wholeIn leAt entryAt entriesAt jobOf isLabelAt labelIn isTapeAt makesTape isDrive supports labelOf framesOf isUsed
+    usedFrames isBetween charAt isAlphanumeric mediumOf isLabel usedFrom sameTape makesAt madeBy listsAt listedBy notCreatedAt consumedAt madeBefore
+    remadeAt admission isKnown isFederation isLawfulUpTo thresholdOf highest createdAt creatorOf generationFrom generationsBefore generationAt holdsAt
+    isHeld isAt ageIn slotAt isBooked recordAt jobAt insideOf equalAt equalIn hasRoom putAt isAdmissible taking stopped entering feedProposal
+    feedCommit votesIn hasArrived isSane newLedger booking voted withVault enqueued arriving applied bookedGate gateOf saneGate vaultGate placing
+    settling proposal proposeDecision journalAfter consent preflighting preflightDecision certificate receiving committing commitDecision
+    faultyVoteDecision statusOf showDecision ageing generationsDecision signing holding admissionAt vaultPreflight lend overlay after start ones
+    onesIn
 whole-run = (refl, refl)

@@ -255,7 +255,8 @@ module _ {w : World} {r : Register} (i : Inv w r) where
         fit = λ x m. ⊎-elim (i .fit x) (λ (q : x ≡ bytes). rw q passes) (in-snoc (r .table) bytes x m);
         books = books-enter r bytes (i .books);
         running = i .running;
-        table = ap (λ (t : List (List ℕ)). t ++ (bytes ∷ [])) (i .table) ∙ sym (records-snoc (versionOf l) (l .booked) (w .booked) bytes (i .shape .records) size);
+        table = ap (λ (t : List (List ℕ)). t ++ (bytes ∷ [])) (i .table) ∙ sym
+            (records-snoc (versionOf l) (l .booked) (w .booked) bytes (i .shape .records) size);
         unique = distinct-snoc (r .table) bytes (i .unique) (λ m. n (subst (λ (t : List (List ℕ)). In bytes t) (i .table) m));
         taken = i .taken;
         once = i .once;

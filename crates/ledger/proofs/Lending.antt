@@ -36,7 +36,8 @@ kept-bytes (suc n) (x ∷ bs) xs = ap (λ (t : List ℕ). x ∷ t) (kept-bytes n
 
 -- ---- records, by their version
 module _ (version : ℕ) where
-  pub slot-agrees : (k size : ℕ) (bs xs : List ℕ) → placeOf version k + recordSize version ≤ length bs → placeOf version k + recordSize version ≤ length (lend bs size xs)
+  pub slot-agrees : (k size : ℕ) (bs xs : List ℕ) → placeOf version k + recordSize version ≤ length bs → placeOf version k + recordSize version ≤ length
+      (lend bs size xs)
       → slotAt version (lend bs size xs) k ≡ slotAt version bs k
   unfolding slotAt
   slot-agrees k size bs xs h h′ =

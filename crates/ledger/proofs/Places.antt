@@ -51,11 +51,15 @@ module _ (l : Ledger) (journal bytes : List ℕ) where
   unfolding equalIn
   none e = first-end-sound inside same-at (unfound (equalAt (versionOf l) journal bytes) inside e)
 
-  room : hasRoom (versionOf l) journal (l .booked) ≡ true → (l .booked < capacity) × (placeOf (versionOf l) (l .booked) + recordSize (versionOf l) ≤ length journal)
+  room : hasRoom (versionOf l) journal (l .booked) ≡ true → (l .booked < capacity) ×
+      (placeOf (versionOf l) (l .booked) + recordSize (versionOf l) ≤ length journal)
   unfolding hasRoom
-  room e = let r = and-true _ _ e in (ltb-true _ _ (r .0), whole-room (versionOf l) (l .booked) (length journal) (ltb-true (l .booked) (slots (versionOf l) journal) (r .1)))
+  room e =
+      let r = and-true _ _ e in
+      (ltb-true _ _ (r .0), whole-room (versionOf l) (l .booked) (length journal) (ltb-true (l .booked) (slots (versionOf l) journal) (r .1)))
 
-  no-room : hasRoom (versionOf l) journal (l .booked) ≡ false → (capacity ≤ l .booked) ⊎ (length journal < placeOf (versionOf l) (l .booked) + recordSize (versionOf l))
+  no-room : hasRoom (versionOf l) journal (l .booked) ≡ false → (capacity ≤ l .booked) ⊎
+      (length journal < placeOf (versionOf l) (l .booked) + recordSize (versionOf l))
   unfolding hasRoom
   no-room e = by (ltb (l .booked) capacity) refl (ltb (l .booked) (slots (versionOf l) journal)) refl e
     where
@@ -65,7 +69,8 @@ module _ (l : Ledger) (journal bytes : List ℕ) where
       by true p true q h = absurd (true≢false h)
       by true p false q h = inr (whole-short (versionOf l) (l .booked) (length journal) (ltb-false (l .booked) (slots (versionOf l) journal) q))
 
-  placed : Sane l → examined (versionOf l) bytes ≡ Pass → Proposed l journal bytes (placing equal inside (l .booked) (hasRoom (versionOf l) journal (l .booked)))
+  placed : Sane l → examined (versionOf l) bytes ≡ Pass → Proposed l journal bytes
+      (placing equal inside (l .booked) (hasRoom (versionOf l) journal (l .booked)))
   unfolding placing
   placed s p = by (ltb equal inside) refl (hasRoom (versionOf l) journal (l .booked)) refl
     where
@@ -80,7 +85,8 @@ module _ (l : Ledger) (journal bytes : List ℕ) where
   proposed = by (isSane l) refl (examined (versionOf l) bytes) refl
     where
       by : (a : Bool) → isSane l ≡ a → (v : Verdict) → examined (versionOf l) bytes ≡ v
-          → Proposed l journal bytes (gated (cond a Pass (Fail BadSettings)) (gated v (placing equal inside (l .booked) (hasRoom (versionOf l) journal (l .booked)))))
+          → Proposed l journal bytes
+          (gated (cond a Pass (Fail BadSettings)) (gated v (placing equal inside (l .booked) (hasRoom (versionOf l) journal (l .booked)))))
       by true e Pass f = placed (reflect-sane l .sound e) f
       by true e (Fail why) f = failed why (reflect-sane l .sound e) f
       by false e v f = insane (refuted (reflect-sane l) e)
@@ -90,7 +96,8 @@ module _ (l : Ledger) (journal bytes : List ℕ) where
   unfolding equalIn
   past u = found-none (equalAt (versionOf l) journal bytes) inside (first-end-complete inside same-at u)
 
-  filled : (capacity ≤ l .booked) ⊎ (length journal < placeOf (versionOf l) (l .booked) + recordSize (versionOf l)) → hasRoom (versionOf l) journal (l .booked) ≡ false
+  filled : (capacity ≤ l .booked) ⊎ (length journal < placeOf (versionOf l) (l .booked) + recordSize (versionOf l)) → hasRoom (versionOf l) journal
+      (l .booked) ≡ false
   unfolding hasRoom
   filled h = not-true-false (ltb (l .booked) capacity && ltb (l .booked) (slots (versionOf l) journal)) (λ e.
       let r = and-true _ _ e in

@@ -10,7 +10,7 @@ use Rattle.base.proofs.Members.{map-in}
 use Rattle.base.proofs.Reflect.{by-cases, not-true-false}
 use Rattle.conflicts.proofs.Meaning.{reflect-conflicting}
 use Rattle.conflicts.specs.Conflicts.{conflicting}
-use Rattle.conflicts.specs.Tapes.{inputTapes, labels, usedFrom}
+use Rattle.conflicts.specs.Tapes.{inputTapes}
 use Rattle.federation.specs.Federation.{Lawful}
 use Rattle.federation.specs.declared.Settings.{Settings}
 use Rattle.outcome.specs.declared.Verdict.{Verdict}
@@ -28,7 +28,7 @@ use Rattle.ledger.proofs.Rivals.{apart-peaceful, listed, rival-sym}
 use Rattle.ledger.proofs.Safety.{Clear}
 use Rattle.ledger.proofs.Views.{heldAt, recordedAt, signedAt, votedAt}
 use Rattle.ledger.specs.Decisions.{gated, releasing, supersession}
-use Rattle.ledger.specs.Demand2.{InPlace, Signs, accepts}
+use Rattle.ledger.specs.Demand2.{accepts}
 use Rattle.ledger.specs.Demand3.{Correct, bookedJob}
 use Rattle.ledger.specs.Graph.{Algorithm1}
 use Rattle.ledger.specs.Growth.{Grows, OnlySigned, ReleaseTakes, Released, ReleasedForGood, SignedStays}

@@ -40,7 +40,8 @@ pub written : (c : Change) (r : Bool) (booked version : ℕ) (journal bytes afte
     → after ≡ journalWith c booked version journal bytes
 written c r booked version journal bytes after e t w = simp (is-book c r e t) w
 
-pub unwritten : (c : Change) (r : Bool) (booked version : ℕ) (journal bytes : List ℕ) → r ≡ isBook c → r ≡ false → journal ≡ journalWith c booked version journal bytes
+pub unwritten : (c : Change) (r : Bool) (booked version : ℕ) (journal bytes : List ℕ) → r ≡ isBook c → r ≡ false
+    → journal ≡ journalWith c booked version journal bytes
 unwritten Nothing r booked version journal bytes e t = refl
 unwritten Book r booked version journal bytes e t = absurd (true≢false (sym e ∙ t))
 unwritten (Sign state) r booked version journal bytes e t = refl
@@ -58,7 +59,8 @@ module _ (version : ℕ) (journal : List ℕ) (booked : ℕ) (bytes : List ℕ) 
   -- it passes checks 6 to 9, and there is room
   books : proposal version journal booked bytes .change ≡ Book → (examined version bytes ≡ Pass) × (hasRoom version journal booked ≡ true)
   unfolding proposal settling placing
-  books e = by (examined version bytes) refl (ltb (equalIn version journal booked bytes) (insideOf version journal booked)) (hasRoom version journal booked) refl e
+  books e =
+      by (examined version bytes) refl (ltb (equalIn version journal booked bytes) (insideOf version journal booked)) (hasRoom version journal booked) refl e
     where
       no : {A : Type 0} → _≡_ {A = Change} Nothing Book → A
       no q = absurd (true≢false (sym (ap isBook q)))
@@ -86,7 +88,8 @@ searchable version journal booked n numbers sets records few e i =
     record { few = few; indexed = rw e at (records-part version journal n numbers sets records i) }
 
 -- what lies inside can be indexed
-pub buildable : (version : ℕ) (journal : List ℕ) (booked n : ℕ) → booked ≤ capacity → n ≡ insideOf version journal booked → (n ≤ capacity) × (placeOf version n ≤ length journal)
+pub buildable : (version : ℕ) (journal : List ℕ) (booked n : ℕ) → booked ≤ capacity → n ≡ insideOf version journal booked → (n ≤ capacity) ×
+    (placeOf version n ≤ length journal)
 unfolding insideOf
 buildable version journal booked n few e =
     (omega arith, whole-place version n (length journal) (omega arith))

@@ -121,7 +121,8 @@ pub record Holds (s : Settings) (w : World) (r : Register) : Type 0 where
 abbrev pub Demand3 : Type 0
 Demand3 =
     (n b faulty version : ℕ) → Lawful (record { n = n; b = b; faulty = faulty; version = version }) → (es : List Event)
-    → Holds (record { n = n; b = b; faulty = faulty; version = version }) (afterAll (start n b faulty version) es) (feedAll (newRegister version) (log (start n b faulty version) es))
+    → Holds (record { n = n; b = b; faulty = faulty; version = version }) (afterAll (start n b faulty version) es)
+    (feedAll (newRegister version) (log (start n b faulty version) es))
     × ((o : Outcome) → In o (outcomes (start n b faulty version) es) → numberOf o ≡ 1 → ⊥)
 
 -- of a list over version 1 records, which trim nothing: "frames standing equal frames accessioned"
@@ -172,4 +173,5 @@ abbrev pub GenerationsByCreators : Type 0
 GenerationsByCreators =
     (n b faulty version : ℕ) → Lawful (record { n = n; b = b; faulty = faulty; version = version }) → (es : List Event)
     → (k : ℕ) → Held (afterAll (start n b faulty version) es .ledger) k
-    → ByCreators (bookedJob (afterAll (start n b faulty version) es)) (arrived (afterAll (start n b faulty version) es .ledger)) (ageAt (afterAll (start n b faulty version) es)) k
+    → ByCreators (bookedJob (afterAll (start n b faulty version) es)) (arrived (afterAll (start n b faulty version) es .ledger))
+    (ageAt (afterAll (start n b faulty version) es)) k

@@ -5,6 +5,7 @@ mod checks;
 mod releases;
 mod run;
 mod settings;
+mod versions;
 mod votes;
 
 fn main() {
@@ -15,4 +16,5 @@ fn main() {
     votes::votes();
     ages::ages();
     releases::releases();
+    versions::versions();
 }

@@ -224,7 +224,8 @@ module _ (first : ℕ) (s : Settings) (k : ℕ) (l : Ledger) (journal : List ℕ
       sane = sane w (omega arith);
       passes = subst (λ (v : ℕ). examined v bytes ≡ Pass) (sym (h .version)) (record-passes first k small more);
       unknown = λ i b e. let c : i < k = omega (arith, b, h .booked) in
-          let z : i ≡ k = records-differ first i k small (omega arith) more (sym (h .records i c) ∙ ap (λ (v : ℕ). slotAt v journal i) (sym (h .version)) ∙ e) in
+          let z : i ≡ k = records-differ first i k small (omega arith) more
+          (sym (h .records i c) ∙ ap (λ (v : ℕ). slotAt v journal i) (sym (h .version)) ∙ e) in
           absurd (omega arith);
       below = omega (arith, h .booked);
       fits = fits-in (versionOf l);

@@ -1,6 +1,7 @@
 -- Every record of a load passes checks 6 to 9, whatever its first draw.
 use mathlib.Core.Bool.{cond, true, true≢false}
 use mathlib.Core.List.{[], _∷_, append-nil}
+use mathlib.Core.Logic.{inr}
 use mathlib.Core.Path.{_∙_, _≡_, ap, refl, sym}
 use Prim.Native.Nat.{_%_, _*_, _+_, _-_, _/_, _<_, _^_, _≤_, suc, zero, ℕ}
 use native.Mathlib.Omega.{arith}
@@ -26,15 +27,14 @@ use Rattle.checks.specs.Checks.{
   wellFormed,
 }
 use Rattle.codec.proofs.Jobs.{length-bytesOf}
-use Rattle.codec.proofs.RoundTrip.{job-record-job}
-use Rattle.codec.specs.Codec.{EntriesFit, JobFits, bytesOf, jobOf, leAt, recordSize, saidOf, saysTrimmed}
+use Rattle.codec.proofs.RoundTrip.{job-record-job, said-same}
+use Rattle.codec.specs.Codec.{EntriesFit, JobFits, bytesOf, jobOf, leAt, recordSize, saysTrimmed}
 use Rattle.outcome.specs.declared.Verdict.{Verdict}
 use Rattle.outcome.specs.declared.Verdict.the-variants.{Fail, Pass}
 use Rattle.record.specs.Drives.{isDrive, supports}
 use Rattle.record.specs.Entries.{framesOf, isUsed, labelOf, noEntry, usedFrames}
 use Rattle.record.specs.Labels.{charAt, isAlphanumeric, isBetween, isLabel, mediumOf}
 use Rattle.record.specs.declared.Entry.{Entry}
-use Rattle.record.specs.declared.Job.{Job}
 use Rattle.load.proofs.Writes.{eight, untrimmed}
 use Rattle.load.specs.Records.{A, B, accession, jobFor, labelFor, lowerFrames, mainJob, migration, rivalJob, sideJob, tape, upperFrames}
 use Rattle.load.specs.Visits.{isPass}
@@ -142,14 +142,8 @@ fits-job first j b h = record {
   trimmed = rw (untrimmed first j) (lit< tt);
 }
 
--- a version 1 record says a job that trims nothing
-said-same : (j : Job) → j .trimmed ≡ 0 → saidOf 1 j ≡ j
-unfolding saidOf saysTrimmed
-said-same j e =
-    ap (λ (t : ℕ). record { kind = j .kind; drive = j .drive; inputs = j .inputs; outputs = j .outputs; entries = j .entries; trimmed = t }) (sym e)
-
 pub record-reads : (first j : ℕ) → first < 2 ^ 32 → j < 40 → jobOf (bytesOf 1 (jobFor first j)) ≡ jobFor first j
-record-reads first j b h = job-record-job 1 (jobFor first j) (fits-job first j b h) ∙ said-same (jobFor first j) (untrimmed first j)
+record-reads first j b h = job-record-job 1 (jobFor first j) (fits-job first j b h) ∙ said-same 1 (jobFor first j) (inr (untrimmed first j))
 
 -- "Every record written passes checks 6 to 9"
 pub record-passes : (first j : ℕ) → first < 2 ^ 32 → j < 40 → examined 1 (bytesOf 1 (jobFor first j)) ≡ Pass

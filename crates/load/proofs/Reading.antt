@@ -94,8 +94,9 @@ module _ (pre rest : List ℕ) where
         next-is = simp k (omega arith);
       }
 
-  -- a proposal's record is the hundred bytes behind its kind
-  read-propose : (bytes : List ℕ) → length bytes ≡ recordSize 1 → Read (pre ++ (1 ∷ (bytes ++ rest))) (length pre) (request (propose bytes)) (suc (recordSize 1))
+  -- a proposal's record is the bytes behind its kind
+  read-propose : (bytes : List ℕ) → length bytes ≡ recordSize 1 → Read (pre ++ (1 ∷ (bytes ++ rest))) (length pre) (request (propose bytes))
+      (suc (recordSize 1))
   unfolding kindOf
   read-propose bytes n =
       let t : List ℕ = 1 ∷ (bytes ++ rest) in

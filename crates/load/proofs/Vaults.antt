@@ -67,7 +67,14 @@ row-clear s b v h g k outside =
 -- ---- "the faulty set is lawful"
 pub faulty-lawful : (p : Plan) → Fair p → Lawful (record { n = p .n; b = p .b; faulty = faultyOf p; version = 1 })
 unfolding faultyOf
-faulty-lawful p h = record { vaults = h .vaults; few = h .few; below = faulty-below p h; bound = omega (arith, row-ones (p .start) (p .b)); version = (omega arith, omega arith) }
+faulty-lawful p h =
+    record {
+      vaults = h .vaults;
+      few = h .few;
+      below = faulty-below p h;
+      bound = omega (arith, row-ones (p .start) (p .b));
+      version = (omega arith, omega arith);
+    }
 
 -- ---- the correct vault from x
 pub record CorrectAt (p : Plan) (v : ℕ) : Type 0 where

@@ -23,12 +23,26 @@ B = 66
 
 abbrev pub accession : ℕ → ℕ → Entry → Entry → Job
 accession drive outputs first second =
-    record { kind = 0; drive = drive; inputs = 0; outputs = outputs; entries = noEntry ∷ noEntry ∷ noEntry ∷ noEntry ∷ first ∷ second ∷ noEntry ∷ noEntry ∷ []; trimmed = 0 }
+    record {
+      kind = 0;
+      drive = drive;
+      inputs = 0;
+      outputs = outputs;
+      entries = noEntry ∷ noEntry ∷ noEntry ∷ noEntry ∷ first ∷ second ∷ noEntry ∷ noEntry ∷ [];
+      trimmed = 0;
+    }
 
 -- as many tapes as are read are written
 abbrev pub migration : ℕ → ℕ → Entry → Entry → Entry → Entry → Job
 migration drive count from second to other =
-    record { kind = 1; drive = drive; inputs = count; outputs = count; entries = from ∷ second ∷ noEntry ∷ noEntry ∷ to ∷ other ∷ noEntry ∷ noEntry ∷ []; trimmed = 0 }
+    record {
+      kind = 1;
+      drive = drive;
+      inputs = count;
+      outputs = count;
+      entries = from ∷ second ∷ noEntry ∷ noEntry ∷ to ∷ other ∷ noEntry ∷ noEntry ∷ [];
+      trimmed = 0;
+    }
 
 -- jobs 0, 10, 20 and 30: an accession, and a chain of migrations
 unfoldable pub mainJob : ℕ → ℕ → ℕ → Job

@@ -114,7 +114,8 @@ pub(crate) fn generations(
     job: usize,
 ) -> Decision
     requires { ⌜ (settings .n ≤ 16) × (arrivals ≤ 128) × (length (now order) ≡ 128) × (booked ≤ 128) × Booked (settings .version) (now journal) booked job ⌝ }
-    ensures { λ r. ⌜ r ≡ ageing (isHeld settings vaults job) (ageIn (jobAt (settings .version) (now (journal .entry)) booked) (now (order .entry)) arrivals job) ⌝ }
+    ensures { λ r. ⌜ r ≡ ageing (isHeld settings vaults job)
+        (ageIn (jobAt (settings .version) (now (journal .entry)) booked) (now (order .entry)) arrivals job) ⌝ }
 {
     let mut numbers = [0u16; index::NUMBERS];
     let mut sets = [0u64; index::SETS];

@@ -132,7 +132,8 @@ module _ (l : Ledger) (s : Sane l) (journal : List ℕ) where
 
   -- behind an open gate the vault and the job modulo the arrays' lengths are themselves
   at-vault : (v job : ℕ) (faulty : Bool) (P : ℕ → ℕ → Decision)
-      → gated (gateOf (l .settings) v faulty (isBooked (versionOf l) journal (l .booked) job)) (P (v % 16) (job % 128)) ≡ gated (vaultGate l journal v job faulty) (P v job)
+      → gated (gateOf (l .settings) v faulty (isBooked (versionOf l) journal (l .booked) job)) (P (v % 16) (job % 128)) ≡ gated
+      (vaultGate l journal v job faulty) (P v job)
   at-vault v job faulty P =
       ap (λ (g : Verdict). gated g (P (v % 16) (job % 128))) (vault-gate v job faulty)
       ∙ same-behind (vaultGate l journal v job faulty) _ _ placed

@@ -58,7 +58,8 @@ module _ (order : List ℕ) (n job booked : ℕ) (below : job < booked) (arrived
 module _ (l : Ledger) (journal numbers sets records memo : List ℕ) (k : Kept l journal numbers sets records memo) where
   -- the booked jobs are read as before where one more record is put
   grown-jobs : (bytes : List ℕ) → length bytes ≡ recordSize (versionOf l) → placeOf (versionOf l) (l .booked) + recordSize (versionOf l) ≤ length journal
-      → (j : ℕ) → j < l .booked → jobAt (versionOf l) journal (l .booked) j ≡ jobAt (versionOf l) (putAt (versionOf l) journal (l .booked) bytes) (l .booked + 1) j
+      → (j : ℕ) → j < l .booked → jobAt (versionOf l) journal (l .booked) j ≡ jobAt (versionOf l) (putAt (versionOf l) journal (l .booked) bytes)
+      (l .booked + 1) j
   unfolding slotJob
   grown-jobs bytes size room j b =
       let put = putAt (versionOf l) journal (l .booked) bytes in
@@ -89,7 +90,8 @@ module _ (l : Ledger) (journal numbers sets records memo : List ℕ) (k : Kept l
           indexed = t .indexed;
           memo-size = k .memo-size;
           right = subst (λ (x : List ℕ). Memo (jobAt (versionOf l) x (l .booked + 1)) (l .order) (l .arrivals) memo) (sym (t .written))
-              (memo-book (jobAt (versionOf l) journal (l .booked)) (jobAt (versionOf l) (putAt (versionOf l) journal (l .booked) bytes) (l .booked + 1)) (l .order) (l .arrivals) memo
+              (memo-book (jobAt (versionOf l) journal (l .booked)) (jobAt (versionOf l) (putAt (versionOf l) journal (l .booked) bytes) (l .booked + 1))
+              (l .order) (l .arrivals) memo
               (λ q h. grown-jobs bytes size room (getD (l .order) q 0) (k .arrived q h)) (k .right));
         }
 
@@ -167,7 +169,8 @@ module _ (l : Ledger) (journal numbers sets records memo : List ℕ) (k : Kept l
 
 -- ---- the start
 pub kept-new : (n b faulty version : ℕ) → isLawful (record { n = n; b = b; faulty = faulty; version = version }) ≡ true
-    → Kept (newLedger n b faulty version) (replicate journalSize 0) (replicate numbersSize 0) (replicate setsSize 0) (replicate recordsSize 0) (replicate capacity 0)
+    → Kept (newLedger n b faulty version) (replicate journalSize 0) (replicate numbersSize 0) (replicate setsSize 0) (replicate recordsSize 0)
+    (replicate capacity 0)
 unfolding newLedger
 kept-new n b faulty version e = let lawful = reflect-lawful (record { n = n; b = b; faulty = faulty; version = version }) .sound e in record {
   sane = record { lawful = lawful; booked = omega arith; arrivals = omega arith; next = omega (arith, lawful .few) };

@@ -168,7 +168,8 @@ module _ {input : List ℕ} {l₀ : Ledger} {pos₀ count₀ : ℕ} {journal₀ 
     kept-so : ((state : Vault) → told .change ≡ Hold state → s .job < l .booked)
         → Kept (applied l (told .change) (s .vault) (s .job)) journal′ numbers′ sets′ records′ memo
     kept-so below =
-        kept-applied l journal numbers sets records memo (t .kept) journal′ numbers′ sets′ records′ (told .change) (s .vault) (s .job) (recordIn (versionOf l) input s)
+        kept-applied l journal numbers sets records memo (t .kept) journal′ numbers′ sets′ records′ (told .change) (s .vault) (s .job)
+        (recordIn (versionOf l) input s)
         to-write below (c .stored)
 
     -- one that changes nothing

@@ -84,7 +84,8 @@ module _ (r : Run) where
       ∙ ap (λ (version : ℕ). at-version version (stepOf (r .ledger) (r .journal) q .ledger) (overlay (leftBy (r .ledger) (r .journal) q) (worldOf r .booked)))
       (sym (same-version q))
       ∙ ap (worldWith (stepOf (r .ledger) (r .journal) q .ledger))
-      (laid-over (placeOf (versionOf (r .ledger)) (r .ledger .booked)) (r .journal) (leftBy (r .ledger) (r .journal) q) (left-length (r .ledger) (r .journal) q))
+      (laid-over (placeOf (versionOf (r .ledger)) (r .ledger .booked)) (r .journal) (leftBy (r .ledger) (r .journal) q)
+      (left-length (r .ledger) (r .journal) q))
 
   -- the world after a command
   abbrev worldBy : Command → World
@@ -156,6 +157,7 @@ run-keeps input o =
       all = runs-out (length input - begins input .count) input (begins input) (omega arith);
       world = there;
       text = simp o (f .text ∙ ap (λ (w : World). told 0 w (steps input)) (sym (begun-world input)));
-      holds = subst (λ (w : World). Holds (opened input .settings) w (feedAll (newRegister (versionIn input)) (log (begun input) (events (steps input))))) there (d .0);
+      holds = subst (λ (w : World). Holds (opened input .settings) w
+          (feedAll (newRegister (versionIn input)) (log (begun input) (events (steps input))))) there (d .0);
       never-one = d .1;
     }

@@ -96,7 +96,8 @@ pub runs-out : (n : ℕ) (input : List ℕ) (r : Run) → length input ≤ r .po
 unfolding runNext turn
 runs-out zero input r h = le-leb (length input) (r .pos) (omega (arith, h))
 runs-out (suc n) input r h =
-    let later = runs-out n input (turn input r) (reads-on (versionOf (r .ledger)) (kindAt (versionOf (r .ledger)) input (r .pos)) (r .pos) (length input) n h) in
+    let later = runs-out n input (turn input r)
+    (reads-on (versionOf (r .ledger)) (kindAt (versionOf (r .ledger)) input (r .pos)) (r .pos) (length input) n h) in
     by-cases (λ b. ended input (cond b r (runNext n input (turn input r))) ≡ true) (ended input r) (λ e. e) (λ e. later)
 
 -- ---- a step

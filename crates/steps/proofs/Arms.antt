@@ -46,7 +46,10 @@ pub searched : (version : ℕ) (journal : List ℕ) (booked : ℕ) (numbers sets
 unfolding insideOf
 searched version journal booked numbers sets records i =
     let e : booked ≡ insideOf version journal booked = omega (arith, place-whole version booked (length journal) (i .inside)) in
-    record { few = i .few; indexed = subst (λ (n : ℕ). IndexedRecords version journal n records) e (records-part version journal booked numbers sets records i) }
+    record {
+      few = i .few;
+      indexed = subst (λ (n : ℕ). IndexedRecords version journal n records) e (records-part version journal booked numbers sets records i);
+    }
 
 -- a job whose gate passes is booked
 pub known-behind : (w : View) (journal : List ℕ) (v : ℕ) (faulty : Bool) (job : ℕ) (g : Verdict) → g ≡ gateBy w journal v faulty job
@@ -56,7 +59,8 @@ known-behind w journal v faulty job g h = record {
   below = λ p.
       let vault = passed-rest (ltb v (w .settings .n)) _ NoVault (sym h ∙ p) in
       let kind = passed-rest (Bool·beq (hasBit (w .settings .faulty) v) faulty) _ WrongVault vault in
-      reflect-booked (w .settings .version) journal (w .booked) job .sound (passed-test (isBooked (w .settings .version) journal (w .booked) job) Pass NotBooked kind) .below;
+      reflect-booked (w .settings .version) journal (w .booked) job .sound
+      (passed-test (isBooked (w .settings .version) journal (w .booked) job) Pass NotBooked kind) .below;
 }
 
 -- the command of a kind with this vault and this job
@@ -74,7 +78,8 @@ again version Release v job input at = request (release v job (getD input (at + 
 again version Unknown v job input at = unreadable
 
 module _ (version : ℕ) (input : List ℕ) (at : ℕ) where
-  same-command : (k : Kind) → again version k (vaultOf (commandIn version k input at)) (jobOf (commandIn version k input at)) input at ≡ commandIn version k input at
+  same-command : (k : Kind) → again version k (vaultOf (commandIn version k input at))
+      (jobOf (commandIn version k input at)) input at ≡ commandIn version k input at
   same-command Propose = refl
   same-command Preflight = refl
   same-command Commit = refl

@@ -52,9 +52,11 @@ module _ (change : Change) (r : Bool) (booked at version : ℕ) (journal input :
 
     pub says : (a : Job) → a ≡ frontJob version part → a ≡ slotJob version journal′ booked
     unfolding slotJob
-    says a h = h ∙ ap (frontJob version) part-is ∙ front-whole version bytes size ∙ rw put (ap jobOf (sym (slot-put version booked journal bytes size record-room)))
+    says a h =
+        h ∙ ap (frontJob version) part-is ∙ front-whole version bytes size ∙ rw put (ap jobOf (sym (slot-put version booked journal bytes size record-room)))
 
-    pub still-indexed : (numbers sets records : List ℕ) → Indexed version journal booked numbers sets records → Indexed version journal′ booked numbers sets records
+    pub still-indexed : (numbers sets records : List ℕ) → Indexed version journal booked numbers sets records
+        → Indexed version journal′ booked numbers sets records
     still-indexed numbers sets records i = rw put (indexed-put version journal booked numbers sets records i bytes size record-room)
 
     pub stored : (numbers′ sets′ records′ : List ℕ) → Indexed version journal′ (booked + 1) numbers′ sets′ records′

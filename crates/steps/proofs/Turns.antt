@@ -23,7 +23,8 @@ module _ (w : View) (journal input : List ℕ) (s : Step) (d : Decision) (e : d 
   to-store = writable w journal input (s .at) (s .kind) d e
 
   pub carried-out : (at : ℕ) (out journal′ numbers′ sets′ records′ out′ : List ℕ) (r : ℕ) → Put out at (lineFor (s .number) (d .outcome)) out′ r
-      → r ≤ at + longestText → Stored (d .change) (w .booked) (w .settings .version) journal (recordIn (w .settings .version) input s) journal′ numbers′ sets′ records′
+      → r ≤ at + longestText → Stored (d .change) (w .booked) (w .settings .version) journal
+      (recordIn (w .settings .version) input s) journal′ numbers′ sets′ records′
       → CarriedOut input s w at journal out (record { change = d .change; at = r }) journal′ numbers′ sets′ records′ out′
   carried-out at out journal′ numbers′ sets′ records′ out′ r p h t = record {
     change-is = ap (λ (x : Decision). x .change) e;

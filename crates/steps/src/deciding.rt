@@ -50,7 +50,8 @@ pub(crate) fn decide(
     journal: &[u8],
     input: &[u8],
 ) -> Decision
-    requires { ⌜ Asked (view .settings .version) (now input) step × Indexed (view .settings .version) (now journal) (view .booked) (now numbers) (now sets) (now records) ⌝ }
+    requires { ⌜ Asked (view .settings .version) (now input) step
+        × Indexed (view .settings .version) (now journal) (view .booked) (now numbers) (now sets) (now records) ⌝ }
     ensures { λ r. ⌜ r ≡ decidedBy view (now (journal .entry)) (commandIn (view .settings .version) (step .kind) (now (input .entry)) (step .at)) ⌝ }
 {
     let kind = step.kind;

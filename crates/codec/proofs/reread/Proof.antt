@@ -15,7 +15,8 @@ returns c =
     let n : length (s .args .job .entries) ≡ 8 = search length-mapped in
     let fits = entries-fit _ _ (s .good .1 .0 .1 .1 .1 .1 .1 .1 .0 .1 .1) in
     c .read .ensures
-    ∙ same-job (s .args .version) (s .args .job) _ _ (record { eight = n; fit = fits; trimmed = search needs }) (size-most _) (c .before .before .before .write .ensures .1)
+    ∙ same-job (s .args .version) (s .args .job) _ _ (record { eight = n; fit = fits; trimmed = search needs }) (size-most _)
+    (c .before .before .before .write .ensures .1)
 
 pub reread-spec : {M : Type 1} → statement M
 reread-spec = tie.close (tie.spec (λ c. search needs) (λ c κs. search needs) (λ c. search needs) (λ c κs. search needs) returns)

@@ -28,9 +28,11 @@ loop-again c =
 returns : tie.Need-returns Inv-loop μ-loop
 unfolding jobOf
 returns c =
-    let l = c .before .before .before .before .before .before .loop in
-    let e = read-done _ _ (l .i) (c .before .before .before .before .before .loop-test .left) (l .inv .1 .1) in
-    simp (c .number-at .ensures .0, c .before .byte-at4 .ensures, c .before .before .byte-at3 .ensures, c .before .before .before .byte-at2 .ensures, c .before .before .before .before .byte-at .ensures, e)
+    let d = c .before .before .before .before in
+    let l = d .before .before .loop in
+    let e = read-done _ _ (l .i) (d .before .loop-test .left) (l .inv .1 .1) in
+    let b = c .before .before in
+    simp (c .number-at .ensures .0, c .before .byte-at4 .ensures, b .byte-at3 .ensures, b .before .byte-at2 .ensures, d .byte-at .ensures, e)
 
 pub said-spec : {M : Type 1} → statement M
 said-spec =

@@ -16,36 +16,42 @@ use Rattle.codec.proofs.write.Tie as tie
 returns : tie.Need-returns
 unfolding written fitsRecord
 returns c =
-    let short = lt-leb (recordSize (c .before .before .before .args .version)) (length (now (c .before .before .before .args .out))) (omega (arith, c .before .record-size .ensures .0, c .if1 .taken)) in
+    let a = c .before .before .before .args in
+    let short = lt-leb (recordSize (a .version)) (length (now (a .out))) (omega (arith, c .before .record-size .ensures .0, c .if1 .taken)) in
     (sym short, simp short)
 
+-- In what follows b is the place after the body was stored, and f the one after the buffer was found long enough.
 put-number-requires : tie.Need-put-number-requires
 put-number-requires c κs =
+    let b = c .before .before .before .before .before .before in
+    let f = b .before .before in
     let s = trimmed-size _ (sym (c .before .before .before .says-trimmed .ensures) ∙ c .before .before .if2 .taken) in
-    let a = c .before .before .before .before .before .before .before .before .before .before .before .args in
-    let room : 104 ≤ length (now (a .out)) = omega (arith, s, c .before .before .before .before .before .before .before .before .if1 .left, c .before .before .before .before .before .before .before .before .before .record-size .ensures .0) in
-    simp (c .before .before .before .before .before .before .put-body .kept .1 .0) (omega (arith, room))
+    let room : 104 ≤ length (now (f .before .before .before .args .out)) = omega (arith, s, f .if1 .left, f .before .record-size .ensures .0) in
+    simp (b .put-body .kept .1 .0) (omega (arith, room))
 
 returns-2 : tie.Need-returns-2
 unfolding fitsRecord
 returns-2 c =
-    let a = c .before .before .before .before .before .before .before .before .before .before .before .before .before .before .args in
-    let fits : recordSize (a .version) ≤ length (now (a .out)) = omega (arith, c .before .before .before .before .before .before .before .before .before .before .before .before .record-size .ensures .0, c .before .before .before .before .before .before .before .before .before .before .before .if1 .left) in
-    let n : length (a .job .entries) ≡ 8 = search length-mapped in (
-      sym (le-leb _ _ fits),
-      write-trimmed (a .version) (now (a .out)) _ _ (a .job) (sym (c .before .before .before .before .before .before .says-trimmed .ensures) ∙ c .before .before .before .before .before .if2 .taken) n fits (c .before .before .before .before .before .before .before .before .before .put-body .ensures)
-          (c .before .before .put-number .ensures),
-    )
+    let given = c .before .before .before .before .before .before .before .before .before .before .before .before .before .before .args in
+    let n : length (given .job .entries) ≡ 8 = search length-mapped in
+    let b = c .before .before .before .before .before .before .before .before .before in
+    let f = b .before .before in
+    let a = f .before .before .before .args in
+    let fits : recordSize (a .version) ≤ length (now (a .out)) = omega (arith, f .before .record-size .ensures .0, f .if1 .left) in
+    let says = sym (c .before .before .before .before .before .before .says-trimmed .ensures) ∙ c .before .before .before .before .before .if2 .taken in
+    (sym (le-leb _ _ fits), write-trimmed (a .version) (now (a .out)) _ _ (a .job) says n fits (b .put-body .ensures) (c .before .before .put-number .ensures))
 
 returns-3 : tie.Need-returns-3
 unfolding fitsRecord
 returns-3 c =
-    let a = c .before .before .before .before .before .before .before .before .before .args in
-    let fits : recordSize (a .version) ≤ length (now (a .out)) = omega (arith, c .before .before .before .before .before .before .before .record-size .ensures .0, c .before .before .before .before .before .before .if1 .left) in
-    let n : length (a .job .entries) ≡ 8 = search length-mapped in (
-      sym (le-leb _ _ fits),
-      write-plain (a .version) (now (a .out)) _ (a .job) (sym (c .before .says-trimmed .ensures) ∙ c .if2 .left) n fits (c .before .before .before .before .put-body .ensures),
-    )
+    let given = c .before .before .before .before .before .before .before .before .before .args in
+    let n : length (given .job .entries) ≡ 8 = search length-mapped in
+    let b = c .before .before .before .before in
+    let f = b .before .before in
+    let a = f .before .before .before .args in
+    let fits : recordSize (a .version) ≤ length (now (a .out)) = omega (arith, f .before .record-size .ensures .0, f .if1 .left) in
+    let says = sym (c .before .says-trimmed .ensures) ∙ c .if2 .left in
+    (sym (le-leb _ _ fits), write-plain (a .version) (now (a .out)) _ (a .job) says n fits (b .put-body .ensures))
 
 pub write-spec : {M : Type 1} → statement M
 write-spec =

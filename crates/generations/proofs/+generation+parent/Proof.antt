@@ -96,7 +96,8 @@ pub +generation+parent-spec : {M : Type 1} → statement M
     let at = c .before .before .before .wide .ensures .0 in
     (memo-known _ _ _ _ (s .pre .1 .0 .right) _ _ (c .if2 .taken) (rw (sym at) at (s .pre .1 .1)), s .pre .1 .0 .right))
     -- its inputs
-    (λ c κs. let s = c .before .before .before .before .before .before .before .before .before .before in room-at (s .args .version) (now (s .args .journal)) _ _ (s .pre .1 .0 .inside) (c .before .before .if1 .left))
+    (λ c κs. let s = c .before .before .before .before .before .before .before .before .before .before in room-at (s .args .version)
+    (now (s .args .journal)) _ _ (s .pre .1 .0 .inside) (c .before .before .if1 .left))
     (λ c.
     let s = c .before .before .before .before .before .before .before .before .before .before .before in
     let below = c .before .before .before .if1 .left in

@@ -14,7 +14,8 @@ use Rattle.journal.specs.Journal.{slotAt}
 use native.Mathlib.Omega.{arith}
 
 -- by the record that stands there
-counted : (version : ℕ) (journal part : List ℕ) (k count : ℕ) → part ≡ slotAt version journal k → count ≡ jobOf part .inputs → count ≡ slotJob version journal k .inputs
+counted : (version : ℕ) (journal part : List ℕ) (k count : ℕ) → part ≡ slotAt version journal k → count ≡ jobOf part .inputs
+    → count ≡ slotJob version journal k .inputs
 counted version journal part k count p e = e ∙ ap (λ (x : Job). x .inputs) (part-job version journal part k p)
 
 returns : tie.Need-returns

@@ -27,7 +27,8 @@ slot-requires c κs =
 
 returns-3 : tie.Need-returns-3
 unfolding recordAt isBooked
-returns-3 c = simp (← c .before .before .before .whole-in .ensures, le-leb _ _ (c .before .before .if1 .left), lt-ltb _ _ (c .before .if2 .left), c .slot .ensures)
+returns-3 c =
+    simp (← c .before .before .before .whole-in .ensures, le-leb _ _ (c .before .before .if1 .left), lt-ltb _ _ (c .before .if2 .left), c .slot .ensures)
 
 pub lookup-spec : {M : Type 1} → statement M
 lookup-spec =

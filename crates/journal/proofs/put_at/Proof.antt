@@ -14,7 +14,8 @@ returns c =
     let at = c .before .before .before .before .before .place in
     let size = c .before .before .before .before .record-size in
     rw (← at .ensures, ← size .ensures .0)
-    (copied (now (s .args .journal)) (now (s .args .bytes)) _ (at .result) (size .result) (s .pre .1 ∙ sym (size .ensures .0)) (c .before .before .copy .ensures .1))
+    (copied (now (s .args .journal)) (now (s .args .bytes)) _ (at .result) (size .result) (s .pre .1 ∙ sym (size .ensures .0))
+    (c .before .before .copy .ensures .1))
 
 pub put-at-spec : {M : Type 1} → statement M
 put-at-spec =

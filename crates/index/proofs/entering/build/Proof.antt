@@ -17,8 +17,12 @@ abbrev μ-loop : tie.MeasureT-loop
 ruleset by = (indexed-none, indexed-all, needs)
 
 enter-requires : tie.Need-enter-requires Inv-loop μ-loop
-enter-requires c κs =
-    (search (inside-record, needs), c .read .ensures ∙ front-job _ _ _ _ (c .before .slot .ensures), c .before .before .before .before .before .before .loop .inv .1)
+enter-requires c κs = (
+  search (inside-record, needs),
+  c .read .ensures ∙ front-job _ _ _ _
+      (c .before .slot .ensures),
+  c .before .before .before .before .before .before .loop .inv .1,
+)
 
 same-length : tie.Need-same-length Inv-loop μ-loop
 same-length c = indexed-lengths _ _ _ _ _ _ (c .before .loop .inv .1) _ _ _ (c .before .before .before .before .before .before .pre .2) .0

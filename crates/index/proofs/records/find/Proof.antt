@@ -27,7 +27,8 @@ nearer-requires : tie.Need-nearer-requires Inv-loop μ-loop
 nearer-requires c κs =
     let t = c .before .before .before .before .before .before .before .pre .1 in
     let a = c .before .before .before .before .before .before .before .args in
-    inside-record (a .version) (now (a .journal)) (a .n) (c .before .loop .x - 1) (t .few) (t .inside) (omega (arith, c .before .loop .inv .below, c .loop-test .taken)) .inside
+    inside-record (a .version) (now (a .journal)) (a .n) (c .before .loop .x - 1) (t .few) (t .inside)
+    (omega (arith, c .before .loop .inv .below, c .loop-test .taken)) .inside
 
 number-requires-2 : tie.Need-number-requires-2 Inv-loop μ-loop
 number-requires-2 c κs = omega (arith, indexed-filed _ _ _ _ (c .before .before .before .before .before .before .before .before .pre .1) .size)

@@ -18,7 +18,9 @@ loop-holds : tie.Need-loop-holds Inv-loop μ-loop
 loop-holds c = look-start _ _ _ (c .before .before .before .before .pre .1) _ _ _ _ (c .before .bucket .ensures) (c .number .ensures .0)
 
 entry-at-requires : tie.Need-entry-at-requires Inv-loop μ-loop
-entry-at-requires c κs = let s = c .before .before .before .before .before .before in holds-at _ _ (s .args .m) (c .before .loop .x - 1) (s .pre .0) (omega (arith, c .before .loop .inv .walk .below, c .loop-test .taken))
+entry-at-requires c κs =
+    let s = c .before .before .before .before .before .before in holds-at _ _ (s .args .m) (c .before .loop .x - 1) (s .pre .0)
+    (omega (arith, c .before .loop .inv .walk .below, c .loop-test .taken))
 
 returns : tie.Need-returns Inv-loop μ-loop
 returns c =
