@@ -151,7 +151,7 @@ seenNext l = seenAfter (l .settings) (l .next) (l .seen) (vaultAt l (l .next) .h
 -- a request that is answered 0 and changes nothing
 abbrev pub Idle : World → Request → Type 0
 Idle w (propose bytes) = In bytes (tableOf w)
-Idle w (preflight v k) = Unit {0}
+Idle w (preflight v k) = jobHas (vaultAt (w .ledger) v .signed) k ≡ true
 Idle w (commit v k signers) = HeldBy (w .ledger) k v
 Idle w (faultyVote c v k) = ⊥
 Idle w (show k) = Unit {0}
@@ -237,13 +237,14 @@ module _ (w : World) (sh : Shape (w .ledger) (w .booked)) (size : ℕ) (beyond :
   unfolding voted withVault
   signed-booked v k = refl
 
-  consents : (v k : ℕ) (b : Bool) (d : Verdict) → admissionAt (vaultAt l v) (versionOf l) journal (l .booked) k ≡ d → Entered l journal v k false
+  consents : (v k : ℕ) (b : Bool) → jobHas (vaultAt l v .signed) k ≡ b → (d : Verdict) → admissionAt (vaultAt l v) (versionOf l) journal (l .booked) k ≡ d
+      → Entered l journal v k false
       → let answer : Signing = cond b (record { consent = Already; vault = vaultAt l v }) (consented d (vaultAt l v) k) in
       Moves (preflight v k) (carried l (consenting (answer .consent) (answer .vault) (signersOf l k) v) v k)
   unfolding applied
-  consents v k true d e h = answers (preflight v k) (ones (signersOf l k)) v k tt
-  consents v k false (Fail why) e h = refuses (preflight v k) why v k
-  consents v k false Pass e h =
+  consents v k true s d e h = answers (preflight v k) (ones (signersOf l k)) v k s
+  consents v k false s (Fail why) e h = refuses (preflight v k) why v k
+  consents v k false s Pass e h =
       moves (preflight v k) (carried l (voting (signersOf l k) v (Sign (signing (vaultAt l v) k))) v k) (signed-booked v k)
       (signs v k (correct v k h) (h .known .below) (unblocked v k h e))
 
@@ -251,7 +252,7 @@ module _ (w : World) (sh : Shape (w .ledger) (w .booked)) (size : ℕ) (beyond :
   unfolding preflightDecision preflighting consent vaultPreflight
   change-preflight v k =
       behind (preflight v k) (vaultGate l journal v k false) _ v k
-      (λ g. consents v k (jobHas (vaultAt l v .signed) k) (admissionAt (vaultAt l v) (versionOf l) journal (l .booked) k) refl (entered l journal v k false g))
+      (λ g. consents v k (jobHas (vaultAt l v .signed) k) refl (admissionAt (vaultAt l v) (versionOf l) journal (l .booked) k) refl (entered l journal v k false g))
 
   -- ---- commit
   subset-ones : (k signers : ℕ) → subsetOf signers (signersOf l k) ≡ true → ones signers ≤ ones (signersOf l k)

@@ -1,3 +1,4 @@
+pub mod Acceptance
 pub mod Account
 pub mod Algorithms
 pub mod Changes
@@ -16,6 +17,8 @@ pub mod Meaning
 pub mod OneLabel
 pub mod Paper
 pub mod Places
+pub mod Ready
+pub mod ReadyExample
 pub mod Refusals
 pub mod Releases
 pub mod Rivals

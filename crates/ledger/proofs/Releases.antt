@@ -122,7 +122,7 @@ signed-stays n b faulty version lawful es fs v k c s =
 -- ---- a preflight of a released job is turned back
 
 -- a step that is answered 0 passed its gate
-done-gate : (g : Verdict) (d : Decision) → isDone (gated g d .outcome) ≡ true → g ≡ Pass
+pub done-gate : (g : Verdict) (d : Decision) → isDone (gated g d .outcome) ≡ true → g ≡ Pass
 done-gate Pass d e = refl
 done-gate (Fail why) d e = absurd (true≢false (sym e))
 

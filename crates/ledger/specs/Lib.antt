@@ -7,6 +7,7 @@ pub mod Growth
 pub mod Holders
 pub mod Independence
 pub mod Meaning
+pub mod Ready
 pub mod Register
 pub mod Rounds
 pub mod State
