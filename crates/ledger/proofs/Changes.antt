@@ -252,7 +252,8 @@ module _ (w : World) (sh : Shape (w .ledger) (w .booked)) (size : ℕ) (beyond :
   unfolding preflightDecision preflighting consent vaultPreflight
   change-preflight v k =
       behind (preflight v k) (vaultGate l journal v k false) _ v k
-      (λ g. consents v k (jobHas (vaultAt l v .signed) k) refl (admissionAt (vaultAt l v) (versionOf l) journal (l .booked) k) refl (entered l journal v k false g))
+      (λ g. consents v k (jobHas (vaultAt l v .signed) k) refl (admissionAt (vaultAt l v) (versionOf l) journal (l .booked) k) refl
+      (entered l journal v k false g))
 
   -- ---- commit
   subset-ones : (k signers : ℕ) → subsetOf signers (signersOf l k) ≡ true → ones signers ≤ ones (signersOf l k)

@@ -15,7 +15,7 @@ use lib.Seq.{length-take-le}
 use borrow.Author.Tests.{lt-ltb}
 use Rattle.base.proofs.Lists.{reflect-same}
 use Rattle.base.proofs.Members.{any-in, distinct-snoc, in-getD, in-last, in-left, in-map, in-none, in-snoc, pigeons, reflect-member}
-use Rattle.base.proofs.Reflect.{reflect-eq, refuted, refutes}
+use Rattle.base.proofs.Reflect.{by-cases, reflect-eq, refuted, refutes}
 use Rattle.base.specs.Lists.{Distinct, In, anyIn, sameList}
 use Rattle.base.specs.Reflect.{Reflects}
 use Rattle.outcome.specs.declared.Verdict.the-variants.{Pass}
@@ -372,21 +372,21 @@ module _ {w : World} {r : Register} (i : Inv w r) where
 
     inv-hold : Inv (withLedger w next) (feedCommit r k)
     unfolding feedCommit
-    inv-hold = by (anyIn (eqb k) (r .taken)) refl
+    inv-hold =
+        by-cases
+        (λ b. Inv (withLedger w next) (cond b r (cond (ltb k (length (r .table)) && isAdmissible r (getD (r .table) k [])) (taking r k) (stopped r))))
+        (anyIn (eqb k) (r .taken))
+        (λ e. inv-again (taken? .sound e))
+        (λ e.
+        let new : In k (r .taken) → ⊥ = refuted taken? e in
+        simp (
+          lt-ltb k (length (r .table)) (omega (arith, table-length i)),
+          reflect-admissible r (getD (r .table) k []) .complete
+              (can-take k hk quorum new),
+        ) (inv-first new))
       where
         taken? : Reflects (anyIn (eqb k) (r .taken)) (In k (r .taken))
         taken? = reflect-member k (r .taken) (reflect-eq k)
-
-        by : (b : Bool) → anyIn (eqb k) (r .taken) ≡ b
-            → Inv (withLedger w next) (cond b r (cond (ltb k (length (r .table)) && isAdmissible r (getD (r .table) k [])) (taking r k) (stopped r)))
-        by true e = inv-again (taken? .sound e)
-        by false e =
-            let new : In k (r .taken) → ⊥ = refuted taken? e in
-            simp (
-              lt-ltb k (length (r .table)) (omega (arith, table-length i)),
-              reflect-admissible r (getD (r .table) k []) .complete
-                  (can-take k hk quorum new),
-            ) (inv-first new)
 
   -- ---- a request answered 0 that changes nothing
   inv-idle : (q : Request) → Idle w q → Inv w (feedDone r q)

@@ -11,12 +11,13 @@ use native.Mathlib.Omega.{arith}
 use lib.ListN.{List·getD-eq-default, drop, getD, length, length-append, length-drop, length-take, take}
 use lib.Seq.{drop-append-le, drop-drop, take-append-le, take-at, take-length, take-take}
 use Rattle.base.proofs.Lists.{take-drop}
-use Rattle.base.proofs.Reflect.{refuted}
+use Rattle.base.proofs.Reflect.{by-cases, refuted}
+use Rattle.base.specs.Reflect.{Reflects}
 use Rattle.codec.proofs.Sizes.{place-before, place-first, place-next, place-suc}
 use Rattle.codec.specs.Codec.{jobOf, placeOf, recordSize}
 use Rattle.journal.proofs.Booked.{reflect-booked}
 use Rattle.ledger.specs.Demand3.{recordsIn}
-use Rattle.journal.specs.Journal.{isBooked, jobAt, putAt, recordAt, slotAt}
+use Rattle.journal.specs.Journal.{Booked, isBooked, jobAt, putAt, recordAt, slotAt}
 use Rattle.ledger.specs.Register.{tabled}
 use Rattle.ledger.specs.Worlds.{lend, overlay}
 
@@ -100,16 +101,18 @@ module _ (version : ℕ) where
 
     record-read : (k : ℕ) → recordAt version (lend bs size xs) n k ≡ getD (recordsIn version n bs) k []
     unfolding recordAt
-    record-read k = by (isBooked version (lend bs size xs) n k) refl
+    record-read k =
+        by-cases (λ b. cond b (slotAt version (lend bs size xs) k) [] ≡ getD (recordsIn version n bs) k []) (isBooked version (lend bs size xs) n k)
+        (λ t. slot-read k (booked? .sound t .below))
+        (λ t.
+        let past : n ≤ k = not-below (λ (l : k < n). refuted booked? t (record { inside = h; below = l })) in
+        sym (List·getD-eq-default (recordsIn version n bs) [] {n = k} (omega (arith, records-length n bs))))
       where
-        by : (b : Bool) → isBooked version (lend bs size xs) n k ≡ b → cond b (slotAt version (lend bs size xs) k) [] ≡ getD (recordsIn version n bs) k []
-        by true t = slot-read k (reflect-booked version (lend bs size xs) n k .sound t .below)
-        by false t =
-            let past : n ≤ k = not-below (λ (l : k < n). refuted (reflect-booked version (lend bs size xs) n k) t (record { inside = h; below = l })) in
-            sym (List·getD-eq-default (recordsIn version n bs) [] {n = k} (omega (arith, records-length n bs)))
-          where
-            not-below : (k < n → ⊥) → n ≤ k
-            not-below f = omega (arith, f)
+        booked? : Reflects (isBooked version (lend bs size xs) n k) (Booked version (lend bs size xs) n k)
+        booked? = reflect-booked version (lend bs size xs) n k
+
+        not-below : (k < n → ⊥) → n ≤ k
+        not-below f = omega (arith, f)
 
     pub jobs-read : jobAt version (lend bs size xs) n ≡ tabled (recordsIn version n bs)
     unfolding jobAt

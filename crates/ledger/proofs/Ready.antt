@@ -302,7 +302,8 @@ module _ (s j : ℕ) where
       }
 
 -- ---- at first nothing is held, so all that is held is acknowledged
-acknowledged-first : (n b faulty version : ℕ) → Lawful (record { n = n; b = b; faulty = faulty; version = version }) → Acknowledged (start n b faulty version .ledger)
+acknowledged-first : (n b faulty version : ℕ) → Lawful (record { n = n; b = b; faulty = faulty; version = version })
+    → Acknowledged (start n b faulty version .ledger)
 unfolding start newLedger
 acknowledged-first n b faulty version lawful v k t = absurd (omega (arith, first n b faulty version lawful .safe .booked-held v k t))
 

@@ -150,10 +150,12 @@ pub premises :
     × (outcomes world (preflights ++ (commits ++ (lending (show 1) ∷ [])))
     ≡ Done 1 ∷ Done 2 ∷ Done 2 ∷ Done 1 ∷ Done 1 ∷ Done 3 ∷ Done 1 ∷ Refused NotSigned ∷ Done 2 ∷ Done 2 ∷ Done 3 ∷ Done 2 ∷ [])
 unfolding sameList anyBelow allBelow firstBelow sumFrom hasBit withBit withMember withoutBit subsetOf jobHas jobWith jobWithout inputsFormed
-    countsFormed isFilled isBlank entryFormed trimmedFormed wellFormed hasLabelOf repeatedAt isWritten unsupportedAt balanced checkOf examined recordSize saysTrimmed placeOf wholeIn leAt
+    countsFormed isFilled isBlank entryFormed trimmedFormed wellFormed hasLabelOf repeatedAt isWritten unsupportedAt balanced checkOf examined
+    recordSize saysTrimmed placeOf wholeIn leAt
     entryAt
     entriesAt jobOf isLabelAt labelIn isTapeAt makesTape isDrive supports labelOf framesOf isUsed usedFrames isBetween charAt isAlphanumeric mediumOf
-    isLabel usedFrom makesAt madeBy listsAt listedBy notCreatedAt consumedAt madeBefore remadeAt admission isKnown isFederation isLawfulUpTo thresholdOf isAt slotAt isBooked
+    isLabel usedFrom makesAt madeBy listsAt listedBy notCreatedAt consumedAt madeBefore remadeAt admission isKnown isFederation isLawfulUpTo
+    thresholdOf isAt slotAt isBooked
     recordAt jobAt insideOf equalAt equalIn hasRoom putAt votesIn hasArrived isSane newLedger booking voted withVault enqueued arriving applied
     bookedGate gateOf saneGate vaultGate placing settling proposal proposeDecision journalAfter consent preflighting preflightDecision certificate
     receiving committing commitDecision faultyVoteDecision statusOf showDecision signing holding admissionAt vaultPreflight lend overlay after start

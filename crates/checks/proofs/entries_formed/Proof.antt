@@ -14,13 +14,5 @@ ruleset by = (searches, needs)
 pub entries-formed-spec : {M : Type 1} → statement M
 entries-formed-spec =
     tie.close
-    (tie.spec
-    (λ job i₀ i. (i ≤ 8) × (allBelow i (entryFormed job) ≡ true))
-    (λ job i₀ i. 8 - i)
-    (λ c. search by depth 8)
-    (λ c κs. search by depth 8)
-    (λ c. search by depth 8)
-    (λ c. search by depth 8)
-    (λ c. search by depth 8)
-    (λ c. search by depth 8)
-    (λ c. search by depth 8))
+    (tie.spec (λ job i₀ i. (i ≤ 8) × (allBelow i (entryFormed job) ≡ true)) (λ job i₀ i. 8 - i) (λ c. search by depth 8) (λ c κs. search by depth 8)
+    (λ c. search by depth 8) (λ c. search by depth 8) (λ c. search by depth 8) (λ c. search by depth 8) (λ c. search by depth 8))

@@ -14,13 +14,6 @@ ruleset by = (searches, needs)
 pub seen-before-spec : {M : Type 1} → statement M
 seen-before-spec =
     tie.close
-    (tie.spec
-    (λ job i k₀ k. (k ≤ i) × (anyBelow k (hasLabelOf job i) ≡ false))
-    (λ job i k₀ k. i - k)
-    (λ c. search by depth 8)
-    (λ c κs. search by depth 8)
-    (λ c. search by depth 8)
-    (λ c. search by depth 8)
-    (λ c. search by depth 8)
-    (λ c. search by depth 8)
+    (tie.spec (λ job i k₀ k. (k ≤ i) × (anyBelow k (hasLabelOf job i) ≡ false)) (λ job i k₀ k. i - k) (λ c. search by depth 8)
+    (λ c κs. search by depth 8) (λ c. search by depth 8) (λ c. search by depth 8) (λ c. search by depth 8) (λ c. search by depth 8)
     (λ c. search by depth 8))

@@ -31,15 +31,5 @@ returns c = let l = c .before .loop in (sum-end _ _ _ _ (l .i) _ (c .loop-test .
 pub total-spec : {M : Type 1} → statement M
 total-spec =
     tie.close
-    (tie.spec
-    Inv-loop
-    μ-loop
-    loop-holds
-    (λ c. search needs)
-    (λ c κs. search needs)
-    (λ c. search needs)
-    (λ c. omega (arith, c .used-frames .ok))
-    (λ c. search needs)
-    (λ c. search needs)
-    loop-again
-    returns)
+    (tie.spec Inv-loop μ-loop loop-holds (λ c. search needs) (λ c κs. search needs) (λ c. search needs) (λ c. omega (arith, c .used-frames .ok))
+    (λ c. search needs) (λ c. search needs) loop-again returns)

@@ -22,9 +22,5 @@ some-needed n f t = let h : t - f ≡ max (t - f) 0 = omega arith in ap (λ (x :
 pub both-reach-spec : {M : Type 1} → statement M
 both-reach-spec =
     tie.close
-    (tie.spec
-    (λ c. let a = c .before .args in none-needed (a .n) (a .f) (a .t) (omega (arith, c .if1 .taken)))
-    (λ c. search needs)
-    (λ c. omega (arith, law _ _ _ (c .before .pre)))
-    (λ c. omega (arith, law _ _ _ (c .before .pre)))
-    (λ c. some-needed _ _ _))
+    (tie.spec (λ c. let a = c .before .args in none-needed (a .n) (a .f) (a .t) (omega (arith, c .if1 .taken))) (λ c. search needs)
+    (λ c. omega (arith, law _ _ _ (c .before .pre))) (λ c. omega (arith, law _ _ _ (c .before .pre))) (λ c. some-needed _ _ _))

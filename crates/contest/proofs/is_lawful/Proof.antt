@@ -8,9 +8,4 @@ pub is-lawful-spec : {M : Type 1} → statement M
 unfolding isLawful
 is-lawful-spec =
     tie.close
-    (tie.spec
-    (λ c. search tests)
-    (λ c. search tests)
-    (λ c. search tests)
-    (λ c. search tests)
-    (λ c. search tests))
+    (tie.spec (λ c. search tests) (λ c. search tests) (λ c. search tests) (λ c. search tests) (λ c. search tests))

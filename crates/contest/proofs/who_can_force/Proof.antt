@@ -11,9 +11,5 @@ pub who-can-force-spec : {M : Type 1} → statement M
 unfolding prospectOf shareOf
 who-can-force-spec =
     tie.close
-    (tie.spec
-    (λ c. omega (arith, law _ _ _ (c .pre)))
-    (λ c. omega (arith, law _ _ _ (c .pre)))
-    (λ c. search needs)
-    (λ c. search (yes, no, tests))
+    (tie.spec (λ c. omega (arith, law _ _ _ (c .pre))) (λ c. omega (arith, law _ _ _ (c .pre))) (λ c. search needs) (λ c. search (yes, no, tests))
     (λ c. search (yes, no, tests)))

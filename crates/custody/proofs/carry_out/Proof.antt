@@ -53,23 +53,6 @@ loop-holds c = record {
 pub carry-out-spec : {M : Type 1} → statement M
 carry-out-spec =
     tie.close
-    (tie.spec
-    Inv-loop
-    μ-loop
-    (λ c. search by)
-    (λ c κs. search by)
-    (λ c. search by)
-    (λ c κs. search by)
-    loop-holds
-    (λ c. search by)
-    (λ c. search by)
-    (λ c. search by)
-    (λ c. search by)
-    (λ c. search by)
-    (λ c. search by)
-    (λ c κs. search by)
-    (λ c. search by)
-    (λ c κs. search by)
-    (λ c. search by)
-    (λ c. search by)
-    (λ c. search by))
+    (tie.spec Inv-loop μ-loop (λ c. search by) (λ c κs. search by) (λ c. search by) (λ c κs. search by) loop-holds (λ c. search by) (λ c. search by)
+    (λ c. search by) (λ c. search by) (λ c. search by) (λ c. search by) (λ c κs. search by) (λ c. search by) (λ c κs. search by) (λ c. search by)
+    (λ c. search by) (λ c. search by))

@@ -14,11 +14,4 @@ returns-2 c = simp (← c .before .before .before .before .certificate .ensures,
 pub certify-spec : {M : Type 1} → statement M
 certify-spec =
     tie.close
-    (tie.spec
-    (λ c κs. search needs)
-    (λ c. search needs)
-    (λ c κs. search needs)
-    (λ c. search needs)
-    (λ c κs. search needs)
-    returns
-    returns-2)
+    (tie.spec (λ c κs. search needs) (λ c. search needs) (λ c κs. search needs) (λ c. search needs) (λ c κs. search needs) returns returns-2)

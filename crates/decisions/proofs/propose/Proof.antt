@@ -62,15 +62,5 @@ returns-3 c =
 pub propose-spec : {M : Type 1} → statement M
 propose-spec =
     tie.close
-    (tie.spec
-    (λ c κs. search needs)
-    (λ c κs. search needs)
-    returns
-    (λ c κs. search needs)
-    (λ c κs. search needs)
-    (λ c. search needs)
-    settle-requires
-    (λ c. search needs)
-    (λ c κs. search needs)
-    returns-2
-    returns-3)
+    (tie.spec (λ c κs. search needs) (λ c κs. search needs) returns (λ c κs. search needs) (λ c κs. search needs) (λ c. search needs) settle-requires
+    (λ c. search needs) (λ c κs. search needs) returns-2 returns-3)

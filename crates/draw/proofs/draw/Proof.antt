@@ -67,17 +67,5 @@ returns-3 c =
 pub draw-spec : {M : Type 1} → statement M
 draw-spec =
     tie.close
-    (tie.spec
-    (λ c κs. search needs)
-    returns
-    returns-2
-    (λ c κs. search needs)
-    (λ c. search needs)
-    (λ c. search needs)
-    choose-requires
-    (λ c. search needs)
-    choose-requires-2
-    sub-thousandths
-    thousandths-requires
-    cast-t11
-    returns-3)
+    (tie.spec (λ c κs. search needs) returns returns-2 (λ c κs. search needs) (λ c. search needs) (λ c. search needs) choose-requires
+    (λ c. search needs) choose-requires-2 sub-thousandths thousandths-requires cast-t11 returns-3)

@@ -32,13 +32,4 @@ returns-3 c = search tests
 pub thousandths-spec : {M : Type 1} → statement M
 thousandths-spec =
     tie.close
-    (tie.spec
-    (λ c. search needs)
-    (λ c. search needs)
-    (λ c. search needs)
-    mul-over
-    returns
-    add-result
-    returns-2
-    add-result-2
-    returns-3)
+    (tie.spec (λ c. search needs) (λ c. search needs) (λ c. search needs) mul-over returns add-result returns-2 add-result-2 returns-3)

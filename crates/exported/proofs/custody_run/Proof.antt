@@ -15,16 +15,5 @@ advance-requires c κs =
 pub custody-run-spec : {M : Type 1} → statement M
 custody-run-spec =
     tie.close
-    (tie.spec
-    (λ c. search by)
-    (λ c κs. search by)
-    (λ c. search by)
-    (λ c. search by)
-    (λ c. search by)
-    (λ c. search by)
-    (λ c. search by)
-    advance-requires
-    (λ c. search by)
-    (λ c. search by)
-    (λ c. search by)
-    (λ c. search by))
+    (tie.spec (λ c. search by) (λ c κs. search by) (λ c. search by) (λ c. search by) (λ c. search by) (λ c. search by) (λ c. search by)
+    advance-requires (λ c. search by) (λ c. search by) (λ c. search by) (λ c. search by))

@@ -12,11 +12,5 @@ returns c = c .wrapping-add-u64 .ensures ∙ by-halves (c .before .args .a) (c .
 pub wrapping-multiply-spec : {M : Type 1} → statement M
 wrapping-multiply-spec =
     tie.close
-    (tie.spec
-    (λ c. record { fits = halves-fit _ _ (omega arith) (omega arith) })
-    (λ c. record { fits = halves-fit _ _ (omega arith) (omega arith) })
-    (λ c. record { fits = halves-fit _ _ (omega arith) (omega arith) })
-    (λ c. search needs)
-    (λ c. search needs)
-    (λ c κs. search needs)
-    returns)
+    (tie.spec (λ c. record { fits = halves-fit _ _ (omega arith) (omega arith) }) (λ c. record { fits = halves-fit _ _ (omega arith) (omega arith) })
+    (λ c. record { fits = halves-fit _ _ (omega arith) (omega arith) }) (λ c. search needs) (λ c. search needs) (λ c κs. search needs) returns)

@@ -34,12 +34,5 @@ returns-2 c = (declined _ (sym (c .before .before .before .is-request .ensures) 
 pub load-spec : {M : Type 1} → statement M
 load-spec =
     tie.close
-    (tie.spec
-    (λ c κs. search needs)
-    seed-of-requires
-    shared-slice-read-put-load
-    shared-slice-read-put-load-2
-    put-load-requires
-    returns
-    (λ c κs. search needs)
-    returns-2)
+    (tie.spec (λ c κs. search needs) seed-of-requires shared-slice-read-put-load shared-slice-read-put-load-2 put-load-requires returns
+    (λ c κs. search needs) returns-2)

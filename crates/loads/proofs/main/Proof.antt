@@ -17,12 +17,5 @@ print-requires c κs = let e : length (c .before .load .last .1 .0) ≡ 20209 = 
 pub main-spec : {M : Type 1} → statement M
 main-spec =
     tie.close
-    (tie.spec
-    (λ c. search needs)
-    (λ c κs. search needs)
-    (λ c. search needs)
-    (λ c. search needs)
-    (λ c κs. search needs)
-    slice-aggregate-print
-    print-requires
-    (λ c. search needs))
+    (tie.spec (λ c. search needs) (λ c κs. search needs) (λ c. search needs) (λ c. search needs) (λ c κs. search needs) slice-aggregate-print
+    print-requires (λ c. search needs))

@@ -20,11 +20,4 @@ returns-2 c = search by depth 8
 pub generations-spec : {M : Type 1} → statement M
 generations-spec =
     tie.close
-    (tie.spec
-    (λ c κs. search needs)
-    (λ c. search needs)
-    (λ c. search needs)
-    generations-requires
-    (λ c. search needs)
-    returns
-    returns-2)
+    (tie.spec (λ c κs. search needs) (λ c. search needs) (λ c. search needs) generations-requires (λ c. search needs) returns returns-2)

@@ -35,12 +35,4 @@ returns-2 c = let s = sym (c .before .before .is-sane .ensures) ∙ c .before .i
 pub propose-spec : {M : Type 1} → statement M
 propose-spec =
     tie.close
-    (tie.spec
-    (λ c κs. search needs)
-    propose-requires
-    write-requires
-    carry-requires
-    (λ c. search needs)
-    returns
-    (λ c κs. search needs)
-    returns-2)
+    (tie.spec (λ c κs. search needs) propose-requires write-requires carry-requires (λ c. search needs) returns (λ c κs. search needs) returns-2)

@@ -17,12 +17,5 @@ returns-2 c = search by depth 8
 pub show-spec : {M : Type 1} → statement M
 show-spec =
     tie.close
-    (tie.spec
-    (λ c κs. search needs)
-    (λ c. search needs)
-    (λ c. search needs)
-    (λ c. search by)
-    (λ c κs. search needs)
-    (λ c. search needs)
-    returns
+    (tie.spec (λ c κs. search needs) (λ c. search needs) (λ c. search needs) (λ c. search by) (λ c κs. search needs) (λ c. search needs) returns
     returns-2)

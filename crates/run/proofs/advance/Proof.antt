@@ -97,45 +97,8 @@ loop-again-3 c =
 pub advance-spec : {M : Type 1} → statement M
 advance-spec =
     tie.close
-    (tie.spec
-    Inv-loop
-    μ-loop
-    (λ c. search by)
-    (λ c. search by)
-    (λ c κs. search by)
-    (λ c. search by)
-    (λ c. search by)
-    (λ c. search by)
-    (λ c. search by)
-    (λ c. search by)
-    (λ c. search by)
-    (λ c. search by)
-    (λ c. search by)
-    (λ c κs. search by)
-    (λ c κs. search by)
-    (λ c. search by)
-    loop-again
-    (λ c. search by)
-    (λ c. search by)
-    (λ c. search by)
-    (λ c. search by)
-    (λ c. search by)
-    (λ c. search by)
-    (λ c. search by)
-    (λ c. search by)
-    (λ c. search by)
-    carry-out-requires
-    (λ c κs. search by)
-    (λ c. search by)
-    loop-again-2
-    apply-requires
-    loop-less-3
-    loop-again-3
-    (λ c κs. search by)
-    (λ c. search by)
-    (λ c. search by)
-    (λ c. search by)
-    (λ c. search by)
-    (λ c. search by)
-    (λ c. search by)
-    (λ c. search by))
+    (tie.spec Inv-loop μ-loop (λ c. search by) (λ c. search by) (λ c κs. search by) (λ c. search by) (λ c. search by) (λ c. search by)
+    (λ c. search by) (λ c. search by) (λ c. search by) (λ c. search by) (λ c. search by) (λ c κs. search by) (λ c κs. search by) (λ c. search by)
+    loop-again (λ c. search by) (λ c. search by) (λ c. search by) (λ c. search by) (λ c. search by) (λ c. search by) (λ c. search by) (λ c. search by)
+    (λ c. search by) carry-out-requires (λ c κs. search by) (λ c. search by) loop-again-2 apply-requires loop-less-3 loop-again-3 (λ c κs. search by)
+    (λ c. search by) (λ c. search by) (λ c. search by) (λ c. search by) (λ c. search by) (λ c. search by) (λ c. search by))

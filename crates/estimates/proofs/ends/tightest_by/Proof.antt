@@ -9,8 +9,5 @@ pub tightest-by-spec : {M : Type 1} → statement M
 unfolding tightestBy
 tightest-by-spec =
     tie.close
-    (tie.spec
-    (λ c κs. search needs)
-    (λ c. simp (c .tightest-in .ensures, lt-ltb _ _ (c .before .if1 .taken)))
-    (λ c κs. search needs)
+    (tie.spec (λ c κs. search needs) (λ c. simp (c .tightest-in .ensures, lt-ltb _ _ (c .before .if1 .taken))) (λ c κs. search needs)
     (λ c. simp (c .tightest-in2 .ensures, le-ltb _ _ (c .before .if1 .left))))

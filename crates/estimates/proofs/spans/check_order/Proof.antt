@@ -9,7 +9,5 @@ pub check-order-spec : {M : Type 1} → statement M
 unfolding orderOf
 check-order-spec =
     tie.close
-    (tie.spec
-    (λ c κs. search needs)
-    (λ c. simp (← c .before .first-reversed .ensures, lt-ltb _ _ (c .if1 .taken)))
+    (tie.spec (λ c κs. search needs) (λ c. simp (← c .before .first-reversed .ensures, lt-ltb _ _ (c .if1 .taken)))
     (λ c. simp (← c .before .first-reversed .ensures, le-ltb _ _ (c .if1 .left))))

@@ -17,12 +17,5 @@ propose-requires c κs =
 pub propose-spec : {M : Type 1} → statement M
 propose-spec =
     tie.close
-    (tie.spec
-    (λ c κs. search needs)
-    (λ c. search needs)
-    (λ c. search needs)
-    (λ c. search needs)
-    build-requires
-    (λ c. search needs)
-    propose-requires
+    (tie.spec (λ c κs. search needs) (λ c. search needs) (λ c. search needs) (λ c. search needs) build-requires (λ c. search needs) propose-requires
     (λ c. search needs))

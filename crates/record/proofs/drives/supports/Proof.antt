@@ -29,16 +29,5 @@ returns-5 c = simp (c .before .if4 .left) (supports-cell false _ _ (omega arith)
 pub supports-spec : {M : Type 1} → statement M
 supports-spec =
     tie.close
-    (tie.spec
-    returns
-    returns-2
-    returns-3
-    (λ c. search needs)
-    (λ c. search needs)
-    (λ c. search needs)
-    (λ c. search needs)
-    returns-4
-    (λ c. search needs)
-    (λ c. search needs)
-    (λ c. search needs)
-    returns-5)
+    (tie.spec returns returns-2 returns-3 (λ c. search needs) (λ c. search needs) (λ c. search needs) (λ c. search needs) returns-4
+    (λ c. search needs) (λ c. search needs) (λ c. search needs) returns-5)

@@ -18,13 +18,5 @@ Inv-loop label i₀ i = (i ≤ 6) × (allBelow i (λ k. isAlphanumeric (charAt l
 pub named-spec : {M : Type 1} → statement M
 named-spec =
     tie.close
-    (tie.spec
-    Inv-loop
-    (λ label i₀ i. 6 - i)
-    (λ c. search by depth 8)
-    (λ c κs. search by depth 8)
-    (λ c. search by depth 8)
-    (λ c. search by depth 8)
-    (λ c. search by depth 8)
-    (λ c. search by depth 8)
-    (λ c. search by depth 8))
+    (tie.spec Inv-loop (λ label i₀ i. 6 - i) (λ c. search by depth 8) (λ c κs. search by depth 8) (λ c. search by depth 8) (λ c. search by depth 8)
+    (λ c. search by depth 8) (λ c. search by depth 8) (λ c. search by depth 8))

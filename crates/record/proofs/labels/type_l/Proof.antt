@@ -20,12 +20,4 @@ returns-3 c = search (chain, ← c .before .before .char-at2 .ensures, ← c .be
 pub type-l-spec : {M : Type 1} → statement M
 type-l-spec =
     tie.close
-    (tie.spec
-    (λ c κs. search needs)
-    returns
-    (λ c κs. search needs)
-    (λ c κs. search needs)
-    sub-result
-    (λ c. search needs)
-    returns-2
-    returns-3)
+    (tie.spec (λ c κs. search needs) returns (λ c κs. search needs) (λ c κs. search needs) sub-result (λ c. search needs) returns-2 returns-3)

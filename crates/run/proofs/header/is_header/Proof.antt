@@ -23,11 +23,5 @@ pub is-header-spec : {M : Type 1} → statement M
 unfolding isHeader
 is-header-spec =
     tie.close
-    (tie.spec
-    (λ c. search chain depth 8)
-    (λ c. search needs)
-    (λ c. search chain depth 8)
-    (λ c. search needs)
-    (λ c. search chain depth 8)
-    (λ c. search needs)
-    returns-4)
+    (tie.spec (λ c. search chain depth 8) (λ c. search needs) (λ c. search chain depth 8) (λ c. search needs) (λ c. search chain depth 8)
+    (λ c. search needs) returns-4)

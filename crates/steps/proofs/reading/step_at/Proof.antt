@@ -14,12 +14,4 @@ add-end c = omega (arith, size-most (c .before .before .before .before .args .ve
 pub step-at-spec : {M : Type 1} → statement M
 step-at-spec =
     tie.close
-    (tie.spec
-    (λ c. search by)
-    (λ c κs. search by)
-    (λ c. search by)
-    add-end
-    (λ c κs. search by)
-    (λ c. search by)
-    (λ c κs. search by)
-    (λ c. search by))
+    (tie.spec (λ c. search by) (λ c κs. search by) (λ c. search by) add-end (λ c κs. search by) (λ c. search by) (λ c κs. search by) (λ c. search by))

@@ -9,15 +9,5 @@ ruleset by = (records-laws, needs)
 pub store-spec : {M : Type 1} → statement M
 store-spec =
     tie.close
-    (tie.spec
-    (λ c κs. search by)
-    (λ c κs. search by)
-    (λ c κs. search by)
-    (λ c κs. search by)
-    (λ c κs. search by)
-    (λ c. search by)
-    (λ c. search by)
-    (λ c. search by)
-    (λ c. search by)
-    (λ c. search by)
-    (λ c. search by))
+    (tie.spec (λ c κs. search by) (λ c κs. search by) (λ c κs. search by) (λ c κs. search by) (λ c κs. search by) (λ c. search by) (λ c. search by)
+    (λ c. search by) (λ c. search by) (λ c. search by) (λ c. search by))

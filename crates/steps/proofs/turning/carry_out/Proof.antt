@@ -8,13 +8,5 @@ ruleset by = (turns, needs)
 pub carry-out-spec : {M : Type 1} → statement M
 carry-out-spec =
     tie.close
-    (tie.spec
-    (λ c κs. search by)
-    (λ c κs. search by)
-    (λ c κs. search by)
-    (λ c. search by)
-    (λ c. search by)
-    (λ c. search by)
-    (λ c. search by)
-    (λ c. search by)
-    (λ c. search by))
+    (tie.spec (λ c κs. search by) (λ c κs. search by) (λ c κs. search by) (λ c. search by) (λ c. search by) (λ c. search by) (λ c. search by)
+    (λ c. search by) (λ c. search by))

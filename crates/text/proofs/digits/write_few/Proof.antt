@@ -8,12 +8,5 @@ ruleset by = (writing, needs)
 pub write-few-spec : {M : Type 1} → statement M
 write-few-spec =
     tie.close
-    (tie.spec
-    (λ c. search by)
-    (λ c. search by)
-    (λ c κs. search by)
-    (λ c. search by)
-    (λ c. search by)
-    (λ c κs. search by)
-    (λ c. search by)
+    (tie.spec (λ c. search by) (λ c. search by) (λ c κs. search by) (λ c. search by) (λ c. search by) (λ c κs. search by) (λ c. search by)
     (λ c. search by))

@@ -8,11 +8,4 @@ ruleset by = (writing, needs)
 pub write-most-spec : {M : Type 1} → statement M
 write-most-spec =
     tie.close
-    (tie.spec
-    (λ c κs. search by)
-    (λ c. search by)
-    (λ c. search by)
-    (λ c κs. search by)
-    (λ c κs. search by)
-    (λ c. search by)
-    (λ c. search by))
+    (tie.spec (λ c κs. search by) (λ c. search by) (λ c. search by) (λ c κs. search by) (λ c κs. search by) (λ c. search by) (λ c. search by))
