@@ -69,7 +69,7 @@ viewAt l v job = record {
   votes = votesAt l (job % 128);
   next = l .next;
   seen = l .seen;
-  shown = vaultAt l (l .next % 16) .held;
+  turn = vaultAt l (l .next % 16);
 }
 
 abbrev pub booksOf : Ledger → Books

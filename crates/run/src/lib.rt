@@ -92,27 +92,23 @@ pub fn advance(
         pos = step.end;
         if step.wide {
             let order = &ledger.order;
-            let vaults = ledger.vaults;
             let books = Books {
                 settings: ledger.settings,
                 booked: ledger.booked,
                 arrivals: ledger.arrivals,
-                vaults,
+                vaults: ledger.vaults,
             };
             at = steps::survey(step, books, order, numbers, sets, journal, memo, out, at);
             continue;
         }
-        let turn = ledger.vaults[(ledger.next % 16) as usize];
-        let seen = ledger.seen;
-        let shown = turn.held;
         let view = View {
             settings: ledger.settings,
             booked: ledger.booked,
             state: ledger.vaults[(step.vault % 16) as usize],
             votes: ledger.votes[(step.job % 128) as usize],
             next: ledger.next,
-            seen,
-            shown,
+            seen: ledger.seen,
+            turn: ledger.vaults[(ledger.next % 16) as usize],
         };
         let told = steps::carry_out(step, view, numbers, sets, records, journal, input, out, at);
         at = told.at;

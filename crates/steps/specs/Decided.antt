@@ -53,7 +53,7 @@ requested w journal (faultyVote column v job) = gated (gateBy w journal v true j
 requested w journal (show job) =
     gated (bookedOr (isBooked (w .settings .version) journal (w .booked) job)) (answering (statusOf (w .settings) (w .votes)))
 requested w journal (generations job) = refusing NotHeld
-requested w journal snapshot = snapshotting (w .settings) (w .next) (w .seen) (w .shown)
+requested w journal snapshot = snapshotting (w .settings) (w .next) (w .seen) (w .turn .held)
 requested w journal (release v job rival) =
     gated (gateBy w journal v false job) (releasing (w .state) (w .settings .version) journal (w .booked) (w .votes .signatures) job rival)
 

@@ -108,7 +108,7 @@ pub(crate) fn decide(
             change: Change::Nothing,
         },
         Kind::Generations => decisions::refuse(Refusal::NotHeld),
-        Kind::Snapshot => decisions::snapshot(view.settings, view.next, view.seen, view.shown),
+        Kind::Snapshot => decisions::snapshot(view.settings, view.next, view.seen, view.turn.held),
         Kind::Release => decisions::release(
             view.gate(journal, vault, false, j),
             view.state,

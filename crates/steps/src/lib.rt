@@ -43,8 +43,8 @@ pub struct Step {
     pub end: usize,
 }
 
-// What a step looks at that looks at one vault: its state, and the votes on the job that the step names; of the snapshot the vault that is next, the jobs seen
-// in this round, and those that the next vault holds.
+// What a step looks at that looks at one vault: its state, and the votes on the job that the step names; of the snapshot the number of the vault that is next,
+// the jobs seen in this round, and that vault.
 pub struct View {
     pub settings: Settings,
     pub booked: usize,
@@ -52,7 +52,7 @@ pub struct View {
     pub votes: Votes,
     pub next: u8,
     pub seen: JobSet,
-    pub shown: JobSet,
+    pub turn: Vault,
 }
 
 // What a step looks at that looks at all vaults.
