@@ -21,6 +21,7 @@ fn refusals(text: &str) -> Vec<u8> {
             .and_then(|figure| figure.parse().ok())
     };
     text.lines()
+        .filter(|line| line.contains(' '))
         .map(|line| refusal(line).expect("a figure"))
         .collect()
 }

@@ -1,4 +1,5 @@
--- What is printed: "For each step a line: step number from 1, 0 or the refusal, a value; single spaces between". Text is written at a cursor.
+-- What is printed: "For each step a line: step number from 1, 0 or the refusal, a value; single spaces between", and a line for each job that it lists. Text is
+-- written at a cursor.
 use mathlib.Core.Bool.{cond}
 use mathlib.Core.List.{List, [], _++_, _∷_}
 use mathlib.Core.Path.{_≡_}
@@ -8,6 +9,8 @@ use lib.ListN.{length}
 use lib.Seq.{sets}
 use Rattle.outcome.specs.Figures.{numberOf, valueOf}
 use Rattle.outcome.specs.declared.Outcome.{Outcome}
+use Rattle.sets.specs.Jobs.{jobHas}
+use Rattle.sets.specs.declared.job_set.JobSet.{JobSet}
 
 -- the digits of n, of which there are at most k + 1
 unfoldable pub digits : ℕ → ℕ → List ℕ
@@ -29,6 +32,22 @@ lineOf step number value = decimal step ++ (32 ∷ (decimal number ++ (32 ∷ (d
 -- the line of a step that was answered so
 abbrev pub lineFor : ℕ → Outcome → List ℕ
 lineFor step outcome = lineOf step (numberOf outcome) (valueOf outcome)
+
+-- a job alone on a line
+unfoldable pub jobLine : ℕ → List ℕ
+jobLine k = decimal k ++ (10 ∷ [])
+
+-- the members among the n jobs from i on, "each job number alone on a line, in ascending order" (document 02)
+unfoldable pub linesFrom : JobSet → ℕ → ℕ → List ℕ
+linesFrom s i zero = []
+linesFrom s i (suc n) = cond (jobHas s i) (jobLine i ++ linesFrom s (suc i) n) (linesFrom s (suc i) n)
+
+abbrev pub linesOf : JobSet → List ℕ
+linesOf s = linesFrom s 0 128
+
+-- four digits at most for each job, and the line's end
+abbrev pub longestLines : ℕ
+longestLines = 640
 
 -- six digits at most for the step, four for the number and ten for the value, two spaces and the line's end
 abbrev pub longestLine : ℕ

@@ -1,10 +1,12 @@
 // What is printed for a step: its line, in decimal.
 mod digits;
+mod listing;
 
 ghost use mathlib.Core.Path.{_≡_};
 ghost use Prim.Native.Nat.{_+_, _<_, _≤_};
 ghost use lib.ListN.{length};
 ghost use Rattle.text.specs.Text.{Put, lineFor, lineOf, longestLine};
+pub use listing::write_jobs;
 use outcome::Outcome;
 
 // No line has more bytes.

@@ -1,0 +1,198 @@
+-- The lines of a set from one member to the next: the first member's line, and the lines of the set without it. The first member is the first bit of the low word,
+-- or of the high one.
+use mathlib.Core.Bool.{Bool, cond, false, not, true, true≢false}
+use mathlib.Core.List.{List, [], _++_, append-assoc, append-nil}
+use mathlib.Core.Logic.{_≢_}
+use mathlib.Core.Path.{_∙_, _≡_, ap, refl, subst, sym}
+use Prim.Native.Nat.{_%_, _*_, _+_, _-_, _/_, _<_, _≤_, suc, zero, ℕ}
+use native.Mathlib.Omega.{arith}
+use lib.Count.{ones-le, trailingZeros, under}
+use lib.Dec.{eqb, ltb}
+use borrow.Author.Tests.{eq-eqb, eqb-false, eqb-true, ltb-false, ltb-true, ne-eqb}
+use Rattle.base.proofs.Reflect.{by-test, not-true-false}
+use Rattle.base.proofs.Search.{any-intro, any-none, any-start, first-any, first-is, first-least, first-none, least-first, none-any}
+use Rattle.base.specs.Search.{Least, anyBelow, firstBelow}
+use Rattle.sets.proofs.Bits.{bit-zero, has-none, has-suc, reflect-some}
+use Rattle.sets.proofs.Jobs.{in-high, in-low, job-below, job-count-with, job-with-other, job-with-same, job-without-other, job-without-same}
+use Rattle.sets.proofs.Jobs.{jobs-same, with-words, without-words}
+use Rattle.sets.specs.Bits.{hasBit}
+use Rattle.sets.specs.Jobs.{InWords, jobCount, jobHas, jobWith, jobWithout}
+use Rattle.sets.specs.declared.job_set.JobSet.{JobSet}
+use Rattle.text.proofs.Writing.{then}
+use Rattle.text.specs.Text.{Put, jobLine, linesFrom, linesOf, longestLines}
+
+-- ---- the first bit
+
+-- the first that passes, of those from 1 on
+first-suc : (k : ℕ) (p q : ℕ → Bool) → p 0 ≡ false → ((i : ℕ) → p (suc i) ≡ q i) → firstBelow (suc k) p ≡ suc (firstBelow k q)
+first-suc k p q z s = by-test (anyBelow k q) some none
+  where
+    some : anyBelow k q ≡ true → firstBelow (suc k) p ≡ suc (firstBelow k q)
+    some e =
+        let l = first-least q k (first-any q k e) in
+        least-first p (suc k) (suc (firstBelow k q)) (record {
+          below = omega (arith, l .below);
+          has = s (firstBelow k q) ∙ l .has;
+          none-before = λ m. before l m;
+        })
+      where
+        before : Least k (λ i. q i ≡ true) (firstBelow k q) → (m : ℕ) → m < suc (firstBelow k q) → p m ≡ true → ⊥
+        before l zero h t = true≢false (sym t ∙ z)
+        before l (suc m) h t = l .none-before m (omega arith) (sym (s m) ∙ t)
+
+    none : anyBelow k q ≡ false → firstBelow (suc k) p ≡ suc (firstBelow k q)
+    none e = first-none p (suc k) (none-any p (suc k) never) ∙ ap suc (sym (first-none q k e))
+      where
+        never : (i : ℕ) → i < suc k → p i ≡ false
+        never zero h = z
+        never (suc i) h = s i ∙ any-none q k e i (omega arith)
+
+low-bit : (n : ℕ) → n % 2 ≡ 0 → hasBit n 0 ≡ false
+unfolding hasBit
+low-bit n e = ne-eqb _ _ (λ q. omega (arith, bit-zero n, q))
+
+low-set : (n : ℕ) (d : ℕ) → n % 2 ≡ suc d → hasBit n 0 ≡ true
+unfolding hasBit
+low-set n d e = eq-eqb _ _ (omega (arith, bit-zero n))
+
+pub trailing-first : (k n : ℕ) → trailingZeros k n ≡ firstBelow k (hasBit n)
+unfolding trailingZeros firstBelow
+trailing-first zero n = refl
+trailing-first (suc k) n = by (n % 2) refl (trailing-first k (n / 2))
+  where
+    by : (d : ℕ) → n % 2 ≡ d → trailingZeros k (n / 2) ≡ firstBelow k (hasBit (n / 2))
+        → under d (trailingZeros k (n / 2)) ≡ firstBelow (suc k) (hasBit n)
+    by zero e r = ap suc r ∙ sym (first-suc k (hasBit n) (hasBit (n / 2)) (low-bit n e) (has-suc n))
+    by (suc d) e r = sym (first-is (hasBit n) (suc k) 0 (omega arith) (any-start (hasBit n)) (low-set n d e))
+
+-- ---- the first member
+module _ (s : JobSet) where
+  pub first-low : InWords s → s .low ≢ 0 → trailingZeros 64 (s .low) ≡ firstBelow 128 (jobHas s)
+  first-low w ne =
+      let m = reflect-some 64 (s .low) (w .low-fits) .sound (ap not (ne-eqb (s .low) 0 ne)) in
+      let l = first-least (hasBit (s .low)) 64 (first-any (hasBit (s .low)) 64 (any-intro (hasBit (s .low)) 64 (m .which) (m .below) (m .has))) in
+      trailing-first 64 (s .low)
+      ∙ sym (least-first (jobHas s) 128 (firstBelow 64 (hasBit (s .low))) (record {
+        below = omega (arith, l .below);
+        has = in-low s _ (l .below) ∙ l .has;
+        none-before = λ i h t. l .none-before i h (sym (in-low s i (omega (arith, l .below))) ∙ t);
+      }))
+
+  pub first-high : s .low ≡ 0 → 64 + trailingZeros 64 (s .high) ≡ firstBelow 128 (jobHas s)
+  first-high z = ap (λ (x : ℕ). 64 + x) (trailing-first 64 (s .high)) ∙ sym (by-test (anyBelow 64 (hasBit (s .high))) some none)
+    where
+      not-low : (i : ℕ) → i < 64 → jobHas s i ≡ false
+      not-low i h = in-low s i h ∙ (ap (λ (x : ℕ). hasBit x i) z ∙ has-none i)
+
+      at-high : (i : ℕ) → 64 ≤ i → i < 128 → jobHas s i ≡ hasBit (s .high) (i - 64)
+      at-high i a b = let q : 64 + (i - 64) ≡ i = omega arith in ap (jobHas s) (sym q) ∙ in-high s (i - 64) (omega arith)
+
+      some : anyBelow 64 (hasBit (s .high)) ≡ true → firstBelow 128 (jobHas s) ≡ 64 + firstBelow 64 (hasBit (s .high))
+      some e =
+          let l = first-least (hasBit (s .high)) 64 (first-any (hasBit (s .high)) 64 e) in
+          least-first (jobHas s) 128 (64 + firstBelow 64 (hasBit (s .high))) (record {
+            below = omega (arith, l .below);
+            has = in-high s _ (l .below) ∙ l .has;
+            none-before = λ i h t. by-test (ltb i 64)
+                (λ a. true≢false (sym t ∙ not-low i (ltb-true i 64 a)))
+                (λ a.
+                let g = ltb-false i 64 a in
+                l .none-before (i - 64) (omega (arith, h, g)) (sym (at-high i g (omega (arith, h, l .below))) ∙ t));
+          })
+
+      none : anyBelow 64 (hasBit (s .high)) ≡ false → firstBelow 128 (jobHas s) ≡ 64 + firstBelow 64 (hasBit (s .high))
+      none e =
+          first-none (jobHas s) 128 (none-any (jobHas s) 128 (λ i h. by-test (ltb i 64) (λ a. not-low i (ltb-true i 64 a))
+          (λ a. let g = ltb-false i 64 a in at-high i g h ∙ any-none (hasBit (s .high)) 64 e (i - 64) (omega (arith, g, h)))))
+          ∙ ap (λ (x : ℕ). 64 + x) (sym (first-none (hasBit (s .high)) 64 e))
+
+  -- where it is past the last job there is none
+  pub no-member : (r : ℕ) → r ≡ firstBelow 128 (jobHas s) → 128 ≤ r → (m : ℕ) → jobHas s m ≡ false
+  no-member r e h m = not-true-false _ (λ t.
+      let a = first-any (jobHas s) 128 (any-intro (jobHas s) 128 m (job-below s m t) t) in omega (arith, a, e, h))
+
+-- ---- lines
+lines-same : (n i : ℕ) (a b : JobSet) → ((m : ℕ) → i ≤ m → jobHas a m ≡ jobHas b m) → linesFrom a i n ≡ linesFrom b i n
+unfolding linesFrom
+lines-same zero i a b h = refl
+lines-same (suc n) i a b h =
+    rw (h i (omega arith)) (ap (λ (t : List ℕ). cond (jobHas b i) (jobLine i ++ t) t) (lines-same n (suc i) a b (λ m l. h m (omega arith))))
+
+lines-none : (n i : ℕ) (s : JobSet) → ((m : ℕ) → jobHas s m ≡ false) → linesFrom s i n ≡ []
+unfolding linesFrom
+lines-none zero i s h = refl
+lines-none (suc n) i s h = rw (h i) (lines-none n (suc i) s h)
+
+lines-first : (n i : ℕ) (s : JobSet) (k : ℕ) → i ≤ k → k < i + n → jobHas s k ≡ true → ((m : ℕ) → m < k → jobHas s m ≡ true → ⊥)
+    → linesFrom s i n ≡ jobLine k ++ linesFrom (jobWithout s k) i n
+unfolding linesFrom
+lines-first zero i s k l h t f = absurd (omega arith)
+lines-first (suc n) i s k l h t f = by-test (eqb i k) here (later (lines-first n (suc i) s k))
+  where
+    here : eqb i k ≡ true → linesFrom s i (suc n) ≡ jobLine k ++ linesFrom (jobWithout s k) i (suc n)
+    here e =
+        let q : i ≡ k = eqb-true i k e in
+        rw (q, t, job-without-same s k)
+        (ap (λ (x : List ℕ). jobLine k ++ x) (lines-same n (suc k) s (jobWithout s k)
+        (λ m g. let ne : m ≢ k = λ z. omega (arith, z, g) in sym (job-without-other s k m ne))))
+
+    later : (suc i ≤ k → k < suc i + n → jobHas s k ≡ true → ((m : ℕ) → m < k → jobHas s m ≡ true → ⊥)
+        → linesFrom s (suc i) n ≡ jobLine k ++ linesFrom (jobWithout s k) (suc i) n) → eqb i k ≡ false
+        → linesFrom s i (suc n) ≡ jobLine k ++ linesFrom (jobWithout s k) i (suc n)
+    later r e =
+        let ne = eqb-false i k e in
+        let past : i < k = omega (arith, ne) in
+        let absent : jobHas s i ≡ false = not-true-false _ (f i past) in
+        rw (absent, job-without-other s k i ne ∙ absent) (r (omega arith) (omega arith) t f)
+
+-- a set without a member has one less
+count-without : (s : JobSet) (k : ℕ) → InWords s → jobHas s k ≡ true → jobCount s ≡ suc (jobCount (jobWithout s k))
+count-without s k w t =
+    let back : jobWith (jobWithout s k) k ≡ s =
+    jobs-same _ _ (with-words _ k (without-words s k w)) w
+    (λ i l. by-test (eqb i k)
+    (λ e. rw (eqb-true i k e) (job-with-same (jobWithout s k) k (job-below s k t) ∙ sym t))
+    (λ e. job-with-other (jobWithout s k) k i (eqb-false i k e) ∙ job-without-other s k i (eqb-false i k e))) in
+    ap jobCount (sym back) ∙ job-count-with (jobWithout s k) k (job-below s k t) (job-without-same s k)
+
+-- ---- written one after another: what is done, and the lines of the rest
+pub record Listed (out : List ℕ) (at : ℕ) (jobs : JobSet) (out′ : List ℕ) (end : ℕ) (rest : JobSet) : Type 0 where
+  pub done : List ℕ
+  pub put : Put out at done out′ end
+  pub left : done ++ linesOf rest ≡ linesOf jobs
+  pub words : InWords rest
+  pub short : end + 5 * jobCount rest ≤ at + longestLines
+
+pub listed-start : (out : List ℕ) (at : ℕ) (jobs : JobSet) → InWords jobs → Listed out at jobs out at jobs
+unfolding jobCount
+listed-start out at jobs w = record {
+  done = [];
+  put = record { moved = omega arith; wrote = refl };
+  left = refl;
+  words = w;
+  short = omega (arith, ones-le 64 (jobs .low) (w .low-fits), ones-le 64 (jobs .high) (w .high-fits));
+}
+
+module _ {out : List ℕ} {at : ℕ} {jobs : JobSet} {mid : List ℕ} {end : ℕ} {rest : JobSet} (t : Listed out at jobs mid end rest) (job : ℕ)
+    (is : job ≡ firstBelow 128 (jobHas rest)) where
+  pub listed-more : job < 128 → {mid′ : List ℕ} {end′ : ℕ} {rest′ : JobSet} → Put mid end (jobLine job) mid′ end′ → end′ ≤ end + 5
+      → rest′ ≡ jobWithout rest job → Listed out at jobs mid′ end′ rest′
+  listed-more h {mid′} {end′} {rest′} p e q =
+      let l = first-least (jobHas rest) 128 (omega (arith, is, h)) in
+      let has : jobHas rest job ≡ true = rw is (l .has) in
+      let first : linesOf rest ≡ jobLine job ++ linesOf (jobWithout rest job) =
+      lines-first 128 0 rest job (omega arith) (omega arith) has (λ m g z. l .none-before m (omega (arith, is, g)) z) in
+      let count = count-without rest job (t .words) has in
+      rw q (record {
+        done = t .done ++ jobLine job;
+        put = then (t .put) p;
+        left = append-assoc (t .done) (jobLine job) _ ∙ (ap (λ (x : List ℕ). t .done ++ x) (sym first) ∙ t .left);
+        words = without-words rest job (t .words);
+        short = omega (arith, count, t .short, e);
+      })
+
+  pub listed-end : 128 ≤ job → Put out at (linesOf jobs) mid end × (end ≤ at + longestLines)
+  listed-end h =
+      let none : linesOf rest ≡ [] = lines-none 128 0 rest (no-member rest job is h) in
+      let all : t .done ≡ linesOf jobs = sym (append-nil (t .done)) ∙ (ap (λ (x : List ℕ). t .done ++ x) (sym none) ∙ t .left) in
+      (subst (λ (x : List ℕ). Put out at x mid end) all (t .put), omega (arith, t .short))
