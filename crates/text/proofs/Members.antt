@@ -1,7 +1,7 @@
--- The lines of a set from one member to the next: the first member's line, and the lines of the set without it. The first member is the first bit of the low word,
+-- The members of a set from one to the next: the first, and those of the set without it. The first member is the first bit of the low word,
 -- or of the high one.
 use mathlib.Core.Bool.{Bool, cond, false, not, true, true≢false}
-use mathlib.Core.List.{List, [], _++_, append-assoc, append-nil}
+use mathlib.Core.List.{List, [], _++_, _∷_, append-assoc, append-nil}
 use mathlib.Core.Logic.{_≢_}
 use mathlib.Core.Path.{_∙_, _≡_, ap, refl, subst, sym}
 use Prim.Native.Nat.{_%_, _*_, _+_, _-_, _/_, _<_, _≤_, suc, zero, ℕ}
@@ -19,7 +19,7 @@ use Rattle.sets.specs.Bits.{hasBit}
 use Rattle.sets.specs.Jobs.{InWords, jobCount, jobHas, jobWith, jobWithout}
 use Rattle.sets.specs.declared.job_set.JobSet.{JobSet}
 use Rattle.text.proofs.Writing.{then}
-use Rattle.text.specs.Text.{Put, jobLine, linesFrom, linesOf, longestLines}
+use Rattle.text.specs.Text.{Put, linesOf, longestLines, membersFrom, membersOf, numberLine}
 
 -- ---- the first bit
 
@@ -111,34 +111,34 @@ module _ (s : JobSet) where
   no-member r e h m = not-true-false _ (λ t.
       let a = first-any (jobHas s) 128 (any-intro (jobHas s) 128 m (job-below s m t) t) in omega (arith, a, e, h))
 
--- ---- lines
-lines-same : (n i : ℕ) (a b : JobSet) → ((m : ℕ) → i ≤ m → jobHas a m ≡ jobHas b m) → linesFrom a i n ≡ linesFrom b i n
-unfolding linesFrom
-lines-same zero i a b h = refl
-lines-same (suc n) i a b h =
-    rw (h i (omega arith)) (ap (λ (t : List ℕ). cond (jobHas b i) (jobLine i ++ t) t) (lines-same n (suc i) a b (λ m l. h m (omega arith))))
+-- ---- the members, ascending
+members-same : (n i : ℕ) (a b : JobSet) → ((m : ℕ) → i ≤ m → jobHas a m ≡ jobHas b m) → membersFrom a i n ≡ membersFrom b i n
+unfolding membersFrom
+members-same zero i a b h = refl
+members-same (suc n) i a b h =
+    rw (h i (omega arith)) (ap (λ (t : List ℕ). cond (jobHas b i) (i ∷ t) t) (members-same n (suc i) a b (λ m l. h m (omega arith))))
 
-lines-none : (n i : ℕ) (s : JobSet) → ((m : ℕ) → jobHas s m ≡ false) → linesFrom s i n ≡ []
-unfolding linesFrom
-lines-none zero i s h = refl
-lines-none (suc n) i s h = rw (h i) (lines-none n (suc i) s h)
+members-none : (n i : ℕ) (s : JobSet) → ((m : ℕ) → jobHas s m ≡ false) → membersFrom s i n ≡ []
+unfolding membersFrom
+members-none zero i s h = refl
+members-none (suc n) i s h = rw (h i) (members-none n (suc i) s h)
 
-lines-first : (n i : ℕ) (s : JobSet) (k : ℕ) → i ≤ k → k < i + n → jobHas s k ≡ true → ((m : ℕ) → m < k → jobHas s m ≡ true → ⊥)
-    → linesFrom s i n ≡ jobLine k ++ linesFrom (jobWithout s k) i n
-unfolding linesFrom
-lines-first zero i s k l h t f = absurd (omega arith)
-lines-first (suc n) i s k l h t f = by-test (eqb i k) here (later (lines-first n (suc i) s k))
+members-first : (n i : ℕ) (s : JobSet) (k : ℕ) → i ≤ k → k < i + n → jobHas s k ≡ true → ((m : ℕ) → m < k → jobHas s m ≡ true → ⊥)
+    → membersFrom s i n ≡ k ∷ membersFrom (jobWithout s k) i n
+unfolding membersFrom
+members-first zero i s k l h t f = absurd (omega arith)
+members-first (suc n) i s k l h t f = by-test (eqb i k) here (later (members-first n (suc i) s k))
   where
-    here : eqb i k ≡ true → linesFrom s i (suc n) ≡ jobLine k ++ linesFrom (jobWithout s k) i (suc n)
+    here : eqb i k ≡ true → membersFrom s i (suc n) ≡ k ∷ membersFrom (jobWithout s k) i (suc n)
     here e =
         let q : i ≡ k = eqb-true i k e in
         rw (q, t, job-without-same s k)
-        (ap (λ (x : List ℕ). jobLine k ++ x) (lines-same n (suc k) s (jobWithout s k)
+        (ap (λ (x : List ℕ). k ∷ x) (members-same n (suc k) s (jobWithout s k)
         (λ m g. let ne : m ≢ k = λ z. omega (arith, z, g) in sym (job-without-other s k m ne))))
 
     later : (suc i ≤ k → k < suc i + n → jobHas s k ≡ true → ((m : ℕ) → m < k → jobHas s m ≡ true → ⊥)
-        → linesFrom s (suc i) n ≡ jobLine k ++ linesFrom (jobWithout s k) (suc i) n) → eqb i k ≡ false
-        → linesFrom s i (suc n) ≡ jobLine k ++ linesFrom (jobWithout s k) i (suc n)
+        → membersFrom s (suc i) n ≡ k ∷ membersFrom (jobWithout s k) (suc i) n) → eqb i k ≡ false
+        → membersFrom s i (suc n) ≡ k ∷ membersFrom (jobWithout s k) i (suc n)
     later r e =
         let ne = eqb-false i k e in
         let past : i < k = omega (arith, ne) in
@@ -156,43 +156,57 @@ count-without s k w t =
     ap jobCount (sym back) ∙ job-count-with (jobWithout s k) k (job-below s k t) (job-without-same s k)
 
 -- ---- written one after another: what is done, and the lines of the rest
-pub record Listed (out : List ℕ) (at : ℕ) (jobs : JobSet) (out′ : List ℕ) (end : ℕ) (rest : JobSet) : Type 0 where
+pub record Listed (out : List ℕ) (at : ℕ) (all : JobSet) (out′ : List ℕ) (end : ℕ) (rest : JobSet) : Type 0 where
   pub done : List ℕ
   pub put : Put out at done out′ end
-  pub left : done ++ linesOf rest ≡ linesOf jobs
+  pub left : done ++ linesOf (membersOf rest) ≡ linesOf (membersOf all)
   pub words : InWords rest
   pub short : end + 5 * jobCount rest ≤ at + longestLines
 
-pub listed-start : (out : List ℕ) (at : ℕ) (jobs : JobSet) → InWords jobs → Listed out at jobs out at jobs
+pub listed-start : (out : List ℕ) (at : ℕ) (all : JobSet) → InWords all → Listed out at all out at all
 unfolding jobCount
-listed-start out at jobs w = record {
+listed-start out at all w = record {
   done = [];
   put = record { moved = omega arith; wrote = refl };
   left = refl;
   words = w;
-  short = omega (arith, ones-le 64 (jobs .low) (w .low-fits), ones-le 64 (jobs .high) (w .high-fits));
+  short = omega (arith, ones-le 64 (all .low) (w .low-fits), ones-le 64 (all .high) (w .high-fits));
 }
 
-module _ {out : List ℕ} {at : ℕ} {jobs : JobSet} {mid : List ℕ} {end : ℕ} {rest : JobSet} (t : Listed out at jobs mid end rest) (job : ℕ)
-    (is : job ≡ firstBelow 128 (jobHas rest)) where
-  pub listed-more : job < 128 → {mid′ : List ℕ} {end′ : ℕ} {rest′ : JobSet} → Put mid end (jobLine job) mid′ end′ → end′ ≤ end + 5
-      → rest′ ≡ jobWithout rest job → Listed out at jobs mid′ end′ rest′
+module _ {out : List ℕ} {at : ℕ} {all : JobSet} {mid : List ℕ} {end : ℕ} {rest : JobSet} (t : Listed out at all mid end rest) (k : ℕ)
+    (is : k ≡ firstBelow 128 (jobHas rest)) where
+  -- there is room for one more, as each member has at most five bytes
+  pub listed-room : k < 128 → end + 5 ≤ at + longestLines
+  listed-room h =
+      let l = first-least (jobHas rest) 128 (omega (arith, is, h)) in
+      let has : jobHas rest k ≡ true = rw is (l .has) in
+      omega (arith, t .short, count-without rest k (t .words) has)
+
+  pub listed-more : k < 128 → {mid′ : List ℕ} {end′ : ℕ} {rest′ : JobSet} → Put mid end (numberLine k) mid′ end′ → end′ ≤ end + 5
+      → rest′ ≡ jobWithout rest k → Listed out at all mid′ end′ rest′
   listed-more h {mid′} {end′} {rest′} p e q =
       let l = first-least (jobHas rest) 128 (omega (arith, is, h)) in
-      let has : jobHas rest job ≡ true = rw is (l .has) in
-      let first : linesOf rest ≡ jobLine job ++ linesOf (jobWithout rest job) =
-      lines-first 128 0 rest job (omega arith) (omega arith) has (λ m g z. l .none-before m (omega (arith, is, g)) z) in
-      let count = count-without rest job (t .words) has in
+      let has : jobHas rest k ≡ true = rw is (l .has) in
+      let first : linesOf (membersOf rest) ≡ numberLine k ++ linesOf (membersOf (jobWithout rest k)) =
+      ap linesOf (members-first 128 0 rest k (omega arith) (omega arith) has (λ m g z. l .none-before m (omega (arith, is, g)) z)) in
+      let count = count-without rest k (t .words) has in
       rw q (record {
-        done = t .done ++ jobLine job;
+        done = t .done ++ numberLine k;
         put = then (t .put) p;
-        left = append-assoc (t .done) (jobLine job) _ ∙ (ap (λ (x : List ℕ). t .done ++ x) (sym first) ∙ t .left);
-        words = without-words rest job (t .words);
+        left = append-assoc (t .done) (numberLine k) _ ∙ (ap (λ (x : List ℕ). t .done ++ x) (sym first) ∙ t .left);
+        words = without-words rest k (t .words);
         short = omega (arith, count, t .short, e);
       })
 
-  pub listed-end : 128 ≤ job → Put out at (linesOf jobs) mid end × (end ≤ at + longestLines)
+  -- one member fewer is left
+  pub listed-less : k < 128 → {rest′ : JobSet} → rest′ ≡ jobWithout rest k → jobCount rest′ < jobCount rest
+  listed-less h {rest′} q =
+      let l = first-least (jobHas rest) 128 (omega (arith, is, h)) in
+      let has : jobHas rest k ≡ true = rw is (l .has) in
+      rw q (omega (arith, count-without rest k (t .words) has))
+
+  pub listed-end : 128 ≤ k → Put out at (linesOf (membersOf all)) mid end × (end ≤ at + longestLines)
   listed-end h =
-      let none : linesOf rest ≡ [] = lines-none 128 0 rest (no-member rest job is h) in
-      let all : t .done ≡ linesOf jobs = sym (append-nil (t .done)) ∙ (ap (λ (x : List ℕ). t .done ++ x) (sym none) ∙ t .left) in
-      (subst (λ (x : List ℕ). Put out at x mid end) all (t .put), omega (arith, t .short))
+      let none : linesOf (membersOf rest) ≡ [] = ap linesOf (members-none 128 0 rest (no-member rest k is h)) in
+      let whole : t .done ≡ linesOf (membersOf all) = sym (append-nil (t .done)) ∙ (ap (λ (x : List ℕ). t .done ++ x) (sym none) ∙ t .left) in
+      (subst (λ (x : List ℕ). Put out at x mid end) whole (t .put), omega (arith, t .short))

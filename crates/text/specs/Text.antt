@@ -1,5 +1,5 @@
--- What is printed: "For each step a line: step number from 1, 0 or the refusal, a value; single spaces between", and a line for each job that it lists. Text is
--- written at a cursor.
+-- What is printed: "For each step a line: step number from 1, 0 or the refusal, a value; single spaces between", and a line for each number that
+-- it lists. Text is written at a cursor.
 use mathlib.Core.Bool.{cond}
 use mathlib.Core.List.{List, [], _++_, _∷_}
 use mathlib.Core.Path.{_≡_}
@@ -33,19 +33,24 @@ lineOf step number value = decimal step ++ (32 ∷ (decimal number ++ (32 ∷ (d
 abbrev pub lineFor : ℕ → Outcome → List ℕ
 lineFor step outcome = lineOf step (numberOf outcome) (valueOf outcome)
 
--- a job alone on a line
-unfoldable pub jobLine : ℕ → List ℕ
-jobLine k = decimal k ++ (10 ∷ [])
+-- ---- what a step lists (document 02): "each job number alone on a line, in ascending order"
 
--- the members among the n jobs from i on, "each job number alone on a line, in ascending order" (document 02)
-unfoldable pub linesFrom : JobSet → ℕ → ℕ → List ℕ
-linesFrom s i zero = []
-linesFrom s i (suc n) = cond (jobHas s i) (jobLine i ++ linesFrom s (suc i) n) (linesFrom s (suc i) n)
+unfoldable pub numberLine : ℕ → List ℕ
+numberLine k = decimal k ++ (10 ∷ [])
 
-abbrev pub linesOf : JobSet → List ℕ
-linesOf s = linesFrom s 0 128
+abbrev pub linesOf : List ℕ → List ℕ
+linesOf [] = []
+linesOf (k ∷ ks) = numberLine k ++ linesOf ks
 
--- four digits at most for each job, and the line's end
+-- the members among the n numbers from i on, ascending
+unfoldable pub membersFrom : JobSet → ℕ → ℕ → List ℕ
+membersFrom s i zero = []
+membersFrom s i (suc n) = cond (jobHas s i) (i ∷ membersFrom s (suc i) n) (membersFrom s (suc i) n)
+
+abbrev pub membersOf : JobSet → List ℕ
+membersOf s = membersFrom s 0 128
+
+-- four digits at most for each of 128 numbers, and the line's end
 abbrev pub longestLines : ℕ
 longestLines = 640
 

@@ -1,4 +1,4 @@
-// What is printed for a step: its line, in decimal.
+// What is printed for a step: its line, in decimal, and the numbers that it lists.
 mod digits;
 mod listing;
 
@@ -6,7 +6,7 @@ ghost use mathlib.Core.Path.{_≡_};
 ghost use Prim.Native.Nat.{_+_, _<_, _≤_};
 ghost use lib.ListN.{length};
 ghost use Rattle.text.specs.Text.{Put, lineFor, lineOf, longestLine};
-pub use listing::write_jobs;
+pub use listing::write_list;
 use outcome::Outcome;
 
 // No line has more bytes.
