@@ -15,7 +15,7 @@ use Rattle.base.specs.Search.{Least, anyBelow, firstBelow}
 use Rattle.sets.proofs.Bits.{bit-zero, has-none, has-suc, reflect-some}
 use Rattle.sets.proofs.Jobs.{in-high, in-low, job-below, job-count-with, job-with-other, job-with-same, job-without-other, job-without-same}
 use Rattle.sets.proofs.Jobs.{jobs-same, with-words, without-words}
-use Rattle.sets.specs.Bits.{hasBit}
+use Rattle.sets.specs.Bits.{bit, hasBit}
 use Rattle.sets.specs.Jobs.{InWords, jobCount, jobHas, jobWith, jobWithout}
 use Rattle.sets.specs.declared.job_set.JobSet.{JobSet}
 use Rattle.text.proofs.Writing.{then}
@@ -49,11 +49,11 @@ first-suc k p q z s = by-test (anyBelow k q) some none
 
 low-bit : (n : ℕ) → n % 2 ≡ 0 → hasBit n 0 ≡ false
 unfolding hasBit
-low-bit n e = ne-eqb _ _ (λ q. omega (arith, bit-zero n, q))
+low-bit n e = ne-eqb (bit n 0) 1 (λ q. omega (arith, bit-zero n, q))
 
 low-set : (n : ℕ) (d : ℕ) → n % 2 ≡ suc d → hasBit n 0 ≡ true
 unfolding hasBit
-low-set n d e = eq-eqb _ _ (omega (arith, bit-zero n))
+low-set n d e = eq-eqb (bit n 0) 1 (omega (arith, bit-zero n))
 
 pub trailing-first : (k n : ℕ) → trailingZeros k n ≡ firstBelow k (hasBit n)
 unfolding trailingZeros firstBelow
@@ -210,3 +210,5 @@ module _ {out : List ℕ} {at : ℕ} {all : JobSet} {mid : List ℕ} {end : ℕ}
       let none : linesOf (membersOf rest) ≡ [] = ap linesOf (members-none 128 0 rest (no-member rest k is h)) in
       let whole : t .done ≡ linesOf (membersOf all) = sym (append-nil (t .done)) ∙ (ap (λ (x : List ℕ). t .done ++ x) (sym none) ∙ t .left) in
       (subst (λ (x : List ℕ). Put out at x mid end) whole (t .put), omega (arith, t .short))
+
+pub ruleset listing = (listed-start, listed-room, listed-more, listed-less, listed-end)
