@@ -210,5 +210,3 @@ module _ {out : List ℕ} {at : ℕ} {all : JobSet} {mid : List ℕ} {end : ℕ}
       let none : linesOf (membersOf rest) ≡ [] = ap linesOf (members-none 128 0 rest (no-member rest k is h)) in
       let whole : t .done ≡ linesOf (membersOf all) = sym (append-nil (t .done)) ∙ (ap (λ (x : List ℕ). t .done ++ x) (sym none) ∙ t .left) in
       (subst (λ (x : List ℕ). Put out at x mid end) whole (t .put), omega (arith, t .short))
-
-pub ruleset listing = (listed-start, listed-room, listed-more, listed-less, listed-end)

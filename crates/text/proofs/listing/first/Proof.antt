@@ -14,8 +14,7 @@ returns c =
 
 returns-2 : tie.Need-returns-2
 returns-2 c =
-    let s = c .before .before .before .args .set in
-    (
+    let s = c .before .before .before .args .set in (
       c .first-bit2 .ensures .0 ∙ first-low s (record { low-fits = omega arith; high-fits = omega arith }) (c .before .if1 .left),
       omega arith,
     )
