@@ -12,14 +12,15 @@ use borrow.Author.Tests.{eq-eqb, eqb-false, eqb-true, ltb-false, ltb-true, ne-eq
 use Rattle.base.proofs.Reflect.{by-test, not-true-false}
 use Rattle.base.proofs.Search.{any-intro, any-none, any-start, first-any, first-is, first-least, first-none, least-first, none-any}
 use Rattle.base.specs.Search.{Least, anyBelow, firstBelow}
+use Rattle.outcome.specs.declared.Outcome.{Outcome}
 use Rattle.sets.proofs.Bits.{bit-zero, has-none, has-suc, reflect-some}
-use Rattle.sets.proofs.Jobs.{in-high, in-low, job-below, job-count-with, job-with-other, job-with-same, job-without-other, job-without-same}
+use Rattle.sets.proofs.Jobs.{has-no-jobs, in-high, in-low, job-below, job-count-with, job-with-other, job-with-same, job-without-other, job-without-same}
 use Rattle.sets.proofs.Jobs.{jobs-same, with-words, without-words}
 use Rattle.sets.specs.Bits.{bit, hasBit}
-use Rattle.sets.specs.Jobs.{InWords, jobCount, jobHas, jobWith, jobWithout}
+use Rattle.sets.specs.Jobs.{InWords, jobCount, jobHas, jobWith, jobWithout, noJobs}
 use Rattle.sets.specs.declared.job_set.JobSet.{JobSet}
 use Rattle.text.proofs.Writing.{then}
-use Rattle.text.specs.Text.{Put, linesOf, longestLines, membersFrom, membersOf, numberLine}
+use Rattle.text.specs.Text.{Put, lineFor, linesOf, longestLines, membersFrom, membersOf, numberLine, textFor}
 
 -- ---- the first bit
 
@@ -210,3 +211,7 @@ module _ {out : List ℕ} {at : ℕ} {all : JobSet} {mid : List ℕ} {end : ℕ}
       let none : linesOf (membersOf rest) ≡ [] = ap linesOf (members-none 128 0 rest (no-member rest k is h)) in
       let whole : t .done ≡ linesOf (membersOf all) = sym (append-nil (t .done)) ∙ (ap (λ (x : List ℕ). t .done ++ x) (sym none) ∙ t .left) in
       (subst (λ (x : List ℕ). Put out at x mid end) whole (t .put), omega (arith, t .short))
+
+-- a step that lists nothing
+pub nothing-listed : (step : ℕ) (o : Outcome) → textFor step o noJobs ≡ lineFor step o
+nothing-listed step o = ap (λ (ms : List ℕ). lineFor step o ++ linesOf ms) (members-none 128 0 noJobs has-no-jobs) ∙ append-nil (lineFor step o)

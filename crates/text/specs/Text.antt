@@ -33,6 +33,10 @@ lineOf step number value = decimal step ++ (32 ∷ (decimal number ++ (32 ∷ (d
 abbrev pub lineFor : ℕ → Outcome → List ℕ
 lineFor step outcome = lineOf step (numberOf outcome) (valueOf outcome)
 
+-- six digits at most for the step, four for the number and ten for the value, two spaces and the line's end
+abbrev pub longestLine : ℕ
+longestLine = 23
+
 -- ---- what a step lists (document 02): "each job number alone on a line, in ascending order"
 
 unfoldable pub numberLine : ℕ → List ℕ
@@ -54,9 +58,13 @@ membersOf s = membersFrom s 0 128
 abbrev pub longestLines : ℕ
 longestLines = 640
 
--- six digits at most for the step, four for the number and ten for the value, two spaces and the line's end
-abbrev pub longestLine : ℕ
-longestLine = 23
+-- ---- the text of a step: its line, and the lines of what it lists
+abbrev pub textFor : ℕ → Outcome → JobSet → List ℕ
+textFor step outcome members = lineFor step outcome ++ linesOf (membersOf members)
+
+-- a line and as many numbers as a set can have
+abbrev pub longestText : ℕ
+longestText = 663
 
 -- the text was written at the cursor, which moved on by its length
 pub record Put (before : List ℕ) (at : ℕ) (text after : List ℕ) (r : ℕ) : Type 0 where

@@ -35,7 +35,7 @@ fn write_alone(out: &mut [u8], at: usize, number: u32) -> usize
 }
 
 // Where there is room for as many lines as a set can have.
-pub fn write_list(out: &mut [u8], at: usize, set: JobSet) -> usize
+pub(crate) fn write_list(out: &mut [u8], at: usize, set: JobSet) -> usize
     requires { ⌜ at + longestLines ≤ length (now out) ⌝ }
     ensures { λ r. ⌜ Put (now (out .entry)) at (linesOf (membersOf set)) (now (out .exit)) r × (r ≤ at + longestLines) ⌝ }
 {
