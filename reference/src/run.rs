@@ -7,9 +7,11 @@ use crate::settings::{read_header, HEADER_BYTES};
 use crate::step::{decode, Step};
 use crate::watch;
 
-/// The program wants this room for a step's text: its line has 6 digits for the step, 4 for the refusal, 10 for the value, two
-/// spaces and the end; then it may list 128 jobs, with 4 digits and the end for each.
-pub const LONGEST_TEXT: usize = 23 + 128 * 5;
+/// A line has at most 6 digits for the step, 4 for the refusal, 10 for the value, two spaces and the end.
+pub const LONGEST_LINE: usize = 23;
+
+/// The program wants this room for a step's text: its line, and a list of 128 jobs, with 4 digits and the end for each.
+pub const LONGEST_TEXT: usize = LONGEST_LINE + 128 * 5;
 
 /// "step number from 1, 0 or the refusal, a value".
 #[derive(Clone, PartialEq, Eq, Debug)]
