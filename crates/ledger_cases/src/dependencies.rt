@@ -63,7 +63,7 @@ fn held(l: Ledger, journal: &[u8], job: u8) -> Ledger {
     steps::commit(l, journal, 0, job, 7)
 }
 
-fn masters(l: Ledger, journal: &mut [u8; 600]) -> Ledger {
+fn masters(l: Ledger, journal: &mut [u8]) -> Ledger {
     let l = steps::propose(l, journal, b"d", jobs::accession(d()));
     let l = steps::propose(l, journal, b"b", jobs::accession(b()));
     let l = steps::propose(l, journal, b"c", jobs::accession(c()));
@@ -103,7 +103,7 @@ pub(crate) fn four_missing() {
 }
 
 // Job 1 makes c of a; job 2 takes both, so its supplier retires its other input; job 3 takes a and makes b anew, which the supplier of a made.
-fn propose(l: Ledger, journal: &mut [u8; 400]) -> Ledger {
+fn propose(l: Ledger, journal: &mut [u8]) -> Ledger {
     let l = steps::propose(l, journal, b"ab", jobs::accession_two(a(), b()));
     let copied = jobs::tape(b"CCCCCCL7", 1000);
     let l = steps::propose(l, journal, b"a-c", jobs::migration(a(), copied));

@@ -2,25 +2,27 @@
 -- or of the high one.
 use mathlib.Core.Bool.{Bool, cond, false, not, true, true≢false}
 use mathlib.Core.List.{List, [], _++_, _∷_, append-assoc, append-nil}
-use mathlib.Core.Logic.{_≢_}
+use mathlib.Core.Logic.{_≢_, inl, inr}
 use mathlib.Core.Path.{_∙_, _≡_, ap, refl, subst, sym}
 use Prim.Native.Nat.{_%_, _*_, _+_, _-_, _/_, _<_, _≤_, suc, zero, ℕ}
 use native.Mathlib.Omega.{arith}
 use lib.Count.{ones-le, trailingZeros, under}
 use lib.Dec.{eqb, ltb}
+use lib.ListN.{length}
 use borrow.Author.Tests.{eq-eqb, eqb-false, eqb-true, ltb-false, ltb-true, ne-eqb}
-use Rattle.base.proofs.Reflect.{by-test, not-true-false}
+use Rattle.base.proofs.Reflect.{by-cases, by-test, not-true-false}
 use Rattle.base.proofs.Search.{any-intro, any-none, any-start, first-any, first-is, first-least, first-none, least-first, none-any}
-use Rattle.base.specs.Search.{Least, anyBelow, firstBelow}
+use Rattle.base.specs.Lists.{In}
+use Rattle.base.specs.Search.{Least, anyBelow, firstBelow, sumFrom}
 use Rattle.outcome.specs.declared.Outcome.{Outcome}
 use Rattle.sets.proofs.Bits.{bit-zero, has-none, has-suc, reflect-some}
-use Rattle.sets.proofs.Jobs.{has-no-jobs, in-high, in-low, job-below, job-count-with, job-with-other, job-with-same, job-without-other, job-without-same}
+use Rattle.sets.proofs.Jobs.{has-no-jobs, in-high, in-low, job-below, job-count-counts, job-count-with, job-with-other, job-with-same, job-without-other, job-without-same}
 use Rattle.sets.proofs.Jobs.{jobs-same, with-words, without-words}
 use Rattle.sets.specs.Bits.{bit, hasBit}
 use Rattle.sets.specs.Jobs.{InWords, jobCount, jobHas, jobWith, jobWithout, noJobs}
 use Rattle.sets.specs.declared.job_set.JobSet.{JobSet}
 use Rattle.text.proofs.Writing.{then}
-use Rattle.text.specs.Text.{Put, lineFor, linesOf, longestLines, membersFrom, membersOf, numberLine, textFor}
+use Rattle.text.specs.Text.{AscendFrom, Lists, Put, lineFor, linesOf, longestLines, membersFrom, membersOf, numberLine, textFor}
 
 -- ---- the first bit
 
@@ -215,3 +217,55 @@ module _ {out : List ℕ} {at : ℕ} {all : JobSet} {mid : List ℕ} {end : ℕ}
 -- a step that lists nothing
 pub nothing-listed : (step : ℕ) (o : Outcome) → textFor step o noJobs ≡ lineFor step o
 nothing-listed step o = ap (λ (ms : List ℕ). lineFor step o ++ linesOf ms) (members-none 128 0 noJobs has-no-jobs) ∙ append-nil (lineFor step o)
+
+-- ---- what the list is
+ascend-sooner : (i : ℕ) (ks : List ℕ) → AscendFrom (suc i) ks → AscendFrom i ks
+ascend-sooner i [] a = tt
+ascend-sooner i (k ∷ ks) a = (omega (arith, a .0), a .1)
+
+members-ascend : (n i : ℕ) (s : JobSet) → AscendFrom i (membersFrom s i n)
+unfolding membersFrom
+members-ascend zero i s = tt
+members-ascend (suc n) i s =
+    let rest = members-ascend n (suc i) s in
+    by-cases (λ b. AscendFrom i (cond b (i ∷ membersFrom s (suc i) n) (membersFrom s (suc i) n))) (jobHas s i)
+    (λ e. (omega arith, rest)) (λ e. ascend-sooner i (membersFrom s (suc i) n) rest)
+
+-- each of them is a member, and stands at i or later
+members-are : (n i : ℕ) (s : JobSet) (k : ℕ) → In k (membersFrom s i n) → jobHas s k ≡ true
+unfolding membersFrom
+members-are zero i s k m = absurd m
+members-are (suc n) i s k m = by (members-are n (suc i) s k) (jobHas s i) refl m
+  where
+    by : (In k (membersFrom s (suc i) n) → jobHas s k ≡ true) → (b : Bool) → jobHas s i ≡ b
+        → In k (cond b (i ∷ membersFrom s (suc i) n) (membersFrom s (suc i) n)) → jobHas s k ≡ true
+    by r true e (inl q) = ap (jobHas s) q ∙ e
+    by r true e (inr q) = r q
+    by r false e q = r q
+
+members-in : (n i : ℕ) (s : JobSet) (k : ℕ) → i ≤ k → k < i + n → jobHas s k ≡ true → In k (membersFrom s i n)
+unfolding membersFrom
+members-in zero i s k l h t = absurd (omega arith)
+members-in (suc n) i s k l h t = by-test (eqb i k) here (later (members-in n (suc i) s k))
+  where
+    here : eqb i k ≡ true → In k (membersFrom s i (suc n))
+    here e = let q : i ≡ k = eqb-true i k e in rw (q, t) (inl refl)
+
+    later : (suc i ≤ k → k < suc i + n → jobHas s k ≡ true → In k (membersFrom s (suc i) n)) → eqb i k ≡ false → In k (membersFrom s i (suc n))
+    later r e =
+        let rest = r (omega (arith, eqb-false i k e)) (omega arith) t in
+        by-cases (λ b. In k (cond b (i ∷ membersFrom s (suc i) n) (membersFrom s (suc i) n))) (jobHas s i) (λ _. inr rest) (λ _. rest)
+
+members-count : (n i : ℕ) (s : JobSet) → length (membersFrom s i n) ≡ sumFrom (λ k. cond (jobHas s k) 1 0) i n
+unfolding membersFrom sumFrom
+members-count zero i s = refl
+members-count (suc n) i s =
+    by-cases (λ b. length (cond b (i ∷ membersFrom s (suc i) n) (membersFrom s (suc i) n)) ≡ cond b 1 0 + sumFrom (λ k. cond (jobHas s k) 1 0) (suc i) n)
+    (jobHas s i) (λ _. ap suc (members-count n (suc i) s) ∙ omega arith) (λ _. members-count n (suc i) s ∙ omega arith)
+
+pub members-list : (s : JobSet) → InWords s → Lists s (membersOf s)
+members-list s w = record {
+  ascending = members-ascend 128 0 s;
+  members = λ k. (members-are 128 0 s k, λ t. members-in 128 0 s k (omega arith) (omega (arith, job-below s k t)) t);
+  size = members-count 128 0 s ∙ sym (job-count-counts s w);
+}

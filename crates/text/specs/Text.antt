@@ -1,15 +1,17 @@
 -- What is printed: "For each step a line: step number from 1, 0 or the refusal, a value; single spaces between", and a line for each number that
 -- it lists. Text is written at a cursor.
-use mathlib.Core.Bool.{cond}
+use mathlib.Core.Bool.{cond, true}
 use mathlib.Core.List.{List, [], _++_, _∷_}
+use mathlib.Core.Logic.{_↔_}
 use mathlib.Core.Path.{_≡_}
-use Prim.Native.Nat.{_+_, _/_, _%_, suc, zero, ℕ}
+use Prim.Native.Nat.{_+_, _/_, _%_, _≤_, suc, zero, ℕ}
 use lib.Dec.{ltb}
 use lib.ListN.{length}
 use lib.Seq.{sets}
+use Rattle.base.specs.Lists.{In}
 use Rattle.outcome.specs.Figures.{numberOf, valueOf}
 use Rattle.outcome.specs.declared.Outcome.{Outcome}
-use Rattle.sets.specs.Jobs.{jobHas}
+use Rattle.sets.specs.Jobs.{jobCount, jobHas}
 use Rattle.sets.specs.declared.job_set.JobSet.{JobSet}
 
 -- the digits of n, of which there are at most k + 1
@@ -53,6 +55,16 @@ membersFrom s i (suc n) = cond (jobHas s i) (i ∷ membersFrom s (suc i) n) (mem
 
 abbrev pub membersOf : JobSet → List ℕ
 membersOf s = membersFrom s 0 128
+
+-- the same without a search: ascending, each member and nothing else, and as many as the set has
+abbrev pub AscendFrom : ℕ → List ℕ → Type 0
+AscendFrom i [] = Unit {0}
+AscendFrom i (k ∷ ks) = (i ≤ k) × AscendFrom (suc k) ks
+
+pub record Lists (s : JobSet) (ks : List ℕ) : Type 0 where
+  pub ascending : AscendFrom 0 ks
+  pub members : (k : ℕ) → In k ks ↔ (jobHas s k ≡ true)
+  pub size : length ks ≡ jobCount s
 
 -- four digits at most for each of 128 numbers, and the line's end
 abbrev pub longestLines : ℕ
