@@ -36,8 +36,8 @@ use Rattle.runfile.specs.declared.Kind.{Kind}
 use Rattle.runfile.specs.declared.Kind.the-variants.{Commit, Draw, FaultyAcknowledge, FaultySign, Generations, Preflight, Propose}
 use Rattle.runfile.specs.declared.Kind.the-variants.{Release, Show, Snapshot, Unknown}
 use Rattle.steps.proofs.Quiet.{Bookless}
-use Rattle.steps.specs.Decided.{bookedOr, decidedBy, jobOf, surveyed, vaultOf}
-use Rattle.steps.specs.Reading.{isWide}
+use Rattle.steps.specs.Decided.{bookedOr, decidedBy, surveyed}
+use Rattle.reading.specs.Reading.{isWide, jobOf, vaultOf}
 use Rattle.steps.specs.declared.Books.{Books}
 use Rattle.steps.specs.declared.View.{View}
 
