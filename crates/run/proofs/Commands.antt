@@ -39,8 +39,8 @@ use Rattle.runfile.specs.declared.Kind.{Kind}
 use Rattle.runfile.specs.declared.Kind.the-variants.{Commit, Dependencies, Draw, FaultyAcknowledge, FaultySign, Generations, Preflight, Propose}
 use Rattle.runfile.specs.declared.Kind.the-variants.{Release, Show, Snapshot, Unknown}
 use Rattle.steps.proofs.Quiet.{Bookless}
-use Rattle.steps.specs.Decided.{bookedOr, decidedBy, jobOf, required, surveyed, vaultOf}
-use Rattle.steps.specs.Reading.{isWide}
+use Rattle.steps.specs.Decided.{bookedOr, decidedBy, required, surveyed}
+use Rattle.reading.specs.Reading.{isWide, jobOf, vaultOf}
 use Rattle.steps.specs.declared.Books.{Books}
 use Rattle.steps.specs.declared.View.{View}
 

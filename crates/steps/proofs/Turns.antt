@@ -14,7 +14,7 @@ use Rattle.steps.specs.Decided.{Answered, alone, surveyed}
 use Rattle.steps.specs.Stored.{Stored}
 use Rattle.steps.specs.Turned.{CarriedOut, Said, Surveyed, decisionAt, recordIn}
 use Rattle.steps.specs.declared.Books.{Books}
-use Rattle.steps.specs.declared.Step.{Step}
+use Rattle.reading.specs.declared.Step.{Step}
 use Rattle.steps.specs.declared.View.{View}
 
 -- a step that lists nothing

@@ -20,7 +20,7 @@ use Rattle.ledger.specs.Holders.{heldSomewhere, isHeld}
 use Rattle.ledger.specs.Steps.{gateOf}
 use Rattle.vaults.specs.Vaults.{newVault}
 use Rattle.vaults.specs.Votes.{columnOf}
-use Rattle.ledger.specs.Worlds.{Request, commit, dependencies, faultyVote, generations, jobIn, preflight, propose, release, show, snapshot, vaultIn}
+use Rattle.ledger.specs.Worlds.{Request, commit, dependencies, faultyVote, generations, preflight, propose, release, show, snapshot}
 use Rattle.ledger.specs.declared.Change.the-variants.{Nothing, Record}
 use Rattle.ledger.specs.declared.Decision.{Decision}
 use Rattle.ledger.specs.declared.Listing.{Listing}
@@ -30,17 +30,6 @@ use Rattle.runfile.specs.declared.Kind.the-variants.{Commit, Dependencies, Draw
 use Rattle.runfile.specs.declared.Kind.the-variants.{Release, Show, Snapshot, Unknown}
 use Rattle.steps.specs.declared.Books.{Books}
 use Rattle.steps.specs.declared.View.{View}
-
--- the vault and the job that a command names
-abbrev pub vaultOf : Command → ℕ
-vaultOf (request q) = vaultIn q
-vaultOf (draw u) = 0
-vaultOf unreadable = 0
-
-abbrev pub jobOf : Command → ℕ
-jobOf (request q) = jobIn q
-jobOf (draw u) = u
-jobOf unreadable = 0
 
 -- check 4 alone
 unfoldable pub bookedOr : Bool → Verdict

@@ -13,7 +13,7 @@ use Rattle.text.specs.Text.{Put, longestText, textFor}
 use Rattle.steps.specs.Decided.{alone, decidedBy, surveyed}
 use Rattle.steps.specs.Stored.{Stored}
 use Rattle.steps.specs.declared.Books.{Books}
-use Rattle.steps.specs.declared.Step.{Step}
+use Rattle.reading.specs.declared.Step.{Step}
 use Rattle.steps.specs.declared.Told.{Told}
 use Rattle.steps.specs.declared.View.{View}
 
