@@ -208,20 +208,20 @@ module _ (l : Ledger) (s : Sane l) (journal : List ℕ) where
     answer k = record { outcome = decision k .outcome; members = listedBy l journal (command k) }
 
     -- kind 11: behind an open gate the vault modulo the number of vaults is itself
+    requiredAt : ℕ → Listing
+    requiredAt v = requiring (vaultAt l v) (heldSomewhere (l .settings) (l .vaults)) (versionOf l) journal (l .booked) second
+
     required-is : required (booksOf l) journal first second ≡ dependenciesOf l journal first second
-    unfolding dependenciesOf
+    unfolding dependenciesOf requiredAt
     required-is =
-        ap (λ (g : Verdict). gatedListing g (requiring (vaultAt l (first % 16)) (heldSomewhere (l .settings) (l .vaults)) (versionOf l) journal (l .booked) second))
-        (vault-gate first second false)
+        ap (λ (g : Verdict). gatedListing g (requiredAt (first % 16))) (vault-gate first second false)
         ∙ same-listed (vaultGate l journal first second false) _ _ placed
       where
-        placed : vaultGate l journal first second false ≡ Pass
-            → requiring (vaultAt l (first % 16)) (heldSomewhere (l .settings) (l .vaults)) (versionOf l) journal (l .booked) second
-            ≡ requiring (vaultAt l first) (heldSomewhere (l .settings) (l .vaults)) (versionOf l) journal (l .booked) second
+        placed : vaultGate l journal first second false ≡ Pass → requiredAt (first % 16) ≡ requiredAt first
         placed e =
             let p = in-place l journal first second false (entered l journal first second false e) in
             let a : first % 16 ≡ first = omega (arith, p .vault) in
-            rw a
+            ap requiredAt a
 
     pub wide-answer : (k : Kind) → isWide k ≡ true
         → surveyed (booksOf l) (l .order) journal k (vaultOf (command k)) (jobOf (command k)) ≡ answer k
