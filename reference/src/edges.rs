@@ -490,8 +490,18 @@ fn missing_makers() -> Edge {
         .map(|tape| propose(record(0, 7, &[], &[*tape])))
         .collect();
     steps.push(propose(record(1, 7, &tapes, &[(b"EEEEEEL7", 10)])));
-    steps.push(propose(record(1, 7, &[(b"AAAAAAL7", 2)], &[(b"FFFFFFL7", 2)])));
-    steps.push(propose(record(1, 7, &[(b"EEEEEEL7", 10)], &[(b"GGGGGGL7", 10)])));
+    steps.push(propose(record(
+        1,
+        7,
+        &[(b"AAAAAAL7", 2)],
+        &[(b"FFFFFFL7", 2)],
+    )));
+    steps.push(propose(record(
+        1,
+        7,
+        &[(b"EEEEEEL7", 10)],
+        &[(b"GGGGGGL7", 10)],
+    )));
     for job in 0..4 {
         steps.extend((0..3).map(|vault| preflight(vault, job)));
         steps.push(commit(1, job, 7));

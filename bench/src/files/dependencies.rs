@@ -17,9 +17,7 @@ pub fn file() -> File {
     let mut run = Run::new(16, 5, 0);
     let sources: Vec<[Tape; 4]> = (0..TARGETS).map(|_| reels.four(5)).collect();
     for target in 0..TARGETS {
-        let inputs: Vec<Tape> = (0..4)
-            .map(|i| sources[(target + i) % TARGETS][i])
-            .collect();
+        let inputs: Vec<Tape> = (0..4).map(|i| sources[(target + i) % TARGETS][i]).collect();
         let outputs = reels.copies(&inputs, 6);
         run.book(&migration(6, &inputs, &outputs));
     }

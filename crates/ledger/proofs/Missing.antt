@@ -1,5 +1,6 @@
--- Why the missing jobs are the smallest set. A set that works has a maker of each input that no held job made, and among the jobs that correct vaults hold a tape
--- has one maker: so the missing jobs are among its jobs. What they retire or make, the set does too: so where it passes checks 12 to 14, they do.
+-- Why the missing jobs are the smallest set. A set that works has a maker of each input that no held job made, and among the jobs that correct vaults
+-- hold a tape has one maker: so the missing jobs are among its jobs. What they retire or make, the set does too: so where it passes checks 12 to 14,
+-- they do.
 use mathlib.Core.Bool.{Bool, _&&_, false, true, true≢false}
 use mathlib.Core.Logic.{_⊎_, inl, inr, ⊎-elim}
 use mathlib.Core.Path.{_∙_, _≡_, subst, sym}

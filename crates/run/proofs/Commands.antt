@@ -114,6 +114,21 @@ same-listed : (g : Verdict) (r q : Listing) → (g ≡ Pass → r ≡ q) → gat
 same-listed Pass r q h = h refl
 same-listed (Fail why) r q h = refl
 
+-- two kinds look at all vaults
+by-wide : (P : Kind → Type 0) → P Generations → P Dependencies → (k : Kind) → isWide k ≡ true → P k
+by-wide P g d Propose w = absurd (true≢false (sym w))
+by-wide P g d Preflight w = absurd (true≢false (sym w))
+by-wide P g d Commit w = absurd (true≢false (sym w))
+by-wide P g d FaultySign w = absurd (true≢false (sym w))
+by-wide P g d FaultyAcknowledge w = absurd (true≢false (sym w))
+by-wide P g d Show w = absurd (true≢false (sym w))
+by-wide P g d Draw w = absurd (true≢false (sym w))
+by-wide P g d Generations w = g
+by-wide P g d Snapshot w = absurd (true≢false (sym w))
+by-wide P g d Release w = absurd (true≢false (sym w))
+by-wide P g d Dependencies w = d
+by-wide P g d Unknown w = absurd (true≢false (sym w))
+
 module _ (l : Ledger) (s : Sane l) (journal : List ℕ) where
   vault-gate : (v job : ℕ) (faulty : Bool) → gateOf (l .settings) v faulty (isBooked (versionOf l) journal (l .booked) job) ≡ vaultGate l journal v job faulty
   unfolding vaultGate
@@ -190,54 +205,33 @@ module _ (l : Ledger) (s : Sane l) (journal : List ℕ) where
     -- ---- a kind that looks at all vaults changes nothing
     pub wide-quiet : (k : Kind) → isWide k ≡ true → decision k .change ≡ Nothing
     unfolding generationsDecision dependenciesDecision
-    wide-quiet Propose w = absurd (true≢false (sym w))
-    wide-quiet Preflight w = absurd (true≢false (sym w))
-    wide-quiet Commit w = absurd (true≢false (sym w))
-    wide-quiet FaultySign w = absurd (true≢false (sym w))
-    wide-quiet FaultyAcknowledge w = absurd (true≢false (sym w))
-    wide-quiet Show w = absurd (true≢false (sym w))
-    wide-quiet Draw w = absurd (true≢false (sym w))
-    wide-quiet Generations w = quiet-behind (bookedGate l journal first) _ (ageing-quiet _ _)
-    wide-quiet Snapshot w = absurd (true≢false (sym w))
-    wide-quiet Release w = absurd (true≢false (sym w))
-    wide-quiet Dependencies w = refl
-    wide-quiet Unknown w = absurd (true≢false (sym w))
+    wide-quiet = by-wide (λ k. decision k .change ≡ Nothing) (quiet-behind (bookedGate l journal first) _ (ageing-quiet _ _)) refl
 
     -- what a command answers and lists, by the ledger's definitions
     abbrev pub answer : Kind → Listing
     answer k = record { outcome = decision k .outcome; members = listedBy l journal (command k) }
 
     -- kind 11: behind an open gate the vault modulo the number of vaults is itself
+    requiredAt : ℕ → Listing
+    requiredAt v = requiring (vaultAt l v) (heldSomewhere (l .settings) (l .vaults)) (versionOf l) journal (l .booked) second
+
     required-is : required (booksOf l) journal first second ≡ dependenciesOf l journal first second
-    unfolding dependenciesOf
+    unfolding dependenciesOf requiredAt
     required-is =
-        ap (λ (g : Verdict). gatedListing g (requiring (vaultAt l (first % 16)) (heldSomewhere (l .settings) (l .vaults)) (versionOf l) journal (l .booked) second))
-        (vault-gate first second false)
+        ap (λ (g : Verdict). gatedListing g (requiredAt (first % 16))) (vault-gate first second false)
         ∙ same-listed (vaultGate l journal first second false) _ _ placed
       where
-        placed : vaultGate l journal first second false ≡ Pass
-            → requiring (vaultAt l (first % 16)) (heldSomewhere (l .settings) (l .vaults)) (versionOf l) journal (l .booked) second
-            ≡ requiring (vaultAt l first) (heldSomewhere (l .settings) (l .vaults)) (versionOf l) journal (l .booked) second
+        placed : vaultGate l journal first second false ≡ Pass → requiredAt (first % 16) ≡ requiredAt first
         placed e =
             let p = in-place l journal first second false (entered l journal first second false e) in
             let a : first % 16 ≡ first = omega (arith, p .vault) in
-            rw a
+            ap requiredAt a
 
     pub wide-answer : (k : Kind) → isWide k ≡ true
         → surveyed (booksOf l) (l .order) journal k (vaultOf (command k)) (jobOf (command k)) ≡ answer k
     unfolding generationsDecision dependenciesDecision
-    wide-answer Propose w = absurd (true≢false (sym w))
-    wide-answer Preflight w = absurd (true≢false (sym w))
-    wide-answer Commit w = absurd (true≢false (sym w))
-    wide-answer FaultySign w = absurd (true≢false (sym w))
-    wide-answer FaultyAcknowledge w = absurd (true≢false (sym w))
-    wide-answer Show w = absurd (true≢false (sym w))
-    wide-answer Draw w = absurd (true≢false (sym w))
-    wide-answer Generations w = rw (booked-gate first)
-    wide-answer Snapshot w = absurd (true≢false (sym w))
-    wide-answer Release w = absurd (true≢false (sym w))
-    wide-answer Dependencies w = required-is
-    wide-answer Unknown w = absurd (true≢false (sym w))
+    wide-answer =
+        by-wide (λ k. surveyed (booksOf l) (l .order) journal k (vaultOf (command k)) (jobOf (command k)) ≡ answer k) (rw (booked-gate first)) required-is
 
     -- any other kind lists nothing
     pub narrow-lists : (k : Kind) → isWide k ≡ false → noJobs ≡ listedBy l journal (command k)

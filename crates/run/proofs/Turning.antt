@@ -113,7 +113,8 @@ module _ {input : List ℕ} {l₀ : Ledger} {pos₀ count₀ : ℕ} {journal₀ 
       eo ∙ sym (reply-outcome l journal command) ∙ ap (λ (c : Command). replyOf l journal c .outcome) stands in
       let lists : answer .members ≡ listedBy l journal (stepAt (versionOf l) input pos) = em ∙ ap (listedBy l journal) stands in
       let before : count < length input = omega (arith, t .steps) in
-      let text = step-text input (runAt l pos count journal) (runAt l′ (s .end) (count + 1) journal′) (answer .outcome) (answer .members) more before told lists e in
+      let text = step-text input (runAt l pos count journal) (runAt l′ (s .end) (count + 1) journal′) (answer .outcome) (answer .members) more before
+      told lists e in
       record {
         piece = piece-more (t .piece) text (rw (r .number-is) at (w .text)) (omega (arith, w .short, t .same-out));
         few = t .few;
@@ -263,4 +264,18 @@ module _ (input : List ℕ) (p : Progress) (journal₀ out₀ memo journal numbe
 pub reads-on : {version : ℕ} {input : List ℕ} {pos n : ℕ} {s : Step} → Read version input pos n s → length input - s .end < length input - pos
 reads-on r = omega (arith, r .onward, r .inside)
 
-pub ruleset turning = (started, few-vaults, to-survey, to-look-up, numbered, to-carry-out, turn-wide, turn-quiet, turn-loud, loud-placed, reads-on, stopped, finished)
+pub ruleset turning = (
+  started,
+  few-vaults,
+  to-survey,
+  to-look-up,
+  numbered,
+  to-carry-out,
+  turn-wide,
+  turn-quiet,
+  turn-loud,
+  loud-placed,
+  reads-on,
+  stopped,
+  finished,
+)

@@ -153,7 +153,8 @@ module _ (a : Books) (order journal memo : List ℕ) (job : ℕ) (b : Bool) (e :
 
 -- ---- missing dependencies
 pub required-so : (a : Books) (journal : List ℕ) (v job : ℕ) (g : Verdict) (r : Listing) → g ≡ gateBy (a .settings) (a .booked) journal v false job
-    → r ≡ gatedListing g (requiring (getD (a .vaults) (v % 16) newVault) (heldSomewhere (a .settings) (a .vaults)) (a .settings .version) journal (a .booked) job)
+    → r ≡ gatedListing g
+    (requiring (getD (a .vaults) (v % 16) newVault) (heldSomewhere (a .settings) (a .vaults)) (a .settings .version) journal (a .booked) job)
     → r ≡ required a journal v job
 required-so a journal v job g r e h = rw e at h
 

@@ -43,16 +43,19 @@ gateBy s booked journal v faulty job = gateOf s v faulty (isBooked (s .version) 
 abbrev pub requested : View → List ℕ → Request → Decision
 requested w journal (propose bytes) = proposal (w .settings .version) journal (w .booked) bytes
 requested w journal (preflight v job) =
-    gated (gateBy (w .settings) (w .booked) journal v false job) (preflighting (w .state) (w .settings .version) journal (w .booked) (w .votes .signatures) v job)
+    gated (gateBy (w .settings) (w .booked) journal v false job)
+    (preflighting (w .state) (w .settings .version) journal (w .booked) (w .votes .signatures) v job)
 requested w journal (commit v job named) =
     gated (gateBy (w .settings) (w .booked) journal v false job) (committing (w .settings) (w .state) (w .votes) v job named)
-requested w journal (faultyVote column v job) = gated (gateBy (w .settings) (w .booked) journal v true job) (voting (columnOf column (w .votes)) v (Record column))
+requested w journal (faultyVote column v job) =
+    gated (gateBy (w .settings) (w .booked) journal v true job) (voting (columnOf column (w .votes)) v (Record column))
 requested w journal (show job) =
     gated (bookedOr (isBooked (w .settings .version) journal (w .booked) job)) (answering (statusOf (w .settings) (w .votes)))
 requested w journal (generations job) = refusing NotHeld
 requested w journal snapshot = snapshotting (w .settings) (w .next) (w .seen) (w .turn .held)
 requested w journal (release v job rival) =
-    gated (gateBy (w .settings) (w .booked) journal v false job) (releasing (w .state) (w .settings .version) journal (w .booked) (w .votes .signatures) job rival)
+    gated (gateBy (w .settings) (w .booked) journal v false job)
+    (releasing (w .state) (w .settings .version) journal (w .booked) (w .votes .signatures) job rival)
 requested w journal (dependencies v job) = refusing NotHeld
 
 abbrev pub decidedBy : View → List ℕ → Command → Decision

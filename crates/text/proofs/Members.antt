@@ -16,8 +16,8 @@ use Rattle.base.specs.Lists.{In}
 use Rattle.base.specs.Search.{Least, anyBelow, firstBelow, sumFrom}
 use Rattle.outcome.specs.declared.Outcome.{Outcome}
 use Rattle.sets.proofs.Bits.{bit-zero, has-none, has-suc, reflect-some}
-use Rattle.sets.proofs.Jobs.{has-no-jobs, in-high, in-low, job-below, job-count-counts, job-count-with, job-with-other, job-with-same, job-without-other, job-without-same}
-use Rattle.sets.proofs.Jobs.{jobs-same, with-words, without-words}
+use Rattle.sets.proofs.Jobs.{has-no-jobs, in-high, in-low, job-below, job-count-counts, job-count-with, job-with-other, job-with-same}
+use Rattle.sets.proofs.Jobs.{job-without-other, job-without-same, jobs-same, with-words, without-words}
 use Rattle.sets.specs.Bits.{bit, hasBit}
 use Rattle.sets.specs.Jobs.{InWords, jobCount, jobHas, jobWith, jobWithout, noJobs}
 use Rattle.sets.specs.declared.job_set.JobSet.{JobSet}
