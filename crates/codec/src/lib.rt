@@ -179,7 +179,8 @@ pub fn read(version: u16, bytes: &[u8]) -> Job
     said(front(version, bytes))
 }
 
-fn put_number(out: &mut [u8], at: usize, count: usize, value: u64)
+// A number's bytes, the low one first, where there is room for them.
+pub fn put_number(out: &mut [u8], at: usize, count: usize, value: u64)
     requires { ⌜ at + count ≤ length (now out) ⌝ }
     ensures { λ _. ⌜ now (out .exit) ≡ sets (now (out .entry)) at (leBytes count value) ⌝ }
 {

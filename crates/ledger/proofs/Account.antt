@@ -11,6 +11,7 @@ use lib.ListN.{List·getD-append, getD, length, length-append}
 use lib.Pow.{split}
 use Rattle.base.proofs.Members.{
   distinct-append,
+  distinct-apart,
   distinct-left,
   distinct-map,
   distinct-map-keep,
@@ -115,6 +116,11 @@ by-label j st d h = keep-same (λ t. not (anyIn (λ s. sameTape s t) (inputTapes
         subst (λ (x : Entry). In x (inputTapes j)) (image-once (λ (x : Entry). x .label) st d (q .0) t (h (q .0) (q .1)) m (sym (q .2))) (q .1)))
         (reflect-member (t .label) (labels (inputTapes j)) (reflect-eq (t .label))))
 
+-- the creator of an input is in the list
+pub creator-in : {job : ℕ → Job} {ks : List ℕ} {m : ℕ} {t : Entry} (c : OneCreator job ks m t) → In (c .creator) ks
+creator-in {job} {ks} {m} c =
+    subst (λ (l : List ℕ). In (c .creator) l) (sym (c .made .split)) (in-left (c .made .earlier) (m ∷ c .made .later) (c .creator) (c .made .before))
+
 -- ---- the invariant
 pub record Books (r : Register) : Type 0 where
   pub known : (k : ℕ) → In k (r .taken) → k < length (r .table)
@@ -122,6 +128,8 @@ pub record Books (r : Register) : Type 0 where
   pub stands : (k : ℕ) (t : Entry) → In k (r .taken) → In t (outputTapes (tabled (r .table) k))
       → ((i : ℕ) → In i (r .taken) → In (t .label) (labels (inputTapes (tabled (r .table) i))) → ⊥) → In t (r .standing)
   pub stands-by : (t : Entry) → In t (r .standing) → (k : ℕ) × (In k (r .taken) × In t (outputTapes (tabled (r .table) k)))
+  -- and has no label that a taken job retired
+  pub unretired : (t : Entry) → In t (r .standing) → (k : ℕ) → In k (r .taken) → In (t .label) (labels (inputTapes (tabled (r .table) k))) → ⊥
   pub made-by : (x : ℕ) → In x (r .made) → (k : ℕ) × (In k (r .taken) × In x (labels (outputTapes (tabled (r .table) k))))
   pub made-all : (k x : ℕ) → In k (r .taken) → In x (labels (outputTapes (tabled (r .table) k))) → In x (r .made)
   pub makers-once : (i k x : ℕ) → In i (r .taken) → In k (r .taken) → In x (labels (outputTapes (tabled (r .table) i)))
@@ -139,6 +147,7 @@ books-new version = record {
   known = λ k m. absurd m;
   stands = λ k t m. absurd m;
   stands-by = λ t m. absurd m;
+  unretired = λ t m. absurd m;
   made-by = λ x m. absurd m;
   made-all = λ k x m. absurd m;
   makers-once = λ i k x m. absurd m;
@@ -161,10 +170,11 @@ module _ (r : Register) (k : ℕ) (b : Books r) (h : k < length (r .table)) (a :
   well-formed : WellFormed j
   well-formed = checked-well-formed j (examined-checked (r .version) (getD (r .table) k []) (a .fits))
 
+  labels-once : Distinct (labels (inputTapes j) ++ labels (outputTapes j))
+  labels-once = subst (λ (l : List ℕ). Distinct l) (map-append (λ (t : Entry). t .label) (inputTapes j) (outputTapes j)) (well-formed .distinct)
+
   outputs-once : Distinct (labels (outputTapes j))
-  outputs-once =
-      distinct-right (labels (inputTapes j)) (labels (outputTapes j))
-      (subst (λ (l : List ℕ). Distinct l) (map-append (λ (t : Entry). t .label) (inputTapes j) (outputTapes j)) (well-formed .distinct))
+  outputs-once = distinct-right (labels (inputTapes j)) (labels (outputTapes j)) labels-once
 
   inputs-once : Distinct (inputTapes j)
   inputs-once = distinct-left (inputTapes j) (outputTapes j) (distinct-map (λ (t : Entry). t .label) (inputTapes j ++ outputTapes j) (well-formed .distinct))
@@ -216,8 +226,6 @@ module _ (r : Register) (k : ℕ) (b : Books r) (h : k < length (r .table)) (a :
   created m (inl p) t i =
       let o = b .creators m p t i in
       let c = o .made in
-      let here : In (o .creator) (r .taken) = subst (λ (l : List ℕ). In (o .creator) l) (sym (c .split))
-      (in-left (c .earlier) (m ∷ c .later) (o .creator) (c .before)) in
       record {
         creator = o .creator;
         made = record {
@@ -227,7 +235,7 @@ module _ (r : Register) (k : ℕ) (b : Books r) (h : k < length (r .table)) (a :
           before = c .before;
           makes = c .makes;
         };
-        only = only-maker (o .creator) t (in-left (r .taken) (k ∷ []) (o .creator) here) (c .makes);
+        only = only-maker (o .creator) t (in-left (r .taken) (k ∷ []) (o .creator) (creator-in o)) (c .makes);
       }
   created m (inr e) t i =
       let q = b .stands-by t (a .standing t (rw e at i)) in
@@ -240,12 +248,26 @@ module _ (r : Register) (k : ℕ) (b : Books r) (h : k < length (r .table)) (a :
   cut : rest ≡ retire j (r .standing)
   cut = by-label j (r .standing) (b .once) (a .standing)
 
+  -- its inputs are gone by their labels; and the labels of its outputs are new, so no job retired them
+  kept : (t : Entry) → In t rest ⊎ In t (outputTapes j) → (i : ℕ) → In i (r .taken) ⊎ (i ≡ k) → In (t .label) (labels (inputTapes (tabled (r .table) i))) → ⊥
+  kept t (inl m) i (inl p) x = b .unretired t (in-rest t m) i p x
+  kept t (inl m) i (inr e) x =
+      reflect-not (reflect-member (t .label) (labels (inputTapes j)) (reflect-eq (t .label))) .sound
+      (keep-in (λ t. not (anyIn (eqb (t .label)) (labels (inputTapes j)))) (r .standing) t (subst (λ (l : List Entry). In t l) cut m) .1) (rw e at x)
+  kept t (inr o) i (inl p) x =
+      let s = map-in (λ (t : Entry). t .label) (inputTapes (tabled (r .table) i)) (t .label) x in
+      let c = b .creators i p (s .0) (s .1) in
+      new-label (t .label) (labelled k t o)
+      (subst (λ (y : ℕ). In y (r .made)) (sym (s .2)) (b .made-all (c .creator) (s .0 .label) (creator-in c) (labelled (c .creator) (s .0) (c .made .makes))))
+  kept t (inr o) i (inr e) x = distinct-apart (labels (inputTapes j)) (labels (outputTapes j)) labels-once (t .label) (rw e at x) (labelled k t o)
+
   pub books-take : Books (taking r k)
   unfolding taking
   books-take = record {
     known = λ i m. ⊎-elim (b .known i) (λ e. rw e h) (in-snoc (r .taken) k i m);
     stands = λ i t m o n. stood i t (in-snoc (r .taken) k i m) o n;
     stands-by = λ t m. stood-by t (in-append rest (outputTapes j) t m);
+    unretired = λ t m i p. kept t (in-append rest (outputTapes j) t m) i (in-snoc (r .taken) k i p);
     made-by = λ x m. makers x (in-append (r .made) (labels (outputTapes j)) x m);
     made-all = λ i x m o. ⊎-elim
         (λ (p : In i (r .taken)). in-left (r .made) (labels (outputTapes j)) x (b .made-all i x p o))
@@ -285,17 +307,16 @@ books-enter r bytes b =
       known = λ k m. omega (arith, b .known k m, length-append (r .table) (bytes ∷ []));
       stands = λ k t m o n. b .stands k t m (rw (e k m) at o) (λ i p q. n i p (rw (e i p) q));
       stands-by = λ t m. let q = b .stands-by t m in (q .0, (q .1 .0, rw (e (q .0) (q .1 .0)) (q .1 .1)));
+      unretired = λ t m k p x. b .unretired t m k p (rw (e k p) at x);
       made-by = λ x m. let q = b .made-by x m in (q .0, (q .1 .0, rw (e (q .0) (q .1 .0)) (q .1 .1)));
       made-all = λ k x m o. b .made-all k x m (rw (e k m) at o);
       makers-once = λ i k x p q o n. b .makers-once i k x p q (rw (e i p) at o) (rw (e k q) at n);
       creators = λ k m t i.
           let o = b .creators k m t (rw (e k m) at i) in
           let c = o .made in
-          let here : In (o .creator) (r .taken) = subst (λ (l : List ℕ). In (o .creator) l) (sym (c .split))
-          (in-left (c .earlier) (k ∷ c .later) (o .creator) (c .before)) in
           record {
             creator = o .creator;
-            made = record { earlier = c .earlier; later = c .later; split = c .split; before = c .before; makes = rw (e (o .creator) here) (c .makes) };
+            made = record { earlier = c .earlier; later = c .later; split = c .split; before = c .before; makes = rw (e (o .creator) (creator-in o)) (c .makes) };
             only = λ i p q. o .only i p (rw (e i p) at q);
           };
       once = b .once;

@@ -155,14 +155,18 @@ module _ (n b faulty version : ℕ) where
 
 -- ---- what the invariant says
 module _ {w : World} {r : Register} (i : Inv w r) where
-  -- a quorum of acknowledgements has a correct vault in it, which holds the job; so the job is certified
-  finished-certified : (k : ℕ) → thresholdOf (w .ledger .settings) ≤ ones (acknowledgersOf (w .ledger) k)
-      → thresholdOf (w .ledger .settings) ≤ ones (signersOf (w .ledger) k)
+  -- a quorum of acknowledgements has a correct vault in it, which holds the job
+  pub finished-held : (k : ℕ) → thresholdOf (w .ledger .settings) ≤ ones (acknowledgersOf (w .ledger) k) → (v : ℕ) × (heldAt (w .ledger) v k ≡ true)
   unfolding votedAt
-  finished-certified k a =
+  finished-held k a =
       let below = i .shape .votes-below Acknowledgements k in
       let m = meeting (i .shape .lawful) (acknowledgersOf (w .ledger) k) (acknowledgersOf (w .ledger) k) below below a a in
-      i .safe .certified (m .vault) k (i .safe .honest (m .vault) k (m .correct) (m .first))
+      (m .vault, i .safe .honest (m .vault) k (m .correct) (m .first))
+
+  -- so the job is certified
+  pub finished-certified : (k : ℕ) → thresholdOf (w .ledger .settings) ≤ ones (acknowledgersOf (w .ledger) k)
+      → thresholdOf (w .ledger .settings) ≤ ones (signersOf (w .ledger) k)
+  finished-certified k a = let h = finished-held k a in i .safe .certified (h .0) k (h .1)
 
   quorum : (k : ℕ) → Held (w .ledger) k → thresholdOf (w .ledger .settings) ≤ ones (signersOf (w .ledger) k)
   quorum k h = let q = held-by (w .ledger) k h in i .safe .certified (q .0) k (q .1)

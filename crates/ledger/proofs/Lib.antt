@@ -8,6 +8,7 @@ pub mod Demand3
 pub mod Dependencies
 pub mod Effects
 pub mod Example
+pub mod Freed
 pub mod Gates
 pub mod Growth
 pub mod Holders

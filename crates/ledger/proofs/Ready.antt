@@ -232,7 +232,7 @@ acknowledged-along (e ∷ es) w r i a =
     acknowledged-along es (after w e) (fedBy w r e) (kept w r i e) (acknowledged-on w (i .shape) (e .request) _ (after w e) (changes w (i .shape) e) a)
 
 -- a set whose members all have a vote has no more members than the votes
-all-voted : (s votes : ℕ) → AtEach s (λ v. hasBit votes v ≡ true) → ones s ≤ ones votes
+pub all-voted : (s votes : ℕ) → AtEach s (λ v. hasBit votes v ≡ true) → ones s ≤ ones votes
 all-voted s votes h = ones-subset s s votes (below-power s) (reflect-subset s s votes (below-power s) .complete (λ v b. h v))
 
 -- n − b acknowledgements: kind 6 answers 2

@@ -36,7 +36,7 @@ pub(crate) fn settings_in(input: &[u8]) -> Settings
 }
 
 // Check 1.
-pub(crate) fn opens(input: &[u8]) -> bool
+pub fn opens(input: &[u8]) -> bool
     ensures { λ r. ⌜ r ≡ opens (now (input .entry)) ⌝ }
 {
     if input.len() > 65536 {

@@ -12,6 +12,7 @@ pub use buffers::JOURNAL;
 pub use buffers::PIECE;
 pub use buffers::input_buffer;
 pub use buffers::printed;
+pub use header::opens;
 use ledger::Ledger;
 use outcome::Outcome;
 use outcome::Refusal;

@@ -4,7 +4,7 @@ ghost use Prim.Native.Nat.{_+_, _<_, _≤_};
 ghost use lib.ListN.{length};
 ghost use Rattle.text.specs.Text.{Put, decimal, twoDigits};
 
-pub(crate) fn write_byte(out: &mut [u8], at: usize, b: u8) -> usize
+pub fn write_byte(out: &mut [u8], at: usize, b: u8) -> usize
     requires { ⌜ at < length (now out) ⌝ }
     ensures { λ r. ⌜ Put (now (out .entry)) at (b ∷ []) (now (out .exit)) r × (r ≤ at + 1) ⌝ }
 {
@@ -33,7 +33,7 @@ fn write_few(out: &mut [u8], at: usize, n: u32) -> usize
 }
 
 // Four digits at most.
-pub(crate) fn write_some(out: &mut [u8], at: usize, n: u32) -> usize
+pub fn write_some(out: &mut [u8], at: usize, n: u32) -> usize
     requires { ⌜ (n < 10000) × (at + 4 ≤ length (now out)) ⌝ }
     ensures { λ r. ⌜ Put (now (out .entry)) at (decimal n) (now (out .exit)) r × (r ≤ at + 4) ⌝ }
 {
@@ -81,7 +81,7 @@ fn write_large(out: &mut [u8], at: usize, n: u32) -> usize
 }
 
 // Any number. Most have one digit or two, and are written without a call.
-pub(crate) fn write_number(out: &mut [u8], at: usize, n: u32) -> usize
+pub fn write_number(out: &mut [u8], at: usize, n: u32) -> usize
     requires { ⌜ at + 10 ≤ length (now out) ⌝ }
     ensures { λ r. ⌜ Put (now (out .entry)) at (decimal n) (now (out .exit)) r × (r ≤ at + 10) ⌝ }
 {

@@ -41,7 +41,7 @@ abbrev μ-loop : tie.MeasureT-loop
 
 loop-holds : tie.Need-loop-holds Inv-loop μ-loop
 loop-holds c = record {
-  going = c .before .before .before .start .ensures .going;
+  going = λ more. let s = c .before .before .before .start .ensures in s .going (s .passed more);
   memo-size = search needs;
   journal-size = search needs;
   numbers-size = search needs;

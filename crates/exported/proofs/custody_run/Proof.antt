@@ -10,7 +10,8 @@ ruleset by = (filled-none, filled-on, filled-start, needs)
 advance-requires : tie.Need-advance-requires
 advance-requires c κs =
     let b = c .before .before .before .before .before .before in
-    b .before .before .before .before .start .ensures .going (b .if2 .taken)
+    let s = b .before .before .before .before .start .ensures in
+    s .going (s .passed (b .if2 .taken))
 
 pub custody-run-spec : {M : Type 1} → statement M
 custody-run-spec =

@@ -8,7 +8,7 @@ use borrow.Author.Needs.{needs}
 use mathlib.Core.Path.{_∙_, ap, refl, sym}
 use native.Mathlib.Nat.{le-refl, lt-irrefl}
 use native.Mathlib.Omega.{arith}
-use mathlib.Core.Bool.{true}
+use mathlib.Core.Bool.{true, true≢false}
 use Rattle.base.proofs.Reflect.{by-cases}
 use mathlib.Core.List.{List}
 use mathlib.Core.Path.{_≡_}
@@ -52,6 +52,7 @@ returns c =
     let e = began _ _ (c .before .before .settings-in .ensures) _ (c .before .new .ensures) in
     record {
       piece = nothing-yet (opened-run _ o ∙ ap (textFrom _) (sym (begins-at _ _ e)));
+      passed = λ l. o;
       going = λ l. record { few = h .few; steps = omega arith; inside = h .headed; kept = kept-begun _ _ e (h .lawful) };
       silent = λ l. refl;
       first = λ l. begins-at _ _ e;
@@ -61,12 +62,14 @@ returns-2 : tie.Need-returns-2
 returns-2 c =
     let w = c .before .before .before .before in
     let shut = w .before .before in
-    let text = refused-run _ (sym (shut .before .opens .ensures) ∙ shut .if1 .left) _ (le-refl _) in
+    let no = sym (shut .before .opens .ensures) ∙ shut .if1 .left in
+    let text = refused-run _ no _ (le-refl _) in
     record {
       piece = piece-more (nothing-yet refl) text (w .write-line .ensures .0) (omega arith);
-      going = λ l. absurd (lt-irrefl _ l);
+      passed = λ l. absurd (lt-irrefl _ l);
+      going = λ o. absurd (true≢false (sym o ∙ no));
       silent = λ l. absurd (lt-irrefl _ l);
-      first = λ l. absurd (lt-irrefl _ l);
+      first = λ o. absurd (true≢false (sym o ∙ no));
     }
 
 pub start-spec : {M : Type 1} → statement M

@@ -1,0 +1,49 @@
+-- What is printed, by the three cases: the list of the run's end, the line of the step that can't be read, the line of the file that is turned back.
+use mathlib.Core.Bool.{Bool, false, true}
+use mathlib.Core.List.{List}
+use mathlib.Core.Logic.{_≢_}
+use mathlib.Core.Path.{_∙_, _≡_, ap, ap₂, subst, sym}
+use Prim.Native.Nat.{ℕ}
+use borrow.Author.Tests.{eq-eqb, ne-eqb}
+use Rattle.index.specs.Places.{numbersSize, setsSize}
+use Rattle.index.specs.Records.{recordsSize}
+use Rattle.journal.specs.Journal.{capacity, jobAt}
+use Rattle.ledger.specs.Freed.{Freed, freedTapes}
+use Rattle.ledger.specs.State.{versionOf}
+use Rattle.ledger.specs.declared.Ledger.{Ledger}
+use Rattle.outcome.specs.declared.Outcome.the-variants.{Refused}
+use Rattle.outcome.specs.declared.Refusal.the-variants.{Settings as BadSettings, Unreadable}
+use Rattle.release_file.specs.Releases.{RanOut, freedAt, releasesText, unreadIn}
+use Rattle.release_list.specs.Listing.{listText}
+use Rattle.run.specs.Pieces.{Going, Started, blank, runOf}
+use Rattle.run.specs.declared.Progress.{Progress}
+use Rattle.runfile.specs.History.{finalRun}
+use Rattle.runfile.specs.Run.{journalSize, lastFrom, opens}
+use Rattle.text.specs.Text.{Put, lineFor}
+
+-- a run that check 1 has let through begins on tables of zeros
+pub begun : (input journal before after : List ℕ) (p : Progress) → opens input ≡ true → journal ≡ blank journalSize → Started input before after p
+    → Going input p journal (blank numbersSize) (blank setsSize) (blank recordsSize) (blank capacity) × (lastFrom input (runOf p journal) ≡ finalRun input)
+begun input journal before after p o e s = (
+  subst (λ (j : List ℕ). Going input p j (blank numbersSize) (blank setsSize) (blank recordsSize) (blank capacity)) (sym e) (s .going o),
+  ap (λ (j : List ℕ). lastFrom input (runOf p j)) e ∙ ap (lastFrom input) (s .first o),
+)
+
+module _ {o p : List ℕ} {r : ℕ} (input : List ℕ) where
+  module _ (b : Bool) (lets : b ≡ opens input) (through : b ≡ true) (first : ℕ) (is : first ≡ unreadIn input) where
+    pub list-told : first ≡ 0 → (l : Ledger) (journal : List ℕ) → RanOut input l journal
+        → Put o 0 (listText (freedTapes l (jobAt (versionOf l) journal (l .booked)))) p r → Put o 0 (releasesText input) p r
+    unfolding releasesText
+    list-told z l journal ran w =
+        let same : freedTapes l (jobAt (versionOf l) journal (l .booked)) ≡ freedAt (finalRun input) =
+        ap₂ (λ (x : Ledger) (j : List ℕ). freedTapes x (jobAt (versionOf x) j (x .booked))) (ran .ledger-is) (ran .journal-is) in
+        simp (sym lets ∙ through, eq-eqb (unreadIn input) 0 (sym is ∙ z)) (subst (λ (xs : List Freed). Put o 0 (listText xs) p r) same w)
+
+    pub cut-told : first ≢ 0 → Put o 0 (lineFor first (Refused Unreadable)) p r → Put o 0 (releasesText input) p r
+    unfolding releasesText
+    cut-told n w =
+        simp (sym lets ∙ through, ne-eqb (unreadIn input) 0 (λ e. n (is ∙ e))) (subst (λ (k : ℕ). Put o 0 (lineFor k (Refused Unreadable)) p r) is w)
+
+  pub back-told : (b : Bool) → b ≡ opens input → b ≡ false → Put o 0 (lineFor 0 (Refused BadSettings)) p r → Put o 0 (releasesText input) p r
+  unfolding releasesText
+  back-told b is n w = simp (sym is ∙ n) w

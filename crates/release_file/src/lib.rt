@@ -1,0 +1,28 @@
+// A run file in, its release list out: the file is carried out to its end, and the tapes that are then free are listed.
+mod running;
+mod unread;
+
+ghost use Prim.Native.Nat.{_≤_};
+ghost use Rattle.release_file.specs.Releases.{releasesText};
+ghost use Rattle.text.specs.Text.{Put};
+use outcome::Outcome;
+use outcome::Refusal;
+
+// The list of 128 jobs with four inputs each, and the line with their number.
+pub const ROOM: usize = 12805;
+
+// A file that refusal 1 or 2 turns back or cuts short gets that line and no list.
+pub fn releases(input: &[u8], out: &mut [u8; 12805]) -> usize
+    ensures { λ r. ⌜ Put (now (out .entry)) 0 (releasesText (now (input .entry))) (now (out .exit)) r × (r ≤ 12805) ⌝ }
+{
+    if run::opens(input) {
+        let first = unread::first(input);
+        if first == 0 {
+            let mut journal = [0u8; run::JOURNAL];
+            let ledger = running::run_out(input, &mut journal);
+            return release_list::write_list(out, ledger, &journal);
+        }
+        return text::write_line(out, 0, first, Outcome::Refused(Refusal::Unreadable));
+    }
+    text::write_line(out, 0, 0, Outcome::Refused(Refusal::Settings))
+}
