@@ -6,6 +6,7 @@ pub mod Creators
 pub mod Demand2
 pub mod Demand3
 pub mod Effects
+pub mod Equivocation
 pub mod Example
 pub mod Gates
 pub mod Growth
@@ -25,5 +26,6 @@ pub mod Rivals
 pub mod Rounds
 pub mod Safety
 pub mod Unchanged
+pub mod Unnamed
 pub mod Views
 pub mod Writes

@@ -43,7 +43,7 @@ use Rattle.sets.specs.declared.job_set.JobSet.{JobSet}
 use Rattle.index.specs.Admission.{admission, consumedAt, notCreatedAt, remadeAt}
 use Rattle.federation.specs.Federation.{thresholdOf}
 use Rattle.federation.specs.declared.Settings.{Settings}
-use Rattle.journal.specs.Journal.{isBooked}
+use Rattle.journal.specs.Journal.{isBooked, isWhole}
 use Rattle.ledger.specs.Meaning.{missing, remade, reserved}
 use Rattle.ledger.specs.State.{isSane, versionOf}
 use Rattle.ledger.specs.Decisions.{
@@ -54,6 +54,7 @@ use Rattle.ledger.specs.Decisions.{
   consent,
   consenting,
   gated,
+  gatedListing,
   placing,
   preflighting,
   proposal,
@@ -67,6 +68,8 @@ use Rattle.ledger.specs.Decisions.{
 use Rattle.ledger.specs.Steps.{
   bookedGate,
   commitDecision,
+  equivocatorsDecision,
+  equivocatorsOf,
   faultyVoteDecision,
   gateOf,
   generationsDecision,
@@ -77,12 +80,14 @@ use Rattle.ledger.specs.Steps.{
   showDecision,
   snapshotDecision,
   vaultGate,
+  wholeGate,
 }
 use Rattle.vaults.specs.Vaults.{consented, vaultPreflight}
-use Rattle.ledger.specs.Worlds.{Request, commit, faultyVote, generations, preflight, propose, release, show, snapshot, stepOf}
+use Rattle.ledger.specs.Worlds.{Request, commit, equivocating, faultyVote, generations, preflight, propose, release, show, snapshot, stepOf}
 use Rattle.vaults.specs.declared.Consent.the-variants.{Already}
 use Rattle.ledger.specs.declared.Decision.{Decision}
 use Rattle.ledger.specs.declared.Ledger.{Ledger}
+use Rattle.ledger.specs.declared.Listing.{Listing}
 use Rattle.vaults.specs.declared.Signing.{Signing}
 use Rattle.vaults.specs.declared.Vault.{Vault}
 
@@ -182,6 +187,10 @@ module _ (l : Ledger) (journal : List ℕ) (sane : isSane l ≡ true) where
       (choose (Bool·beq (hasBit (l .settings .faulty) v) faulty) _ _ (booked-or k) (fails WrongVault refl))
       (fails NoVault refl))
 
+  whole-gate : NotOne (wholeGate l journal)
+  unfolding wholeGate
+  whole-gate = rw sane (choose (isWhole (versionOf l) journal (l .booked)) _ _ pass (fails NotBooked refl))
+
   sane-gate : NotOne (saneGate l)
   unfolding saneGate
   sane-gate = rw sane pass
@@ -210,9 +219,13 @@ module _ (l : Ledger) (journal : List ℕ) (sane : isSane l ≡ true) where
   unfolding ageing
   ages b age = either b _ _ (done age) (refuses NotHeld (fails NotHeld refl))
 
+  listed : (g : Verdict) (r : Listing) → NotOne g → Fine (r .outcome) → Fine (gatedListing g r .outcome)
+  listed Pass r p q = q
+  listed (Fail why) r p q = refuses why p
+
   fine : (q : Request) → Fine (stepOf l journal q .outcome)
   unfolding proposeDecision proposal settling preflightDecision preflighting admissionAt commitDecision committing faultyVoteDecision showDecision
-      generationsDecision snapshotDecision snapshotting releaseDecision releasing
+      generationsDecision snapshotDecision snapshotting releaseDecision releasing equivocatorsDecision equivocatorsOf
   fine (propose bytes) = behind (saneGate l) _ sane-gate (behind (examined (versionOf l) bytes) _ (examines (versionOf l) bytes) (places _ _ _ _))
   fine (preflight v k) = behind (vaultGate l journal v k false) _ (vault-gate v k false) (consents _ _ _ _ _ (admits _ _ _ _ _))
   fine (commit v k signers) =
@@ -223,6 +236,7 @@ module _ (l : Ledger) (journal : List ℕ) (sane : isSane l ≡ true) where
   fine snapshot = behind (saneGate l) _ sane-gate (done _)
   fine (release v k rival) =
       behind (vaultGate l journal v k false) _ (vault-gate v k false) (behind (supersession _ _ _ _ _ _) _ (supersedes _ _ _ _ _ _) (done _))
+  fine equivocating = listed (wholeGate l journal) _ whole-gate (done _)
 
   -- whatever the request
   pub never-one : (q : Request) → numberOf (stepOf l journal q .outcome) ≡ 1 → ⊥

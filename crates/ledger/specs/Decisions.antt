@@ -10,7 +10,7 @@ use Rattle.outcome.specs.declared.Refusal.the-variants.{Full, NotBooked, NotHel
 use Rattle.outcome.specs.declared.Verdict.{Verdict}
 use Rattle.outcome.specs.declared.Verdict.the-variants.{Pass, Fail}
 use Rattle.sets.specs.Bits.{subsetOf, withMember}
-use Rattle.sets.specs.Jobs.{jobCount, jobHas, jobWithout}
+use Rattle.sets.specs.Jobs.{jobCount, jobHas, jobWithout, noJobs}
 use Rattle.sets.specs.declared.job_set.JobSet.{JobSet}
 use Rattle.snapshot.specs.Snapshot.{seenAfter}
 use Rattle.federation.specs.Federation.{thresholdOf}
@@ -24,6 +24,7 @@ use Rattle.ledger.specs.declared.Change.the-variants.{Book, Hold, Nothin
 use Rattle.vaults.specs.declared.Consent.{Consent}
 use Rattle.vaults.specs.declared.Consent.the-variants.{Already, Denied, Fresh}
 use Rattle.ledger.specs.declared.Decision.{Decision}
+use Rattle.ledger.specs.declared.Listing.{Listing}
 use Rattle.vaults.specs.declared.Vault.{Vault}
 use Rattle.vaults.specs.declared.Votes.{Votes}
 use Rattle.vaults.specs.Vaults.{holding, unsigning, vaultPreflight}
@@ -131,6 +132,17 @@ supersession state version journal booked job rival =
 unfoldable pub releasing : Vault → ℕ → List ℕ → ℕ → ℕ → ℕ → ℕ → Decision
 releasing state version journal booked signers job rival =
     gated (supersession state version journal booked job rival) (record { outcome = Done (ones signers); change = Release (unsigning state job) })
+
+-- ---- kinds that list what they found: the value is how many
+abbrev pub listing : JobSet → Listing
+listing found = record { outcome = Done (jobCount found); members = found }
+
+abbrev pub unlisted : Refusal → Listing
+unlisted why = record { outcome = Refused why; members = noJobs }
+
+abbrev pub gatedListing : Verdict → Listing → Listing
+gatedListing Pass r = r
+gatedListing (Fail why) r = unlisted why
 
 -- ---- of a change
 abbrev pub isNothing : Change → Bool

@@ -1,6 +1,8 @@
 pub mod Decisions
 pub mod Demand2
 pub mod Demand3
+pub mod Equivocation
+pub mod Equivocators
 pub mod Given
 pub mod Graph
 pub mod Growth
