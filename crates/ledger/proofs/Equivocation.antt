@@ -24,7 +24,6 @@ use Rattle.sets.proofs.Jobs.{has-jobs-below, job-below, jobs-below-words, jobs-
 use Rattle.sets.specs.Bits.{hasBit}
 use Rattle.sets.specs.Jobs.{InWords, jobHas}
 use Rattle.sets.specs.declared.job_set.JobSet.{JobSet}
-use Rattle.vaults.specs.declared.Votes.{Votes}
 use Rattle.ledger.proofs.Gates.{reflect-sane}
 use Rattle.ledger.specs.Decisions.{gatedListing, listing}
 use Rattle.ledger.specs.Equivocation.{
@@ -37,40 +36,39 @@ use Rattle.ledger.specs.Equivocation.{
   isEquivocating,
   isExcused,
   isUnexcused,
-  recordedFor,
   signedBoth,
 }
 use Rattle.ledger.specs.Equivocators.{Answers, ListsExactly, Whole, insane, listed, short}
 use Rattle.ledger.specs.Meaning.{Sane}
-use Rattle.ledger.specs.State.{isSane, versionOf}
+use Rattle.ledger.specs.State.{isSane, signersOf, versionOf}
 use Rattle.ledger.specs.Steps.{equivocatorsOf, wholeGate}
 use Rattle.ledger.specs.declared.Ledger.{Ledger}
 use Rattle.ledger.specs.declared.Listing.{Listing}
 
 -- ---- the tests decide the rule
-module _ (s : Settings) (votes : List Votes) (job : ℕ → Job) (booked : ℕ) where
+module _ (s : Settings) (signers : ℕ → ℕ) (job : ℕ → Job) (booked : ℕ) where
   -- a certified rival of i other than k
   abbrev Excuse : ℕ → ℕ → ℕ → Type 0
-  Excuse i k m = (m ≢ k) × ((thresholdOf s ≤ ones (recordedFor votes m)) × Rivals job i m)
+  Excuse i k m = (m ≢ k) × ((thresholdOf s ≤ ones (signers m)) × Rivals job i m)
 
   abbrev Excused : ℕ → ℕ → Type 0
   Excused i k = Some booked (Excuse i k)
 
-  reflect-excused : (i k : ℕ) → Reflects (isExcused s votes job booked i k) (Excused i k)
+  reflect-excused : (i k : ℕ) → Reflects (isExcused s signers job booked i k) (Excused i k)
   unfolding isExcused excuses isCertified
   reflect-excused i k =
       reflect-any _ (λ m h. reflect-and (reflect-not (reflect-eq m k))
-      (reflect-and (reflect-le (thresholdOf s) (ones (recordedFor votes m))) (reflect-rival job i m)))
+      (reflect-and (reflect-le (thresholdOf s) (ones (signers m))) (reflect-rival job i m)))
 
   -- it is outside the pair, since no job is its own rival
-  beyond : (i k : ℕ) (x : Excused i k) → Outside s votes job booked i k (x .which)
+  beyond : (i k : ℕ) (x : Excused i k) → Outside s signers job booked i k (x .which)
   beyond i k x = record { known = x .below; not-first = λ e. x .has .1 .1 .different (sym e); not-second = x .has .0; certified = x .has .1 .0 }
 
   -- in either order
-  pub flipped : (i k m : ℕ) → Outside s votes job booked i k m → Outside s votes job booked k i m
+  pub flipped : (i k m : ℕ) → Outside s signers job booked i k m → Outside s signers job booked k i m
   flipped i k m o = record { known = o .known; not-first = o .not-second; not-second = o .not-first; certified = o .certified }
 
-  pub reflect-unexcused : (i k : ℕ) → Reflects (isUnexcused s votes job booked i k) (Rivals job i k × Unexcused s votes job booked i k)
+  pub reflect-unexcused : (i k : ℕ) → Reflects (isUnexcused s signers job booked i k) (Rivals job i k × Unexcused s signers job booked i k)
   unfolding isUnexcused
   reflect-unexcused i k =
       reflect-as (reflect-and (reflect-rival job i k) (reflect-and (reflect-not (reflect-excused i k)) (reflect-not (reflect-excused k i))))
@@ -89,12 +87,12 @@ module _ (s : Settings) (votes : List Votes) (job : ℕ → Job) (booked : ℕ) 
         ),
       ))
 
-  pub reflect-equivocating : (v : ℕ) → Reflects (isEquivocating s votes job booked v) (Equivocates s votes job booked v)
+  pub reflect-equivocating : (v : ℕ) → Reflects (isEquivocating s signers job booked v) (Equivocates s signers job booked v)
   unfolding isEquivocating signedBoth
   reflect-equivocating v =
       reflect-as
-      (reflect-any booked (λ i _. reflect-any booked (λ k _. reflect-and (reflect-true (hasBit (recordedFor votes i) v))
-      (reflect-and (reflect-true (hasBit (recordedFor votes k) v)) (reflect-unexcused i k)))))
+      (reflect-any booked (λ i _. reflect-any booked (λ k _. reflect-and (reflect-true (hasBit (signers i) v))
+      (reflect-and (reflect-true (hasBit (signers k) v)) (reflect-unexcused i k)))))
       (λ x. let y = x .has in record {
         first = x .which;
         second = y .which;
@@ -112,20 +110,20 @@ module _ (s : Settings) (votes : List Votes) (job : ℕ → Job) (booked : ℕ) 
       })
 
   -- the set has the vaults below n that the rule names
-  pub reflect-listed : s .n ≤ 16 → (v : ℕ) → Reflects (jobHas (equivocators s votes job booked) v) ((v < s .n) × Equivocates s votes job booked v)
+  pub reflect-listed : s .n ≤ 16 → (v : ℕ) → Reflects (jobHas (equivocators s signers job booked) v) ((v < s .n) × Equivocates s signers job booked v)
   unfolding equivocators
   reflect-listed few v = record {
-    sound = λ e. both .sound (sym (has-jobs-below (s .n) (isEquivocating s votes job booked) v (job-below _ v e)) ∙ e);
-    complete = λ h. has-jobs-below (s .n) (isEquivocating s votes job booked) v (omega (arith, h .0)) ∙ both .complete h;
+    sound = λ e. both .sound (sym (has-jobs-below (s .n) (isEquivocating s signers job booked) v (job-below _ v e)) ∙ e);
+    complete = λ h. has-jobs-below (s .n) (isEquivocating s signers job booked) v (omega (arith, h .0)) ∙ both .complete h;
   }
     where
-      both : Reflects (ltb v (s .n) && isEquivocating s votes job booked v) ((v < s .n) × Equivocates s votes job booked v)
+      both : Reflects (ltb v (s .n) && isEquivocating s signers job booked v) ((v < s .n) × Equivocates s signers job booked v)
       both = reflect-and (reflect-lt v (s .n)) (reflect-equivocating v)
 
 -- ---- what each answer means
 module _ (l : Ledger) (journal : List ℕ) where
   abbrev found : JobSet
-  found = equivocators (l .settings) (l .votes) (jobAt (versionOf l) journal (l .booked)) (l .booked)
+  found = equivocators (l .settings) (signersOf l) (jobAt (versionOf l) journal (l .booked)) (l .booked)
 
   abbrev sane? : Reflects (isSane l) (Sane l)
   sane? = reflect-sane l
@@ -147,7 +145,7 @@ module _ (l : Ledger) (journal : List ℕ) where
       by true p false q = short (p .sound refl) (refuted q refl)
       by true p true q =
           let h = p .sound refl in
-          listed found h (q .sound refl) found-words (reflect-listed (l .settings) (l .votes) (jobAt (versionOf l) journal (l .booked)) (l .booked) (h .lawful .vaults))
+          listed found h (q .sound refl) found-words (reflect-listed (l .settings) (signersOf l) (jobAt (versionOf l) journal (l .booked)) (l .booked) (h .lawful .vaults))
 
   means : (r : Listing) → Answers l journal r → r ≡ equivocatorsOf l journal
   unfolding equivocatorsOf wholeGate
@@ -156,7 +154,7 @@ module _ (l : Ledger) (journal : List ℕ) where
   means r (listed vaults h w fits named) =
       simp (sane? .complete h, whole? .complete w) (ap listing (jobs-same vaults found fits found-words
       (λ v _. reflects-same (named v)
-      (reflect-listed (l .settings) (l .votes) (jobAt (versionOf l) journal (l .booked)) (l .booked) (h .lawful .vaults) v))))
+      (reflect-listed (l .settings) (signersOf l) (jobAt (versionOf l) journal (l .booked)) (l .booked) (h .lawful .vaults) v))))
 
 pub lists-exactly : ListsExactly
 lists-exactly l journal = (answers l journal, means l journal)

@@ -20,10 +20,10 @@ use Rattle.ledger.proofs.Rivals.{apart-peaceful, rival-sym}
 use Rattle.ledger.proofs.Safety.{Superseded}
 use Rattle.ledger.proofs.Views.{heldAt, recordedAt, signedAt, votedAt}
 use Rattle.ledger.specs.Demand3.{Correct, bookedJob}
-use Rattle.ledger.specs.Equivocation.{Equivocates, Outside, recordedFor}
+use Rattle.ledger.specs.Equivocation.{Equivocates, Outside}
 use Rattle.ledger.specs.Equivocators.{Answers, CorrectNeverNamed, Unnamed, insane, listed, short}
 use Rattle.ledger.specs.Register.{Register, newRegister, tabled}
-use Rattle.ledger.specs.State.{versionOf, votesIn}
+use Rattle.ledger.specs.State.{signersOf, versionOf}
 use Rattle.ledger.specs.Worlds.{World, lend, start}
 use Rattle.ledger.specs.declared.Ledger.{Ledger}
 use Rattle.ledger.specs.declared.Listing.{Listing}
@@ -35,8 +35,8 @@ module _ {w : World} {r : Register} (i : Inv w r) (v : ℕ) (c : Correct (w .led
   abbrev jobs : ℕ → Job
   jobs = tabled (r .table)
 
-  recorded-is : (k : ℕ) → hasBit (recordedFor (l .votes) k) v ≡ recordedAt l v k
-  unfolding recordedFor votedAt votesIn
+  recorded-is : (k : ℕ) → hasBit (signersOf l k) v ≡ recordedAt l v k
+  unfolding votedAt
   recorded-is k = refl
 
   -- the job that the vault holds instead is a rival, and certified; the vault never signed it, so it is not the other of the pair
@@ -44,8 +44,7 @@ module _ {w : World} {r : Register} (i : Inv w r) (v : ℕ) (c : Correct (w .led
     instead : Rivals jobs a (lost .rival)
     instead = let r = rival-sym (lost .is) in record { different = r .other; shares = reflect-conflicting _ _ .sound (r .conflicts) }
 
-    outside : Outside (l .settings) (l .votes) jobs (l .booked) a k (lost .rival)
-    unfolding recordedFor votesIn
+    outside : Outside (l .settings) (signersOf l) jobs (l .booked) a k (lost .rival)
     outside = record {
       known = i .safe .booked-held v (lost .rival) (lost .holds);
       not-first = lost .is .other;
@@ -53,7 +52,7 @@ module _ {w : World} {r : Register} (i : Inv w r) (v : ℕ) (c : Correct (w .led
       certified = i .safe .certified v (lost .rival) (lost .holds);
     }
 
-  never : Equivocates (l .settings) (l .votes) jobs (l .booked) v → ⊥
+  never : Equivocates (l .settings) (signersOf l) jobs (l .booked) v → ⊥
   never e =
       let a = e .first in
       let k = e .second in
@@ -64,7 +63,7 @@ module _ {w : World} {r : Register} (i : Inv w r) (v : ℕ) (c : Correct (w .led
       (λ sk. apart-peaceful (i .safe .apart v a k sa sk (e .rivals .different)) (reflect-conflicting (jobs a) (jobs k) .complete (e .rivals .shares)))
       (λ nk.
       let lost = i .safe .released v k c tk nk in
-      e .unexcused (lost .rival) (flipped (l .settings) (l .votes) jobs (l .booked) k a (lost .rival) (outside k a lost ta)) .1 (instead k a lost ta)))
+      e .unexcused (lost .rival) (flipped (l .settings) (signersOf l) jobs (l .booked) k a (lost .rival) (outside k a lost ta)) .1 (instead k a lost ta)))
       (λ na.
       let lost = i .safe .released v a c ta na in
       e .unexcused (lost .rival) (outside a k lost tk) .0 (instead a k lost tk))
@@ -72,14 +71,14 @@ module _ {w : World} {r : Register} (i : Inv w r) (v : ℕ) (c : Correct (w .led
   pub unnamed : Unnamed w v
   unnamed = record { rule = rule; unlisted = λ size beyond. not-true-false _ (λ e. hidden size beyond (answers l (lend (w .booked) size beyond)) e) }
     where
-      rule : Equivocates (l .settings) (l .votes) (bookedJob w) (l .booked) v → ⊥
-      rule e = never (subst (λ (t : List (List ℕ)). Equivocates (l .settings) (l .votes) (tabled t) (l .booked) v) (sym (i .table)) e)
+      rule : Equivocates (l .settings) (signersOf l) (bookedJob w) (l .booked) v → ⊥
+      rule e = never (subst (λ (t : List (List ℕ)). Equivocates (l .settings) (signersOf l) (tabled t) (l .booked) v) (sym (i .table)) e)
 
       hidden : (size : ℕ) (beyond : List ℕ) {r : Listing} → Answers l (lend (w .booked) size beyond) r → jobHas (r .members) v ≡ true → ⊥
       hidden size beyond (insane n) e = true≢false (sym e ∙ has-no-jobs v)
       hidden size beyond (short h n) e = true≢false (sym e ∙ has-no-jobs v)
       hidden size beyond (listed vaults h whole fits named) e =
-          rule (subst (λ (job : ℕ → Job). Equivocates (l .settings) (l .votes) job (l .booked) v)
+          rule (subst (λ (job : ℕ → Job). Equivocates (l .settings) (signersOf l) job (l .booked) v)
           (jobs-read (versionOf l) (l .booked) size (w .booked) beyond (i .shape .records) whole) (named v .sound e .1))
 
 pub correct-never-named : CorrectNeverNamed

@@ -1,13 +1,11 @@
 -- Which vaults equivocate (document 02, M-113; its word is two-faced): "each vault whose recorded signatures include two rival jobs neither of which has a
 -- certified rival outside that pair". "The outside clause is there because a sound vault that released a superseded job may sign again for the tapes it freed."
 use mathlib.Core.Bool.{Bool, _&&_, not, true}
-use mathlib.Core.List.{List}
 use mathlib.Core.Logic.{_≢_}
 use mathlib.Core.Path.{_≡_}
 use Prim.Native.Nat.{_<_, _≤_, ℕ}
 use lib.Count.{ones}
 use lib.Dec.{eqb, leb}
-use lib.ListN.{getD}
 use Rattle.base.specs.Search.{anyBelow}
 use Rattle.conflicts.specs.Conflicts.{isRival}
 use Rattle.conflicts.specs.Meaning.{Rivals}
@@ -17,22 +15,16 @@ use Rattle.record.specs.declared.Job.{Job}
 use Rattle.sets.specs.Bits.{hasBit}
 use Rattle.sets.specs.Jobs.{jobsBelow}
 use Rattle.sets.specs.declared.job_set.JobSet.{JobSet}
-use Rattle.vaults.specs.Votes.{noVotes}
-use Rattle.vaults.specs.declared.Votes.{Votes}
 
--- the vaults whose signature of the job is recorded
-unfoldable pub recordedFor : List Votes → ℕ → ℕ
-recordedFor votes k = getD votes k noVotes .signatures
+-- "A job is certified with n − b signatures": of the vaults whose signature of it is recorded
+unfoldable pub isCertified : Settings → (ℕ → ℕ) → ℕ → Bool
+isCertified s signers k = leb (thresholdOf s) (ones (signers k))
 
--- ---- the rule, as it is tested: over the settings, the recorded votes and the booked jobs
-module _ (s : Settings) (votes : List Votes) (job : ℕ → Job) (booked : ℕ) where
-  -- "A job is certified with n − b signatures"
-  unfoldable pub isCertified : ℕ → Bool
-  isCertified k = leb (thresholdOf s) (ones (recordedFor votes k))
-
+-- ---- the rule, as it is tested: over the settings, the recorded signatures and the booked jobs
+module _ (s : Settings) (signers : ℕ → ℕ) (job : ℕ → Job) (booked : ℕ) where
   -- m is a certified rival of i, and not k
   unfoldable pub excuses : ℕ → ℕ → ℕ → Bool
-  excuses i k m = not (eqb m k) && (isCertified m && isRival job i m)
+  excuses i k m = not (eqb m k) && (isCertified s signers m && isRival job i m)
 
   -- i has a certified rival other than k
   unfoldable pub isExcused : ℕ → ℕ → Bool
@@ -44,7 +36,7 @@ module _ (s : Settings) (votes : List Votes) (job : ℕ → Job) (booked : ℕ) 
 
   -- the vault's recorded signatures include both
   unfoldable pub signedBoth : ℕ → ℕ → ℕ → Bool
-  signedBoth v i k = hasBit (recordedFor votes i) v && (hasBit (recordedFor votes k) v && isUnexcused i k)
+  signedBoth v i k = hasBit (signers i) v && (hasBit (signers k) v && isUnexcused i k)
 
   unfoldable pub isEquivocating : ℕ → Bool
   isEquivocating v = anyBelow booked (λ i. anyBelow booked (signedBoth v i))
@@ -60,7 +52,7 @@ module _ (s : Settings) (votes : List Votes) (job : ℕ → Job) (booked : ℕ) 
     pub known : m < booked
     pub not-first : m ≢ i
     pub not-second : m ≢ k
-    pub certified : thresholdOf s ≤ ones (recordedFor votes m)
+    pub certified : thresholdOf s ≤ ones (signers m)
 
   -- none of them is a rival of either
   abbrev pub Unexcused : ℕ → ℕ → Type 0
@@ -71,7 +63,7 @@ module _ (s : Settings) (votes : List Votes) (job : ℕ → Job) (booked : ℕ) 
     pub second : ℕ
     pub first-known : first < booked
     pub second-known : second < booked
-    pub first-signed : hasBit (recordedFor votes first) v ≡ true
-    pub second-signed : hasBit (recordedFor votes second) v ≡ true
+    pub first-signed : hasBit (signers first) v ≡ true
+    pub second-signed : hasBit (signers second) v ≡ true
     pub rivals : Rivals job first second
     pub unexcused : Unexcused first second

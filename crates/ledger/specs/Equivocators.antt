@@ -16,7 +16,7 @@ use Rattle.ledger.specs.Decisions.{listing, unlisted}
 use Rattle.ledger.specs.Demand3.{Correct, bookedJob}
 use Rattle.ledger.specs.Equivocation.{Equivocates}
 use Rattle.ledger.specs.Meaning.{Sane}
-use Rattle.ledger.specs.State.{versionOf}
+use Rattle.ledger.specs.State.{signersOf, versionOf}
 use Rattle.ledger.specs.Steps.{equivocatorsOf}
 use Rattle.ledger.specs.Worlds.{Event, World, afterAll, lend, start}
 use Rattle.ledger.specs.declared.Ledger.{Ledger}
@@ -28,7 +28,7 @@ Whole l journal = placeOf (versionOf l) (l .booked) ≤ length journal
 
 -- the rule names the vault
 abbrev pub Named : Ledger → List ℕ → ℕ → Type 0
-Named l journal v = (v < l .settings .n) × Equivocates (l .settings) (l .votes) (jobAt (versionOf l) journal (l .booked)) (l .booked) v
+Named l journal v = (v < l .settings .n) × Equivocates (l .settings) (signersOf l) (jobAt (versionOf l) journal (l .booked)) (l .booked) v
 
 -- what each answer means, of any ledger and any lent journal
 pub data Answers (l : Ledger) (journal : List ℕ) : Listing → Type 0 where
@@ -44,7 +44,7 @@ ListsExactly = (l : Ledger) (journal : List ℕ) → Answers l journal (equivoca
 
 -- the rule does not name the vault, and whatever journal is lent it is not listed
 pub record Unnamed (w : World) (v : ℕ) : Type 0 where
-  pub rule : Equivocates (w .ledger .settings) (w .ledger .votes) (bookedJob w) (w .ledger .booked) v → ⊥
+  pub rule : Equivocates (w .ledger .settings) (signersOf (w .ledger)) (bookedJob w) (w .ledger .booked) v → ⊥
   pub unlisted : (size : ℕ) (beyond : List ℕ) → jobHas (equivocatorsOf (w .ledger) (lend (w .booked) size beyond) .members) v ≡ false
 
 -- wherever a list of steps has led

@@ -119,7 +119,7 @@ releaseDecision l journal v job rival =
 -- kind 13: "4"; the vaults that equivocate
 unfoldable pub equivocatorsOf : Ledger → List ℕ → Listing
 equivocatorsOf l journal =
-    gatedListing (wholeGate l journal) (listing (equivocators (l .settings) (l .votes) (jobAt (versionOf l) journal (l .booked)) (l .booked)))
+    gatedListing (wholeGate l journal) (listing (equivocators (l .settings) (signersOf l) (jobAt (versionOf l) journal (l .booked)) (l .booked)))
 
 unfoldable pub equivocatorsDecision : Ledger → List ℕ → Decision
 equivocatorsDecision l journal = record { outcome = equivocatorsOf l journal .outcome; change = Nothing }
