@@ -3,6 +3,7 @@
 //! State is changed in place, sets are bits, and what the checks ask is kept in an index as records are booked, so that no
 //! step scans the journal.
 mod draw;
+mod equivocation;
 mod federation;
 mod index;
 mod ledger;
@@ -28,6 +29,13 @@ pub fn run(input: &[u8], out: &mut Vec<u8>) {
 fn take_steps<'a>(mut ledger: Ledger<'a>, mut rest: &'a [u8], out: &mut Vec<u8>) {
     let mut lines = Lines::new(out, rest.len());
     while !rest.is_empty() {
+        if let [kind::EQUIVOCATING, ref after @ ..] = *rest {
+            let (answer, vaults) = ledger.equivocating();
+            lines.put(answer);
+            lines.list(vaults);
+            rest = after;
+            continue;
+        }
         match step(&mut ledger, rest) {
             Some((answer, after)) => {
                 lines.put(answer);

@@ -1,6 +1,8 @@
 //! The ledger: the book, the vaults, signatures, acknowledgements and the
 //! arrival order, and what each kind of step does to them.
 
+mod equivocation;
+
 use crate::draw::thousandths;
 use crate::record::{check, Bytes, Kind, Record};
 use crate::refusal::{first_offender, plain, Answer, Refusal};
@@ -29,6 +31,10 @@ pub struct Engine {
     next: usize,
     /// The jobs that this round of the snapshot has seen.
     seen: BTreeSet<usize>,
+    /// What the last step lists, ascending.
+    pub listed: Vec<usize>,
+    /// The vaults that kind 13 named, where the last step asked for them.
+    named: Option<Vec<u64>>,
 }
 
 impl Engine {
@@ -43,10 +49,16 @@ impl Engine {
             generations: Vec::new(),
             next: 0,
             seen: BTreeSet::new(),
+            listed: Vec::new(),
+            named: None,
         }
     }
 
     pub fn take(&mut self, step: &Step) -> Answer {
+        self.listed.clear();
+        if *step != Step::Equivocating {
+            self.named = None;
+        }
         match step {
             Step::Propose { record } => self.propose(record),
             Step::Preflight { vault, job } => self.preflight(*vault, *job),
@@ -62,6 +74,7 @@ impl Engine {
             Step::Generations { job } => self.generations(*job),
             Step::Snapshot => self.snapshot(),
             Step::Release { vault, job, rival } => self.release(*vault, *job, *rival),
+            Step::Equivocating => self.equivocating(),
         }
     }
 

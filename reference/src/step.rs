@@ -13,10 +13,11 @@ pub mod kind {
     pub const GENERATIONS: u8 = 8;
     pub const SNAPSHOT: u8 = 9;
     pub const RELEASE: u8 = 10;
+    pub const EQUIVOCATING: u8 = 13;
 }
 
 /// Every kind and the length of its body in a version 1 file.
-pub const KINDS: [(u8, usize); 10] = [
+pub const KINDS: [(u8, usize); 11] = [
     (kind::PROPOSE, RECORD_BYTES),
     (kind::PREFLIGHT, 2),
     (kind::COMMIT, 4),
@@ -27,6 +28,7 @@ pub const KINDS: [(u8, usize); 10] = [
     (kind::GENERATIONS, 1),
     (kind::SNAPSHOT, 0),
     (kind::RELEASE, 3),
+    (kind::EQUIVOCATING, 0),
 ];
 
 #[derive(Clone, PartialEq, Eq, Debug)]
@@ -68,6 +70,8 @@ pub enum Step {
         job: u8,
         rival: u8,
     },
+    /// "Naming a two-faced vault."
+    Equivocating,
 }
 
 /// The length of a step, kind and body, or nothing if the kind is unknown.
@@ -110,6 +114,7 @@ fn read_body(kind: u8, body: &[u8]) -> Step {
         (kind::GENERATIONS, &[job]) => Step::Generations { job },
         (kind::SNAPSHOT, &[]) => Step::Snapshot,
         (kind::RELEASE, &[vault, job, rival]) => Step::Release { vault, job, rival },
+        (kind::EQUIVOCATING, &[]) => Step::Equivocating,
         _ => unreachable!("kind {kind} has another length in the table"),
     }
 }
@@ -134,6 +139,7 @@ impl Step {
             Step::Generations { .. } => kind::GENERATIONS,
             Step::Snapshot => kind::SNAPSHOT,
             Step::Release { .. } => kind::RELEASE,
+            Step::Equivocating => kind::EQUIVOCATING,
         }
     }
 
@@ -160,7 +166,7 @@ impl Step {
             }
             Step::Show { job } | Step::Generations { job } => bytes.push(*job),
             Step::Draw { u } => bytes.push(*u),
-            Step::Snapshot => {}
+            Step::Snapshot | Step::Equivocating => {}
             Step::Release { vault, job, rival } => bytes.extend([*vault, *job, *rival]),
         }
         bytes

@@ -1,5 +1,6 @@
 //! The vaults and the booked jobs, and the steps upon them.
 use super::draw;
+use super::equivocation::{equivocators, Signed};
 use super::federation::Federation;
 use super::index::{Index, Jobs, Tapes};
 use super::record::{self, Record};
@@ -54,6 +55,8 @@ pub struct Ledger<'a> {
     /// The vault that a snapshot visits next, and the jobs that its round has seen.
     next: u8,
     seen: Jobs,
+    /// The vaults that equivocate, where no signature has come since they were found.
+    named: Option<u16>,
 }
 
 impl<'a> Ledger<'a> {
@@ -67,6 +70,7 @@ impl<'a> Ledger<'a> {
             repeats: Repeats::new(),
             next: 0,
             seen: 0,
+            named: None,
         }
     }
 
@@ -113,6 +117,7 @@ impl<'a> Ledger<'a> {
             }
             state.signed |= bit;
             booked.signatures.add(vault);
+            self.named = None;
         }
         Answer::done(booked.signatures.count.into())
     }
@@ -156,7 +161,11 @@ impl<'a> Ledger<'a> {
             return refusal;
         }
         let signatures = &mut self.jobs[usize::from(job)].signatures;
+        let before = signatures.count;
         signatures.add(vault);
+        if signatures.count != before {
+            self.named = None;
+        }
         Answer::done(signatures.count.into())
     }
 
@@ -235,6 +244,28 @@ impl<'a> Ledger<'a> {
         }
         state.signed &= !bit;
         Answer::done(booked.signatures.count.into())
+    }
+
+    /// The vaults that equivocate, and how many they are.
+    #[inline]
+    pub fn equivocating(&mut self) -> (Answer, Jobs) {
+        let vaults = match self.named {
+            Some(vaults) => vaults,
+            None => self.equivocators(),
+        };
+        self.named = Some(vaults);
+        (Answer::done(vaults.count_ones() as u16), Jobs::from(vaults))
+    }
+
+    fn equivocators(&self) -> u16 {
+        let threshold = self.federation.threshold();
+        let signed = |(k, booked): (usize, &Booked)| Signed {
+            rivals: self.index.rivals(&booked.tapes) & !(1 << k),
+            signers: booked.signatures.vaults,
+            certified: booked.signatures.count >= threshold,
+        };
+        let jobs: Vec<Signed> = self.jobs.iter().enumerate().map(signed).collect();
+        equivocators(&jobs)
     }
 
     /// Checks 3, 5 and 4, of a step that is for faulty vaults or for correct ones.

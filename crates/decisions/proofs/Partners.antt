@@ -15,7 +15,11 @@ use Rattle.conflicts.proofs.Meaning.{reflect-rival, rivals-sym}
 use Rattle.conflicts.specs.Conflicts.{isRival}
 use Rattle.federation.specs.declared.Settings.{Settings}
 use Rattle.index.specs.Rivals.{rivalsOf}
+use Rattle.ledger.specs.Decisions.{listing}
 use Rattle.ledger.specs.Equivocation.{equivocators, excuses, isCertified, isEquivocating, isExcused, isUnexcused, signedBoth}
+use Rattle.ledger.specs.State.{signersOf, votesIn}
+use Rattle.ledger.specs.declared.Ledger.{Ledger}
+use Rattle.ledger.specs.declared.Listing.{Listing}
 use Rattle.record.specs.declared.Job.{Job}
 use Rattle.sets.proofs.Bits.{has-common, has-none, has-union}
 use Rattle.sets.proofs.Few.{jobs-below-same, none-count, none-of, one-member, one-of}
@@ -23,7 +27,7 @@ use Rattle.sets.proofs.Jobs.{common-words, has-jobs-below, has-no-jobs, job-bel
 use Rattle.sets.specs.Bits.{hasBit}
 use Rattle.sets.specs.Jobs.{InWords, jobCount, jobHas, jobsBelow, jobsCommon, noJobs}
 use Rattle.sets.specs.declared.job_set.JobSet.{JobSet}
-use Rattle.decisions.specs.Partners.{certifiedJobs, hasFew, jobsWithFew, partnersBy, signedPairs, signersAmong}
+use Rattle.decisions.specs.Partners.{certifiedJobs, hasFew, jobsWithFew, partnersBy, recordedIn, signedPairs, signersAmong}
 
 module _ (s : Settings) (signers : ℕ → ℕ) (job : ℕ → Job) (booked : ℕ) (few : booked ≤ 128) where
   abbrev certified : JobSet
@@ -271,3 +275,13 @@ module _ (s : Settings) (signers : ℕ → ℕ) (job : ℕ → Job) (booked : �
       → o ≡ jobsWithFew c job booked 1 → all ≡ signedPairs signers job booked c n o booked → r ≡ jobsBelow (s .n) (hasBit all)
       → r ≡ equivocators s signers job booked
   equivocators-found c n o all r ec en eo ea er = er ∙ rw (ea, en, eo, ec) equivocators-are
+
+-- ---- of a ledger
+recorded-signers : (l : Ledger) → recordedIn (l .votes) ≡ signersOf l
+unfolding recordedIn votesIn
+recorded-signers l = refl
+
+pub listed-by : (l : Ledger) (job : ℕ → Job) (found : JobSet) (r : Listing) → found ≡ equivocators (l .settings) (recordedIn (l .votes)) job (l .booked)
+    → r ≡ listing found → r ≡ listing (equivocators (l .settings) (signersOf l) job (l .booked))
+listed-by l job found r e h =
+    h ∙ ap listing (e ∙ ap (λ (f : ℕ → ℕ). equivocators (l .settings) f job (l .booked)) (recorded-signers l))

@@ -9,6 +9,7 @@ ghost use Rattle.journal.specs.Journal.{recordAt};
 ghost use Rattle.ledger.specs.State.{versionOf};
 ghost use Rattle.ledger.specs.Steps.{
   commitOf,
+  equivocatorsOf,
   faultyVoteOf,
   generationsOf,
   journalAfter,
@@ -19,6 +20,7 @@ ghost use Rattle.ledger.specs.Steps.{
   snapshotOf,
 };
 use ledger::Ledger;
+use ledger::Listing;
 use ledger::Reply;
 use outcome::Outcome;
 use outcome::Refusal;
@@ -196,5 +198,20 @@ pub fn release(ledger: Ledger, journal: &[u8], vault: u8, job: u8, rival: u8) ->
             gates::carry(ledger, decision, vault, job)
         }
         Verdict::Fail(why) => gates::turn_back(ledger, why),
+    }
+}
+
+// Kind 13: the vaults that signed for two rivals of which nothing outside the pair excuses either, document 02's two-faced ones. Nothing changes.
+pub fn equivocating(ledger: Ledger, journal: &[u8]) -> Listing
+    ensures { λ r. ⌜ r ≡ equivocatorsOf ledger (now (journal .entry)) ⌝ }
+{
+    let gate = gates::whole_gate(ledger, journal);
+    match gate {
+        Verdict::Pass => {
+            let settings = ledger.settings;
+            let votes = ledger.votes;
+            decisions::list(indexed::equivocating(settings, votes, journal, ledger.booked))
+        }
+        Verdict::Fail(why) => decisions::unlist(why),
     }
 }

@@ -20,10 +20,10 @@ impl JobSet {
     pub fn is_empty(self) -> bool
         ensures { λ r. ⌜ r ≡ isEmpty self ⌝ }
     {
-        if self.low == 0 {
-            return self.high == 0;
+        if self.low != 0 {
+            return false;
         }
-        false
+        self.high == 0
     }
 
     // Whether the job is a member.

@@ -1,6 +1,7 @@
 //! Jobs that can't both be done, and faulty vaults that sign them all.
 
 use super::build::Builder;
+use super::equivocation::sign_for_rivals;
 use super::records::*;
 use super::releases::{outvote, release_around};
 use super::traffic::{look_at_all, odd_commit, repeat};
@@ -186,6 +187,7 @@ fn contest(builder: &mut Builder, rivals: &[Bytes]) {
     if builder.random.chance(30) {
         outvote(builder, &jobs);
         release_around(builder, &jobs);
+        sign_for_rivals(builder, &jobs);
         return settle(builder, &jobs);
     }
     let first = jobs[0];
@@ -208,6 +210,7 @@ fn contest(builder: &mut Builder, rivals: &[Bytes]) {
         }
     }
     hopeful_commits(builder, &jobs, &asked);
+    sign_for_rivals(builder, &jobs);
     settle(builder, &jobs);
 }
 

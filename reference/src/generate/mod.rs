@@ -7,6 +7,7 @@ mod chains;
 mod conflicts;
 mod damage;
 mod edges;
+mod equivocation;
 mod orphans;
 mod records;
 mod releases;
