@@ -1,15 +1,14 @@
--- The sets of kind 13 name the vaults that the rule names. To a rival k of i, that i has no certified rival but k is that i has none, where k is not certified, and
--- at most one, where it is. So which rivals make an unexcused pair with i follows from how many certified rivals each has.
+-- The sets of kind 13 name the vaults that the rule names. For a rival k of i, that i has no certified rival but k means that i has none, where k is not
+-- certified, and at most one, where it is. So which rivals make an unexcused pair with i follows from how many certified rivals each has.
 use mathlib.Core.Bool.{Bool, _&&_, _||_, cond, false, not, true, true≢false}
-use mathlib.Core.List.{List}
 use mathlib.Core.Path.{_∙_, _≡_, ap, ap₂, refl, sym}
 use Prim.Native.Nat.{_<_, _≤_, suc, zero, ℕ}
 use native.Mathlib.Omega.{arith}
 use lib.Bits.{bitAnd, bitOr}
-use lib.Dec.{eqb, leb, ltb}
-use borrow.Author.Tests.{eqb-false, eqb-true, le-leb, leb-true, lt-ltb, ltb-false, ltb-true}
-use Rattle.base.proofs.Reflect.{and-true, by-cases, by-test, not-true-false, reflect-le, refutes}
-use Rattle.base.proofs.Search.{any-and, any-elim, any-intro, any-none, any-same}
+use lib.Dec.{eqb, ltb}
+use borrow.Author.Tests.{eqb-false, eqb-true, le-leb, leb-true, lt-ltb, ltb-true}
+use Rattle.base.proofs.Reflect.{and-true, by-cases, by-test, not-true-false}
+use Rattle.base.proofs.Search.{any-and, any-elim, any-intro, any-same}
 use Rattle.base.specs.Search.{anyBelow}
 use Rattle.conflicts.proofs.Meaning.{reflect-rival, rivals-sym}
 use Rattle.conflicts.specs.Conflicts.{isRival}
@@ -215,7 +214,8 @@ module _ (s : Settings) (signers : ℕ → ℕ) (job : ℕ → Job) (booked : �
   partners-are : (i : ℕ) → i < booked → partnersBy (rivalsOf job booked i) certified none one i ≡ partnersOf i
   unfolding rivalsOf
   partners-are i li =
-      jobs-same _ _ (partners-words (rivalsOf job booked i) certified none one i certified-words (few-words 0) (few-words 1)) (jobs-below-words booked _) (λ k l.
+      let words = partners-words (rivalsOf job booked i) certified none one i certified-words (few-words 0) (few-words 1) in
+      jobs-same _ _ words (jobs-below-words booked _) (λ k l.
       by-test (ltb k booked)
       (λ e. let lk = ltb-true k booked e in partners-has i k li lk ∙ sym (below (isUnexcused s signers job booked i) k lk))
       (λ e.

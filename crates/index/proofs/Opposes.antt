@@ -8,18 +8,17 @@ use native.Mathlib.Numerals.{add-one}
 use native.Mathlib.Omega.{arith}
 use lib.Dec.{eqb, ltb}
 use borrow.Author.Tests.{eqb-false, eqb-true}
-use Rattle.base.proofs.Reflect.{and-false, by-cases, by-test}
+use Rattle.base.proofs.Reflect.{and-false, by-cases}
 use Rattle.base.proofs.Search.{any-and, any-same}
 use Rattle.base.specs.Search.{anyBelow}
 use Rattle.codec.specs.Codec.{jobOf}
 use Rattle.conflicts.specs.Conflicts.{conflicting, isRival, sharesAt, sharesIn}
-use Rattle.record.specs.Entries.{labelOf}
 use Rattle.record.specs.declared.Job.{Job}
 use Rattle.sets.proofs.Jobs.{has-jobs-below, has-no-jobs, job-union-has, job-without-other, job-without-same, jobs-below-words, jobs-same, no-jobs-words}
 use Rattle.sets.specs.Jobs.{InWords, jobHas, jobUnion, jobWithout, noJobs}
 use Rattle.sets.specs.declared.job_set.JobSet.{JobSet}
 use Rattle.journal.specs.Journal.{capacity, jobAt, recordAt}
-use Rattle.index.proofs.Admits.{used-input, used-output, where-used}
+use Rattle.index.proofs.Admits.{used-input, used-output}
 use Rattle.index.proofs.Meets.{label-has}
 use Rattle.index.proofs.Tables.{indexed-booked}
 use Rattle.index.specs.Checks.{setOf}
@@ -83,7 +82,9 @@ module _ (job : ℕ → Job) (n : ℕ) (few : n ≤ capacity) (numbers sets : Li
 
   conflicts-has : jobHas (jobUnion readers writers) j ≡ (ltb j n && conflicting (job k) (job j))
   unfolding conflicting
-  conflicts-has = job-union-has readers writers j ∙ (ap₂ _||_ readers-has writers-has ∙ either (ltb j n) (sharesIn 0 (job k) (job j)) (sharesIn 4 (job k) (job j)))
+  conflicts-has =
+      job-union-has readers writers j
+      ∙ (ap₂ _||_ readers-has writers-has ∙ either (ltb j n) (sharesIn 0 (job k) (job j)) (sharesIn 4 (job k) (job j)))
 
   rivals-has : jobHas (rivalsBy numbers sets (job k .inputs) (job k .outputs) k) j ≡ (ltb j n && isRival job k j)
   unfolding rivalsBy isRival

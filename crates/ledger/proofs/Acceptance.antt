@@ -43,7 +43,22 @@ use Rattle.ledger.specs.Graph.{Algorithm1, Lister}
 use Rattle.ledger.specs.Ready.{Spares}
 use Rattle.ledger.specs.Register.{Register, isDone}
 use Rattle.ledger.specs.State.{booking, vaultAt, versionOf, visited, voted, votesIn, withVault}
-use Rattle.ledger.specs.Worlds.{Event, Request, World, after, commit, equivocating, faultyVote, generations, preflight, propose, release, replyTo, show, snapshot}
+use Rattle.ledger.specs.Worlds.{
+  Event,
+  Request,
+  World,
+  after,
+  commit,
+  equivocating,
+  faultyVote,
+  generations,
+  preflight,
+  propose,
+  release,
+  replyTo,
+  show,
+  snapshot,
+}
 use Rattle.federation.specs.declared.Settings.{Settings}
 use Rattle.ledger.specs.declared.Ledger.{Ledger}
 use Rattle.vaults.specs.declared.Vault.{Vault}

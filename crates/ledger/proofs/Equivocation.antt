@@ -145,7 +145,8 @@ module _ (l : Ledger) (journal : List ℕ) where
       by true p false q = short (p .sound refl) (refuted q refl)
       by true p true q =
           let h = p .sound refl in
-          listed found h (q .sound refl) found-words (reflect-listed (l .settings) (signersOf l) (jobAt (versionOf l) journal (l .booked)) (l .booked) (h .lawful .vaults))
+          let named = reflect-listed (l .settings) (signersOf l) (jobAt (versionOf l) journal (l .booked)) (l .booked) (h .lawful .vaults) in
+          listed found h (q .sound refl) found-words named
 
   means : (r : Listing) → Answers l journal r → r ≡ equivocatorsOf l journal
   unfolding equivocatorsOf wholeGate

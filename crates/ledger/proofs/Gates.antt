@@ -18,7 +18,7 @@ use Rattle.sets.specs.Bits.{hasBit}
 use Rattle.federation.proofs.Lawful.{reflect-lawful}
 use Rattle.codec.specs.Codec.{placeOf}
 use Rattle.journal.proofs.Booked.{reflect-booked, reflect-whole}
-use Rattle.journal.specs.Journal.{Booked, capacity, isWhole}
+use Rattle.journal.specs.Journal.{Booked, capacity}
 use Rattle.ledger.specs.Meaning.{Entered, Sane}
 use Rattle.ledger.specs.State.{applied, isSane, versionOf}
 use Rattle.ledger.specs.Steps.{bookedGate, carried, gateOf, turned, vaultGate, wholeGate}

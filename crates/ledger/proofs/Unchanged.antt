@@ -48,7 +48,21 @@ use Rattle.ledger.specs.Steps.{
   vaultGate,
 }
 use Rattle.vaults.specs.Vaults.{vaultPreflight}
-use Rattle.ledger.specs.Worlds.{Request, commit, decisionOf, equivocating, faultyVote, generations, leftBy, preflight, propose, release, show, snapshot, stepOf}
+use Rattle.ledger.specs.Worlds.{
+  Request,
+  commit,
+  decisionOf,
+  equivocating,
+  faultyVote,
+  generations,
+  leftBy,
+  preflight,
+  propose,
+  release,
+  show,
+  snapshot,
+  stepOf,
+}
 use Rattle.ledger.specs.declared.Change.{Change}
 use Rattle.ledger.specs.declared.Change.the-variants.{Book, Nothing}
 use Rattle.vaults.specs.declared.Consent.{Consent}

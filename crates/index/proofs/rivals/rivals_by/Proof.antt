@@ -1,8 +1,7 @@
 -- The two sides together, but the job itself.
-use mathlib.Core.Path.{_∙_, ap}
+use mathlib.Core.Path.{_∙_}
 use borrow.Author.Needs.{needs}
 use Rattle.sets.proofs.Jobs.{union-words, without-words}
-use Rattle.sets.specs.declared.job_set.JobSet.{JobSet}
 use Rattle.index.proofs.rivals.rivals_by.Statement.{statement}
 use Rattle.index.proofs.rivals.rivals_by.Tie as tie
 use Rattle.index.specs.Rivals.{rivalsBy}

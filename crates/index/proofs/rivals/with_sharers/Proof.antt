@@ -1,5 +1,4 @@
 -- What stands at the entry's number joins, where there are so many.
-use mathlib.Core.Path.{_∙_, ap, refl}
 use borrow.Author.Needs.{needs}
 use borrow.Author.Tests.{le-ltb, lt-ltb}
 use Rattle.sets.proofs.Jobs.{union-words}
