@@ -1,6 +1,8 @@
 //! The ledger: the book, the vaults, signatures, acknowledgements and the
 //! arrival order, and what each kind of step does to them.
 
+mod dependencies;
+
 use crate::draw::thousandths;
 use crate::record::{check, Bytes, Kind, Record};
 use crate::refusal::{first_offender, plain, Answer, Refusal};
@@ -29,6 +31,8 @@ pub struct Engine {
     next: usize,
     /// The jobs that this round of the snapshot has seen.
     seen: BTreeSet<usize>,
+    /// The jobs that the last step lists, ascending.
+    pub listed: Vec<usize>,
 }
 
 impl Engine {
@@ -43,10 +47,12 @@ impl Engine {
             generations: Vec::new(),
             next: 0,
             seen: BTreeSet::new(),
+            listed: Vec::new(),
         }
     }
 
     pub fn take(&mut self, step: &Step) -> Answer {
+        self.listed.clear();
         match step {
             Step::Propose { record } => self.propose(record),
             Step::Preflight { vault, job } => self.preflight(*vault, *job),
@@ -62,6 +68,7 @@ impl Engine {
             Step::Generations { job } => self.generations(*job),
             Step::Snapshot => self.snapshot(),
             Step::Release { vault, job, rival } => self.release(*vault, *job, *rival),
+            Step::Dependencies { vault, job } => self.dependencies(*vault, *job),
         }
     }
 
@@ -249,7 +256,7 @@ impl Engine {
         Ok(usize::from(job))
     }
 
-    /// Check 5 for kinds 2, 3 and 10.
+    /// Check 5 for kinds 2, 3, 10 and 11.
     fn must_be_sound(&self, vault: usize) -> Result<(), Refusal> {
         if self.settings.is_faulty(vault as u64) {
             return Err(plain(5));

@@ -121,3 +121,7 @@ pub fn release(vault: u8, job: u8, rival: u8) -> Step {
 pub fn generations(job: u8) -> Step {
     Step::Generations { job }
 }
+
+pub fn dependencies(vault: u8, job: u8) -> Step {
+    Step::Dependencies { vault, job }
+}

@@ -1,5 +1,6 @@
 // What a step decides, from the pieces that it names: the verdict of the checks before, a vault, the votes on a job. The ledger's
 // operations and the run share these functions.
+mod missing;
 mod releases;
 
 ghost use mathlib.Core.Bool.{_&&_, not};
@@ -36,6 +37,8 @@ ghost use Rattle.ledger.specs.declared.Change.the-variants.{Record};
 use federation::Settings;
 use ledger::Change;
 use ledger::Decision;
+pub use missing::dependencies;
+pub use missing::unlist;
 use outcome::Outcome;
 use outcome::Refusal;
 use outcome::Verdict;

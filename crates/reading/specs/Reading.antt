@@ -9,7 +9,7 @@ use Rattle.runfile.specs.Run.{longest}
 use Rattle.ledger.specs.Worlds.{jobIn, vaultIn}
 use Rattle.runfile.specs.Steps.{Command, bodySize, commandIn, draw, kindAt, kindOf, nextAt, request, unreadable}
 use Rattle.runfile.specs.declared.Kind.{Kind}
-use Rattle.runfile.specs.declared.Kind.the-variants.{Commit, Draw, FaultyAcknowledge, FaultySign, Generations, Preflight, Propose}
+use Rattle.runfile.specs.declared.Kind.the-variants.{Commit, Dependencies, Draw, FaultyAcknowledge, FaultySign, Generations, Preflight, Propose}
 use Rattle.runfile.specs.declared.Kind.the-variants.{Release, Show, Snapshot, Unknown}
 use Rattle.reading.specs.declared.Form.{Form}
 use Rattle.reading.specs.declared.Form.the-variants.{Bare, OfJob, OfVault, Unreadable}
@@ -39,9 +39,10 @@ formOf Draw = OfJob
 formOf Generations = OfJob
 formOf Snapshot = Bare
 formOf Release = OfVault
+formOf Dependencies = OfVault
 formOf Unknown = Unreadable
 
--- generations ask which vaults hold the job: all vaults are looked at
+-- generations ask which vaults hold the job, missing dependencies which jobs they hold: all vaults are looked at
 abbrev pub isWide : Kind → Bool
 isWide Propose = false
 isWide Preflight = false
@@ -53,6 +54,7 @@ isWide Draw = false
 isWide Generations = true
 isWide Snapshot = false
 isWide Release = false
+isWide Dependencies = true
 isWide Unknown = false
 
 abbrev pub rowOf : ℕ → Kind → Operation
