@@ -1,6 +1,7 @@
 //! The ledger: the book, the vaults, signatures, acknowledgements and the
 //! arrival order, and what each kind of step does to them.
 
+mod dependencies;
 mod equivocation;
 
 use crate::draw::thousandths;
@@ -74,6 +75,7 @@ impl Engine {
             Step::Generations { job } => self.generations(*job),
             Step::Snapshot => self.snapshot(),
             Step::Release { vault, job, rival } => self.release(*vault, *job, *rival),
+            Step::Dependencies { vault, job } => self.dependencies(*vault, *job),
             Step::Equivocating => self.equivocating(),
         }
     }
@@ -262,7 +264,7 @@ impl Engine {
         Ok(usize::from(job))
     }
 
-    /// Check 5 for kinds 2, 3 and 10.
+    /// Check 5 for kinds 2, 3, 10 and 11.
     fn must_be_sound(&self, vault: usize) -> Result<(), Refusal> {
         if self.settings.is_faulty(vault as u64) {
             return Err(plain(5));

@@ -125,3 +125,7 @@ pub fn equivocating() -> Step {
 pub fn generations(job: u8) -> Step {
     Step::Generations { job }
 }
+
+pub fn dependencies(vault: u8, job: u8) -> Step {
+    Step::Dependencies { vault, job }
+}

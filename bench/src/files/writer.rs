@@ -96,6 +96,10 @@ impl Run {
         self.step(intended, write::generations(job));
     }
 
+    pub fn dependencies(&mut self, vault: u8, job: u8, intended: u8) {
+        self.step(intended, write::dependencies(vault, job));
+    }
+
     pub fn equivocating(&mut self, intended: u8) {
         self.step(intended, write::equivocating());
     }

@@ -1,7 +1,7 @@
 // What a step decides, from the pieces that it names: the verdict of the checks before, a vault, the votes on a job. The ledger's
 // operations and the run share these functions.
 mod equivocators;
-mod lists;
+mod missing;
 mod releases;
 
 ghost use mathlib.Core.Bool.{_&&_, not};
@@ -39,8 +39,9 @@ pub use equivocators::equivocating;
 use federation::Settings;
 use ledger::Change;
 use ledger::Decision;
-pub use lists::list;
-pub use lists::unlist;
+pub use missing::dependencies;
+pub use missing::list;
+pub use missing::unlist;
 use outcome::Outcome;
 use outcome::Refusal;
 use outcome::Verdict;

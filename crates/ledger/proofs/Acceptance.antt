@@ -43,22 +43,8 @@ use Rattle.ledger.specs.Graph.{Algorithm1, Lister}
 use Rattle.ledger.specs.Ready.{Spares}
 use Rattle.ledger.specs.Register.{Register, isDone}
 use Rattle.ledger.specs.State.{booking, vaultAt, versionOf, visited, voted, votesIn, withVault}
-use Rattle.ledger.specs.Worlds.{
-  Event,
-  Request,
-  World,
-  after,
-  commit,
-  equivocating,
-  faultyVote,
-  generations,
-  preflight,
-  propose,
-  release,
-  replyTo,
-  show,
-  snapshot,
-}
+use Rattle.ledger.specs.Worlds.{Event, Request, World, after, commit, dependencies, equivocating, faultyVote, generations}
+use Rattle.ledger.specs.Worlds.{preflight, propose, release, replyTo, show, snapshot}
 use Rattle.federation.specs.declared.Settings.{Settings}
 use Rattle.ledger.specs.declared.Ledger.{Ledger}
 use Rattle.vaults.specs.declared.Vault.{Vault}
@@ -109,6 +95,7 @@ module _ (w : World) (sh : Shape (w .ledger) (w .booked)) where
   Leaves w′ (generations k) = Unit {0}
   Leaves w′ snapshot = Unit {0}
   Leaves w′ (release v k rival) = Unit {0}
+  Leaves w′ (dependencies v k) = Unit {0}
   Leaves w′ equivocating = Unit {0}
 
   leaves-idle : ((v k : ℕ) → signedAt l v k ≡ true → recordedAt l v k ≡ true) → (q : Request) → Idle w q → Leaves w q
@@ -121,6 +108,7 @@ module _ (w : World) (sh : Shape (w .ledger) (w .booked)) where
   leaves-idle b (generations k) m = tt
   leaves-idle b snapshot m = tt
   leaves-idle b (release v k rival) m = tt
+  leaves-idle b (dependencies v k) m = tt
   leaves-idle b equivocating m = tt
 
   pub leaves : ((v k : ℕ) → signedAt l v k ≡ true → recordedAt l v k ≡ true) → (q : Request) (done : Bool) (w′ : World) → Change w q done w′ → done ≡ true

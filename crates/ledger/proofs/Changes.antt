@@ -70,6 +70,8 @@ use Rattle.ledger.specs.Steps.{
   bookedGate,
   carried,
   commitDecision,
+  dependenciesDecision,
+  dependenciesOf,
   equivocatorsDecision,
   equivocatorsOf,
   faultyVoteDecision,
@@ -91,6 +93,7 @@ use Rattle.ledger.specs.Worlds.{
   World,
   after,
   commit,
+  dependencies,
   equivocating,
   faultyVote,
   generations,
@@ -162,6 +165,7 @@ Idle w (show k) = Unit {0}
 Idle w (generations k) = Unit {0}
 Idle w snapshot = ⊥
 Idle w (release v k rival) = ⊥
+Idle w (dependencies v k) = Unit {0}
 Idle w equivocating = Unit {0}
 
 pub data Change (w : World) : Request → Bool → World → Type 0 where
@@ -341,10 +345,14 @@ module _ (w : World) (sh : Shape (w .ledger) (w .booked)) (size : ℕ) (beyond :
         conflicts = subst (λ (job : ℕ → Job). conflicting (job rival) (job k) ≡ true) (jobs h) (conflicting-sym _ _ (kept .1));
       }))))
 
-  -- ---- steps that list: whatever is answered, nothing changes
+  -- ---- missing dependencies: whatever is answered, nothing changes
   reads : (q : Request) (o : Outcome) (v k : ℕ) → Idle w q → Moves q (carried l (record { outcome = o; change = Nothing }) v k)
   reads q (Done value) v k i = answers q value v k i
   reads q (Refused why) v k i = refuses q why v k
+
+  change-dependencies : (v k : ℕ) → Moves (dependencies v k) (carried l (dependenciesDecision l journal v k) v k)
+  unfolding dependenciesDecision
+  change-dependencies v k = reads (dependencies v k) (dependenciesOf l journal v k .outcome) v k tt
 
   change-equivocating : Moves equivocating (carried l (equivocatorsDecision l journal) 0 0)
   unfolding equivocatorsDecision
@@ -395,6 +403,7 @@ module _ (w : World) (sh : Shape (w .ledger) (w .booked)) (size : ℕ) (beyond :
   change (generations k) = change-generations k
   change snapshot = change-snapshot
   change (release v k rival) = change-release v k rival
+  change (dependencies v k) = change-dependencies v k
   change equivocating = change-equivocating
 
 pub changes : (w : World) → Shape (w .ledger) (w .booked) → (e : Event) → Change w (e .request) (isDone (replyTo w e .outcome)) (after w e)

@@ -25,9 +25,9 @@ use Rattle.ledger.specs.Steps.{bookedGate, carried, gateOf, turned, vaul
 use Rattle.ledger.specs.Decisions.{gated, gatedListing, unlisted}
 use Rattle.ledger.specs.Given.{Placed}
 use Rattle.ledger.specs.declared.Decision.{Decision}
-use Rattle.ledger.specs.declared.Listing.{Listing}
 use Rattle.ledger.specs.declared.Reply.{Reply}
 use Rattle.ledger.specs.declared.Ledger.{Ledger}
+use Rattle.ledger.specs.declared.Listing.{Listing}
 
 pub reflect-sane : (l : Ledger) → Reflects (isSane l) (Sane l)
 unfolding isSane
@@ -117,6 +117,9 @@ module _ (l : Ledger) (journal : List ℕ) (v job : ℕ) (faulty : Bool) where
   pub placed-job : (r : Verdict) → r ≡ vaultGate l journal v job faulty → r ≡ Pass → job < 128
   placed-job r p q = placed r p q .job
 
+  pub placed-vaults : (r : Verdict) → r ≡ vaultGate l journal v job faulty → r ≡ Pass → l .settings .n ≤ 16
+  placed-vaults r p q = entered l journal v job faulty (sym p ∙ q) .sane .lawful .vaults
+
 module _ (l : Ledger) (journal : List ℕ) (job : ℕ) where
   pub known-job : (r : Verdict) → r ≡ bookedGate l journal job → r ≡ Pass → job < 128
   known-job r p q = let h = booked-entered l journal job (sym p ∙ q) in omega (arith, h .1 .below, h .0 .booked)
@@ -162,6 +165,7 @@ pub ruleset entering = (
   placed-job,
   placed-few,
   placed-known,
+  placed-vaults,
   known-job,
   known-booked,
   known-few,

@@ -5,6 +5,7 @@ pub mod Changes
 pub mod Creators
 pub mod Demand2
 pub mod Demand3
+pub mod Dependencies
 pub mod Effects
 pub mod Equivocation
 pub mod Example
@@ -15,6 +16,7 @@ pub mod Independence
 pub mod Invariant
 pub mod Lending
 pub mod Meaning
+pub mod Missing
 pub mod OneLabel
 pub mod Paper
 pub mod Places

@@ -68,6 +68,7 @@ use Rattle.ledger.specs.Worlds.{
   after,
   afterAll,
   commit,
+  dependencies,
   equivocating,
   faultyVote,
   generations,
@@ -325,6 +326,7 @@ allowed-spares w s j (show k) a = tt
 allowed-spares w s j (generations k) a = tt
 allowed-spares w s j snapshot a = tt
 allowed-spares w s j (release v k rival) a = absurd a
+allowed-spares w s j (dependencies v k) a = tt
 allowed-spares w s j equivocating a = tt
 
 own-spares : (w : World) (s j v : ℕ) (q : Request) → q ≡ preflight v j → Spares w s j q

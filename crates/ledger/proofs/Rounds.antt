@@ -39,6 +39,7 @@ use Rattle.ledger.specs.Worlds.{
   after,
   afterAll,
   commit,
+  dependencies,
   equivocating,
   faultyVote,
   generations,
@@ -75,6 +76,7 @@ is-snapshot (show k) e = absurd (true≢false (sym e))
 is-snapshot (generations k) e = absurd (true≢false (sym e))
 is-snapshot snapshot e = refl
 is-snapshot (release v k rival) e = absurd (true≢false (sym e))
+is-snapshot (dependencies v k) e = absurd (true≢false (sym e))
 is-snapshot equivocating e = absurd (true≢false (sym e))
 
 turned : (w : World) (q : Request) (done : Bool) (w′ : World) → Change w q done w′ → Turned w (isSnapshot q) done w′

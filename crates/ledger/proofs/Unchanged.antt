@@ -35,6 +35,7 @@ use Rattle.ledger.specs.State.{applied, versionOf}
 use Rattle.ledger.specs.Steps.{
   bookedGate,
   commitDecision,
+  dependenciesDecision,
   equivocatorsDecision,
   faultyVoteDecision,
   generationsDecision,
@@ -48,21 +49,8 @@ use Rattle.ledger.specs.Steps.{
   vaultGate,
 }
 use Rattle.vaults.specs.Vaults.{vaultPreflight}
-use Rattle.ledger.specs.Worlds.{
-  Request,
-  commit,
-  decisionOf,
-  equivocating,
-  faultyVote,
-  generations,
-  leftBy,
-  preflight,
-  propose,
-  release,
-  show,
-  snapshot,
-  stepOf,
-}
+use Rattle.ledger.specs.Worlds.{Request, commit, decisionOf, dependencies, equivocating, faultyVote, generations}
+use Rattle.ledger.specs.Worlds.{leftBy, preflight, propose, release, show, snapshot, stepOf}
 use Rattle.ledger.specs.declared.Change.{Change}
 use Rattle.ledger.specs.declared.Change.the-variants.{Book, Nothing}
 use Rattle.vaults.specs.declared.Consent.{Consent}
@@ -115,7 +103,7 @@ aged b age = either b _ _ (quiet (answering age) refl) (quiet (refusing NotHeld)
 module _ (l : Ledger) (journal : List ℕ) where
   pub quiets : (q : Request) → Quiet (decisionOf l journal q)
   unfolding proposeDecision proposal settling preflightDecision preflighting commitDecision committing faultyVoteDecision showDecision generationsDecision
-      snapshotDecision snapshotting releaseDecision releasing equivocatorsDecision
+      snapshotDecision snapshotting releaseDecision releasing dependenciesDecision equivocatorsDecision
   quiets (propose bytes) = behind (saneGate l) _ (behind (examined (versionOf l) bytes) _ (placed _ _ _ _))
   quiets (preflight v k) = behind (vaultGate l journal v k false) _ (consents _ _ _ _ _)
   quiets (commit v k signers) = behind (vaultGate l journal v k false) _ (behind (certificate _ _ _) _ (received _ _ _ _))
@@ -124,6 +112,7 @@ module _ (l : Ledger) (journal : List ℕ) where
   quiets (generations k) = behind (bookedGate l journal k) _ (aged _ _)
   quiets snapshot = behind (saneGate l) _ (done _ _)
   quiets (release v k rival) = behind (vaultGate l journal v k false) _ (behind (supersession _ _ _ _ _ _) _ (done _ _))
+  quiets (dependencies v k) = quiet _ refl
   quiets equivocating = quiet _ refl
 
   left : (q : Request) → decisionOf l journal q .change ≡ Nothing → leftBy l journal q ≡ journal
@@ -136,6 +125,7 @@ module _ (l : Ledger) (journal : List ℕ) where
   left (generations k) e = refl
   left snapshot e = refl
   left (release v k rival) e = refl
+  left (dependencies v k) e = refl
   left equivocating e = refl
 
   pub unchanged : (q : Request) → isDone (stepOf l journal q .outcome) ≡ false → (stepOf l journal q .ledger ≡ l) × (leftBy l journal q ≡ journal)

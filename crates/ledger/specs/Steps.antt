@@ -32,12 +32,13 @@ use Rattle.ledger.specs.Decisions.{
   preflighting,
   proposal,
   releasing,
+  requiring,
   snapshotting,
   statusOf,
   voting,
 }
 use Rattle.ledger.specs.Equivocation.{equivocators}
-use Rattle.ledger.specs.Holders.{isHeld}
+use Rattle.ledger.specs.Holders.{heldSomewhere, isHeld}
 use Rattle.ledger.specs.State.{applied, isSane, newLedger, signersOf, vaultAt, versionOf, votesAt, votesIn}
 
 -- ---- a new ledger: the threshold where the settings are lawful
@@ -116,6 +117,15 @@ unfoldable pub releaseDecision : Ledger → List ℕ → ℕ → ℕ → ℕ →
 releaseDecision l journal v job rival =
     gated (vaultGate l journal v job false) (releasing (vaultAt l v) (versionOf l) journal (l .booked) (signersOf l job) job rival)
 
+-- kind 11: "3, 5, 4 as for preflight; then 21"
+unfoldable pub dependenciesOf : Ledger → List ℕ → ℕ → ℕ → Listing
+dependenciesOf l journal v job =
+    gatedListing (vaultGate l journal v job false)
+    (requiring (vaultAt l v) (heldSomewhere (l .settings) (l .vaults)) (versionOf l) journal (l .booked) job)
+
+unfoldable pub dependenciesDecision : Ledger → List ℕ → ℕ → ℕ → Decision
+dependenciesDecision l journal v job = record { outcome = dependenciesOf l journal v job .outcome; change = Nothing }
+
 -- kind 13: "4"; the vaults that equivocate
 unfoldable pub equivocatorsOf : Ledger → List ℕ → Listing
 equivocatorsOf l journal =
@@ -165,7 +175,7 @@ snapshotOf l = carried l (snapshotDecision l) 0 0
 unfoldable pub releaseOf : Ledger → List ℕ → ℕ → ℕ → ℕ → Reply
 releaseOf l journal v job rival = carried l (releaseDecision l journal v job rival) v job
 
--- the two that only read; `equivocatorsOf` stands above
+-- the two that only read a figure; `dependenciesOf` and `equivocatorsOf` stand above
 abbrev pub showOf : Ledger → List ℕ → ℕ → Outcome
 showOf l journal job = showDecision l journal job .outcome
 

@@ -9,6 +9,7 @@ use Rattle.ledger.specs.State.{newLedger, versionOf}
 use Rattle.ledger.specs.Steps.{
   carried,
   commitDecision,
+  dependenciesDecision,
   equivocatorsDecision,
   faultyVoteDecision,
   generationsDecision,
@@ -24,7 +25,7 @@ use Rattle.ledger.specs.declared.Decision.{Decision}
 use Rattle.ledger.specs.declared.Ledger.{Ledger}
 use Rattle.ledger.specs.declared.Reply.{Reply}
 
--- kinds 1 to 6, 8 to 10 and 13. "A draw neither reads nor changes what the engine keeps and stays out".
+-- kinds 1 to 6, 8 to 11 and 13. "A draw neither reads nor changes what the engine keeps and stays out".
 pub data Request : Type 0 where
   propose : List ℕ → Request
   preflight : ℕ → ℕ → Request
@@ -35,6 +36,7 @@ pub data Request : Type 0 where
   snapshot : Request
   -- the vault, the job, and the rival that it lost to
   release : ℕ → ℕ → ℕ → Request
+  dependencies : ℕ → ℕ → Request
   equivocating : Request
 
 -- the vault and the job that a step names, 0 where it names none
@@ -47,6 +49,7 @@ vaultIn (show job) = 0
 vaultIn (generations job) = 0
 vaultIn snapshot = 0
 vaultIn (release v job rival) = v
+vaultIn (dependencies v job) = v
 vaultIn equivocating = 0
 
 abbrev pub jobIn : Request → ℕ
@@ -58,6 +61,7 @@ jobIn (show job) = job
 jobIn (generations job) = job
 jobIn snapshot = 0
 jobIn (release v job rival) = job
+jobIn (dependencies v job) = job
 jobIn equivocating = 0
 
 abbrev pub decisionOf : Ledger → List ℕ → Request → Decision
@@ -69,9 +73,10 @@ decisionOf l journal (show job) = showDecision l journal job
 decisionOf l journal (generations job) = generationsDecision l journal job
 decisionOf l journal snapshot = snapshotDecision l
 decisionOf l journal (release v job rival) = releaseDecision l journal v job rival
+decisionOf l journal (dependencies v job) = dependenciesDecision l journal v job
 decisionOf l journal equivocating = equivocatorsDecision l journal
 
--- every step is a decision carried out: the right sides are those of `proposeOf` to `generationsOf`, and `equivocatorsOf`, which the contracts cite
+-- every step is a decision carried out: the right sides are those of `proposeOf` to `equivocatorsOf`, which the contracts cite
 abbrev pub stepOf : Ledger → List ℕ → Request → Reply
 stepOf l journal q = carried l (decisionOf l journal q) (vaultIn q) (jobIn q)
 
@@ -85,6 +90,7 @@ leftBy l journal (show job) = journal
 leftBy l journal (generations job) = journal
 leftBy l journal snapshot = journal
 leftBy l journal (release v job rival) = journal
+leftBy l journal (dependencies v job) = journal
 leftBy l journal equivocating = journal
 
 -- "each step gets all that the engine keeps and the booked bytes as the step before left them"

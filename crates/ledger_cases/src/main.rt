@@ -2,6 +2,7 @@
 // the answer. Document 01 decides what they must be; `stdout` holds them.
 mod ages;
 mod checks;
+mod dependencies;
 mod releases;
 mod run;
 mod settings;
@@ -16,5 +17,8 @@ fn main() {
     votes::votes();
     ages::ages();
     releases::releases();
+    dependencies::after_run();
+    dependencies::four_missing();
+    dependencies::no_set();
     versions::versions();
 }

@@ -6,7 +6,7 @@ ghost use mathlib.Core.Path.{_≡_};
 ghost use Prim.Native.Nat.{_≤_};
 ghost use lib.ListN.{length};
 ghost use Rattle.run.specs.Pieces.{Advanced, Going, Started};
-ghost use Rattle.steps.specs.Turned.{longestText};
+ghost use Rattle.text.specs.Text.{longestText};
 pub use buffers::INPUT;
 pub use buffers::JOURNAL;
 pub use buffers::PIECE;
@@ -88,7 +88,7 @@ pub fn advance(
             return standing(ledger, pos, count, at);
         }
         count += 1;
-        let step = steps::step_at(ledger.settings.version, input, pos, count);
+        let step = reading::step_at(ledger.settings.version, input, pos, count);
         pos = step.end;
         if step.wide {
             let order = &ledger.order;

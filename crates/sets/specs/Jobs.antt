@@ -1,7 +1,7 @@
 -- Sets of jobs in two words: job j is bit j of the low word, or bit j - 64 of the high one. No job of 128 or more is a
 -- member of any set.
-use mathlib.Core.Bool.{Bool, false, cond, not, _&&_, _||_}
-use Prim.Native.Nat.{ℕ, zero, suc, _+_, _-_, _^_, _<_}
+use mathlib.Core.Bool.{Bool, _&&_, _||_, cond, false, not}
+use Prim.Native.Nat.{_+_, _-_, _<_, _^_, suc, zero, ℕ}
 use lib.Dec.{eqb, ltb}
 use lib.Bits.{bitAnd, bitOr}
 use lib.Count.{ones}

@@ -1,6 +1,6 @@
 // A set of jobs. A journal books at most 128, so two words hold every set.
 ghost use mathlib.Core.Path.{_≡_};
-ghost use Rattle.sets.specs.Jobs.{noJobs, isEmpty, jobHas, jobWith, jobWithout, jobUnion, jobsCommon, jobsMeet, jobCount};
+ghost use Rattle.sets.specs.Jobs.{isEmpty, jobCount, jobHas, jobUnion, jobWith, jobWithout, jobsCommon, jobsMeet, noJobs};
 use super::words;
 
 // Jobs 0 to 63 are the bits of `low`, and 64 to 127 those of `high`. No method asks anything of its arguments: a job of

@@ -6,6 +6,7 @@ mod build;
 mod chains;
 mod conflicts;
 mod damage;
+mod dependencies;
 mod edges;
 mod equivocation;
 mod orphans;

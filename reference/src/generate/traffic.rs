@@ -1,6 +1,7 @@
 //! Traffic that makes sense, with its repeats and small mistakes.
 
 use super::build::Builder;
+use super::dependencies::{odd_question, scattered};
 use super::equivocation::ask;
 use super::records::{new_accession, new_migration, some_tapes};
 use super::releases::odd_release;
@@ -18,7 +19,7 @@ pub fn traffic(builder: &mut Builder) {
 
 pub fn action(builder: &mut Builder) {
     let job = recent_job(builder);
-    match builder.random.below(27) {
+    match builder.random.below(31) {
         0..=2 => {
             let record = new_accession(builder);
             builder.push(record);
@@ -43,7 +44,9 @@ pub fn action(builder: &mut Builder) {
         17 => misplaced(builder, job),
         18 | 19 => visit(builder),
         20 => odd_release(builder, job),
-        21 => ask(builder),
+        21..=23 => odd_question(builder, job),
+        24 => scattered(builder),
+        25 => ask(builder),
         _ => look(builder, job),
     }
 }

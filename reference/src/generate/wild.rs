@@ -58,7 +58,7 @@ fn any_step(builder: &mut Builder) -> Step {
             builder.random.below(bound + 1) as u8
         }
     };
-    let first = if kind < kind::SHOW || kind == kind::RELEASE {
+    let first = if kind < kind::SHOW || kind >= kind::RELEASE {
         near(builder, n)
     } else {
         near(builder, booked.max(n))
