@@ -3,6 +3,7 @@
 mod ages;
 mod checks;
 mod dependencies;
+mod equivocation;
 mod releases;
 mod run;
 mod settings;
@@ -20,5 +21,8 @@ fn main() {
     dependencies::after_run();
     dependencies::four_missing();
     dependencies::no_set();
+    equivocation::after_releases();
+    equivocation::excused();
+    equivocation::five();
     versions::versions();
 }

@@ -9,7 +9,7 @@ use Rattle.runfile.specs.Run.{longest}
 use Rattle.ledger.specs.Worlds.{jobIn, vaultIn}
 use Rattle.runfile.specs.Steps.{Command, bodySize, commandIn, draw, kindAt, kindOf, nextAt, request, unreadable}
 use Rattle.runfile.specs.declared.Kind.{Kind}
-use Rattle.runfile.specs.declared.Kind.the-variants.{Commit, Dependencies, Draw, FaultyAcknowledge, FaultySign, Generations, Preflight, Propose}
+use Rattle.runfile.specs.declared.Kind.the-variants.{Commit, Dependencies, Draw, Equivocating, FaultyAcknowledge, FaultySign, Generations, Preflight, Propose}
 use Rattle.runfile.specs.declared.Kind.the-variants.{Release, Show, Snapshot, Unknown}
 use Rattle.reading.specs.declared.Form.{Form}
 use Rattle.reading.specs.declared.Form.the-variants.{Bare, OfJob, OfVault, Unreadable}
@@ -40,9 +40,10 @@ formOf Generations = OfJob
 formOf Snapshot = Bare
 formOf Release = OfVault
 formOf Dependencies = OfVault
+formOf Equivocating = Bare
 formOf Unknown = Unreadable
 
--- generations ask which vaults hold the job, missing dependencies which jobs they hold: all vaults are looked at
+-- generations ask which vaults hold the job, missing dependencies which jobs they hold, kind 13 what they signed: all vaults are looked at
 abbrev pub isWide : Kind → Bool
 isWide Propose = false
 isWide Preflight = false
@@ -55,6 +56,7 @@ isWide Generations = true
 isWide Snapshot = false
 isWide Release = false
 isWide Dependencies = true
+isWide Equivocating = true
 isWide Unknown = false
 
 abbrev pub rowOf : ℕ → Kind → Operation

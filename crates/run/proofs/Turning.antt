@@ -26,7 +26,8 @@ use Rattle.runfile.specs.Steps.{Command, commandIn, journalBy, listedBy, replyO
 use Rattle.runfile.specs.declared.Kind.{Kind}
 use Rattle.runfile.specs.declared.Kind.the-variants.{Propose}
 use Rattle.steps.proofs.Quiet.{Bookless, books, writable}
-use Rattle.steps.specs.Decided.{alone, surveyed}
+use Rattle.sets.specs.declared.job_set.JobSet.{JobSet}
+use Rattle.steps.specs.Decided.{Named, alone, surveyed}
 use Rattle.reading.specs.Reading.{Asked, Read, isWide, jobOf, vaultOf}
 use Rattle.steps.specs.Stored.{Stored}
 use Rattle.steps.specs.Turned.{CarriedOut, Said, Surveyed, decisionAt, recordIn}
@@ -127,14 +128,15 @@ module _ {input : List ℕ} {l₀ : Ledger} {pos₀ count₀ : ℕ} {journal₀ 
       }
 
   -- ---- a step that looks at all vaults
-  pub turn-wide : (memo′ out′ : List ℕ) (at′ : ℕ) → s .wide ≡ true → Surveyed (booksOf l) s at (l .order) journal out memo′ out′ at′
+  pub turn-wide : (named : JobSet) → Named (l .settings) (l .votes) journal (l .booked) (s .kind) named → (memo′ out′ : List ℕ) (at′ : ℕ) → s .wide ≡ true
+      → Surveyed (booksOf l named) s at (l .order) journal out memo′ out′ at′
       → at + longestText ≤ length out → length out′ ≡ length out → Next l memo′ journal numbers sets records out′ at′
-  turn-wide memo′ out′ at′ y a room same =
+  turn-wide named h memo′ out′ at′ y a room same =
       let w : isWide (s .kind) ≡ true = sym (r .wide-is) ∙ y in
       let n : decision .change ≡ Nothing = wide-quiet l (t .kept .sane) journal input (s .at) (s .kind) w in
       let quiet : isBook (decision .change) ≡ false = ap isBook n in
-      let answered : surveyed (booksOf l) (l .order) journal (s .kind) (s .vault) (s .job) ≡ answer l (t .kept .sane) journal input (s .at) (s .kind) =
-      rw (r .asked .vault-is, r .asked .job-is) (wide-answer l (t .kept .sane) journal input (s .at) (s .kind) w) in
+      let answered : surveyed (booksOf l named) (l .order) journal (s .kind) (s .vault) (s .job) ≡ answer l (t .kept .sane) journal input (s .at) (s .kind) =
+      rw (r .asked .vault-is, r .asked .job-is) (wide-answer l (t .kept .sane) journal input (s .at) (s .kind) w named h) in
       on _ l memo′ journal numbers sets records out′ at′
       (ap (λ (x : Listing). x .outcome) answered)
       (ap (λ (x : Listing). x .members) answered)

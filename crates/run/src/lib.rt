@@ -91,12 +91,17 @@ pub fn advance(
         let step = reading::step_at(ledger.settings.version, input, pos, count);
         pos = step.end;
         if step.wide {
+            let kind = step.kind;
+            let settings = ledger.settings;
+            let votes = ledger.votes;
+            let named = steps::named(kind, settings, votes, numbers, sets, journal, ledger.booked);
             let order = &ledger.order;
             let books = Books {
                 settings: ledger.settings,
                 booked: ledger.booked,
                 arrivals: ledger.arrivals,
                 vaults: ledger.vaults,
+                named,
             };
             at = steps::survey(step, books, order, numbers, sets, journal, memo, out, at);
             continue;

@@ -24,7 +24,7 @@ use Rattle.ledger.specs.declared.Decision.{Decision}
 use Rattle.vaults.specs.declared.Vault.{Vault}
 use Rattle.runfile.specs.Steps.{commandIn}
 use Rattle.runfile.specs.declared.Kind.{Kind}
-use Rattle.runfile.specs.declared.Kind.the-variants.{Commit, Dependencies, Draw, FaultyAcknowledge, FaultySign, Generations, Preflight, Propose}
+use Rattle.runfile.specs.declared.Kind.the-variants.{Commit, Dependencies, Draw, Equivocating, FaultyAcknowledge, FaultySign, Generations, Preflight, Propose}
 use Rattle.runfile.specs.declared.Kind.the-variants.{Release, Show, Snapshot, Unknown}
 use Rattle.steps.specs.Decided.{decidedBy}
 use Rattle.steps.specs.declared.View.{View}
@@ -83,6 +83,7 @@ module _ (w : View) (journal input : List ℕ) (at : ℕ) where
   books Snapshot = inr (search quiet)
   books Release = inr (search quiet)
   books Dependencies = inr (search quiet)
+  books Equivocating = inr (search quiet)
   books Unknown = inr (search quiet)
 
   unbooked : (d : Decision) → Bookless d → Writable (d .change) (w .booked) version journal bytes

@@ -7,6 +7,7 @@ mod turning;
 use federation::Settings;
 use ledger::Change;
 use sets::JobSet;
+pub use deciding::named;
 pub use turning::carry_out;
 pub use turning::survey;
 use vaults::Vault;
@@ -24,12 +25,13 @@ pub struct View {
     pub turn: Vault,
 }
 
-// What a step looks at that looks at all vaults.
+// What a step looks at that looks at all vaults; of kind 13 the vaults that it names.
 pub struct Books {
     pub settings: Settings,
     pub booked: usize,
     pub arrivals: usize,
     pub vaults: [Vault; 16],
+    pub named: JobSet,
 }
 
 // What a step changes in the ledger, and where its text ends.
