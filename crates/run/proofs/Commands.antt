@@ -4,7 +4,7 @@ use mathlib.Core.Bool.{Bool, false, true, true≢false}
 use mathlib.Core.List.{List}
 use mathlib.Core.Logic.{_⊎_, ⊎-elim}
 use mathlib.Core.Path.{_∙_, _≡_, ap, refl, subst, sym}
-use Prim.Native.Nat.{_%_, _+_, _<_, ℕ}
+use Prim.Native.Nat.{_*_, _%_, _+_, _<_, ℕ}
 use native.Mathlib.Omega.{arith}
 use lib.ListN.{drop, getD, take}
 use Rattle.base.proofs.Reflect.{by-cases}
@@ -17,26 +17,27 @@ use Rattle.draw.specs.Draw.{drawOf}
 use Rattle.ledger.proofs.Gates.{booked-entered, entered, in-place, reflect-sane}
 use Rattle.ledger.proofs.Places.{proposed}
 use Rattle.ledger.proofs.Writes.{unwritten}
-use Rattle.ledger.specs.Decisions.{ageing, answering, committing, gated, isBook, isNothing, preflighting, refusing, releasing, snapshotting}
+use Rattle.ledger.specs.Decisions.{ageing, answering, clientPreflighting, committing, gated, isBook, isNothing, preflighting, refusing, releasing, snapshotting}
 use Rattle.ledger.specs.Decisions.{statusOf, voting}
 use Rattle.ledger.specs.Given.{Placed}
 use Rattle.ledger.specs.Meaning.{Proposed, Sane, failed, full, insane, known, new}
-use Rattle.ledger.specs.State.{applied, signersOf, vaultAt, versionOf, votesAt, votesIn}
-use Rattle.ledger.specs.Steps.{bookedGate, commitDecision, faultyVoteDecision, gateOf, generationsDecision, journalAfter}
+use Rattle.ledger.specs.State.{applied, historyAt, signersOf, vaultAt, versionOf, votesAt, votesIn}
+use Rattle.ledger.specs.Steps.{bookedGate, clientPreflightDecision, commitDecision, faultyVoteDecision, gateOf, generationsDecision, journalAfter}
 use Rattle.ledger.specs.Steps.{journalWith, preflightDecision, proposeDecision, releaseDecision, saneGate, showDecision, snapshotDecision, vaultGate}
 use Rattle.ledger.specs.Worlds.{decisionOf}
 use Rattle.ledger.specs.declared.Change.{Change}
-use Rattle.ledger.specs.declared.Change.the-variants.{Book, Hold, Nothing, Record, Release as Released, See, Sign}
+use Rattle.ledger.specs.declared.Change.the-variants.{Book, Count, Grant, Hold, Nothing, Record, Release as Released, See, Sign}
 use Rattle.vaults.specs.declared.Column.the-variants.{Acknowledgements, Signatures}
 use Rattle.ledger.specs.declared.Decision.{Decision}
 use Rattle.ledger.specs.declared.Ledger.{Ledger}
 use Rattle.vaults.specs.declared.Vault.{Vault}
 use Rattle.runfile.specs.Steps.{Command, commandIn, draw, journalBy, replyOf, request, unreadable, wordAt}
 use Rattle.runfile.specs.declared.Kind.{Kind}
-use Rattle.runfile.specs.declared.Kind.the-variants.{Commit, Draw, FaultyAcknowledge, FaultySign, Generations, Preflight, Propose}
+use Rattle.runfile.specs.declared.Kind.the-variants.{ClientPreflight, Commit, Draw, FaultyAcknowledge, FaultySign, Generations, Preflight, Propose}
 use Rattle.runfile.specs.declared.Kind.the-variants.{Release, Show, Snapshot, Unknown}
+use Rattle.quota.specs.Quota.{historyPlace}
 use Rattle.steps.proofs.Quiet.{Bookless}
-use Rattle.steps.specs.Decided.{bookedOr, decidedBy, jobOf, surveyed, vaultOf}
+use Rattle.steps.specs.Decided.{bookedOr, decidedBy, historyOf, jobOf, surveyed, vaultOf}
 use Rattle.steps.specs.Reading.{isWide}
 use Rattle.steps.specs.declared.Books.{Books}
 use Rattle.steps.specs.declared.View.{View}
@@ -60,13 +61,14 @@ module _ (l : Ledger) (journal : List ℕ) where
   reply-outcome (draw u) = refl
   reply-outcome unreadable = refl
 
--- ---- what a step looks at: the arrays are read at the vault and the job modulo their length
-abbrev pub viewAt : Ledger → ℕ → ℕ → View
-viewAt l v job = record {
+-- ---- what a step looks at: the arrays are read at the vault, the job and the place modulo their length
+abbrev pub viewAt : Ledger → ℕ → ℕ → ℕ → View
+viewAt l v job place = record {
   settings = l .settings;
   booked = l .booked;
   state = vaultAt l (v % 16);
   votes = votesAt l (job % 128);
+  history = getD (l .histories) (place % 128) 0;
   next = l .next;
   seen = l .seen;
   turn = vaultAt l (l .next % 16);
@@ -92,6 +94,8 @@ isHold (Hold state) = true
 isHold (Released state) = false
 isHold (Record column) = false
 isHold (See seen) = false
+isHold (Count history) = false
+isHold (Grant grant) = false
 
 unheld-behind : (g : Verdict) (d : Decision) → isHold (d .change) ≡ false → isHold (gated g d .change) ≡ false
 unheld-behind Pass d e = e
@@ -119,6 +123,7 @@ wide-kind Draw w = cc
 wide-kind Generations w = refl
 wide-kind Snapshot w = cc
 wide-kind Release w = cc
+wide-kind ClientPreflight w = cc
 wide-kind Unknown w = cc
 
 module _ (l : Ledger) (s : Sane l) (journal : List ℕ) where
@@ -173,8 +178,10 @@ module _ (l : Ledger) (s : Sane l) (journal : List ℕ) where
     abbrev second : ℕ
     second = getD input (at + 1) 0
 
-    pub decided-is : (k : Kind) → isWide k ≡ false → decidedBy (viewAt l (vaultOf (command k)) (jobOf (command k))) journal (command k) ≡ decision k
+    pub decided-is : (k : Kind) → isWide k ≡ false → decidedBy (viewAt l (vaultOf (command k)) (jobOf (command k)) (historyOf (command k))) journal (command k)
+        ≡ decision k
     unfolding proposeDecision preflightDecision commitDecision faultyVoteDecision showDecision snapshotDecision saneGate votesIn releaseDecision
+        clientPreflightDecision historyAt historyPlace
     decided-is Propose n = simp (reflect-sane l .complete s)
     decided-is Preflight n =
         at-vault first second false (λ v job. preflighting (vaultAt l v) (versionOf l) journal (l .booked) (signersOf l job) first second)
@@ -191,6 +198,13 @@ module _ (l : Ledger) (s : Sane l) (journal : List ℕ) where
         simp (reflect-sane l .complete s, a)
     decided-is Release n =
         at-vault first second false (λ v job. releasing (vaultAt l v) (versionOf l) journal (l .booked) (signersOf l job) second (getD input (at + 2) 0))
+    decided-is ClientPreflight n =
+        let third = getD input (at + 2) 0 in
+        let history = getD (l .histories) ((8 * (first % 16) + third % 8) % 128) 0 in
+        let p : (8 * (first % 16) + third % 8) % 128 ≡ 8 * (first % 16) + third % 8 = omega arith in
+        at-vault first second false
+        (λ v job. clientPreflighting (vaultAt l v) (versionOf l) journal (l .booked) third history (signersOf l job) first second)
+        ∙ rw p
     decided-is Unknown n = refl
 
     -- ---- generations
@@ -224,6 +238,7 @@ module _ (l : Ledger) (s : Sane l) (journal : List ℕ) where
     bookless-left Generations b = untouched (decision Generations) b
     bookless-left Snapshot b = untouched (decision Snapshot) b
     bookless-left Release b = untouched (decision Release) b
+    bookless-left ClientPreflight b = untouched (decision ClientPreflight) b
     bookless-left Unknown b = untouched (decision Unknown) b
 
     pub left-by : (k : Kind) → (k ≡ Propose) ⊎ Bookless (decision k) → LeftBy k
@@ -263,7 +278,7 @@ module _ (l : Ledger) (s : Sane l) (journal : List ℕ) where
     quiet c q e = absurd (true≢false (sym (ap isNothing q) ∙ e))
 
     pub there : (k : Kind) → isNothing (decision k .change) ≡ false → There (vaultOf (command k)) (jobOf (command k)) (decision k)
-    unfolding preflightDecision commitDecision faultyVoteDecision showDecision releaseDecision
+    unfolding preflightDecision commitDecision faultyVoteDecision showDecision releaseDecision clientPreflightDecision
     there Propose e = unnamed _ (proposal-holds-nothing _ (proposed l journal bytes))
     there Preflight e = gone-in first second false _ e
     there Commit e = gone-in first second false _ e
@@ -274,4 +289,5 @@ module _ (l : Ledger) (s : Sane l) (journal : List ℕ) where
     there Generations e = quiet _ (wide-quiet Generations refl) e
     there Snapshot e = unnamed _ visit-holds-nothing
     there Release e = gone-in first second false _ e
+    there ClientPreflight e = gone-in first second false _ e
     there Unknown e = quiet _ refl e

@@ -10,11 +10,12 @@ use Rattle.outcome.specs.declared.Refusal.the-variants.{Unreadable}
 use Rattle.draw.specs.Draw.{drawOf}
 use Rattle.codec.specs.Codec.{recordSize}
 use Rattle.vaults.specs.declared.Column.the-variants.{Acknowledgements, Signatures}
-use Rattle.ledger.specs.Worlds.{Request, commit, faultyVote, generations, leftBy, preflight, propose, release, show, snapshot, stepOf}
+use Rattle.ledger.specs.Worlds.{Request, clientPreflight, commit, faultyVote, generations, leftBy, preflight, propose, release, show, snapshot, stepOf}
 use Rattle.ledger.specs.declared.Ledger.{Ledger}
 use Rattle.ledger.specs.declared.Reply.{Reply}
 use Rattle.runfile.specs.declared.Kind.{Kind}
 use Rattle.runfile.specs.declared.Kind.the-variants.{
+  ClientPreflight,
   Commit,
   Draw,
   FaultyAcknowledge,
@@ -29,7 +30,8 @@ use Rattle.runfile.specs.declared.Kind.the-variants.{
 }
 
 -- "1 propose (record); 2 preflight (vault, job); 3 commit (vault, job, signers); 4 faulty signature (vault, job); 5 faulty acknowledgement
--- (vault, job); 6 show (job); 7 draw (u); 8 generations (job)"; and document 02's 9, a snapshot, "without a body", and 10, a release "(vault, job, rival)"
+-- (vault, job); 6 show (job); 7 draw (u); 8 generations (job)"; and document 02's 9, a snapshot, "without a body", 10, a release "(vault, job, rival)",
+-- and 12, a preflight from a client "(vault, job, desk in one byte)"
 unfoldable pub kindOf : ℕ → Kind
 kindOf b =
     cond (eqb b 1) Propose
@@ -41,7 +43,8 @@ kindOf b =
     (cond (eqb b 7) Draw
     (cond (eqb b 8) Generations
     (cond (eqb b 9) Snapshot
-    (cond (eqb b 10) Release Unknown)))))))))
+    (cond (eqb b 10) Release
+    (cond (eqb b 12) ClientPreflight Unknown))))))))))
 
 -- how long the body is, in a file of the version
 abbrev pub bodySize : ℕ → Kind → ℕ
@@ -55,6 +58,7 @@ bodySize version Draw = 1
 bodySize version Generations = 1
 bodySize version Snapshot = 0
 bodySize version Release = 3
+bodySize version ClientPreflight = 3
 bodySize version Unknown = 0
 
 -- 16 bits, the low byte first
@@ -79,6 +83,7 @@ commandIn version Draw input at = draw (getD input at 0)
 commandIn version Generations input at = request (generations (getD input at 0))
 commandIn version Snapshot input at = request snapshot
 commandIn version Release input at = request (release (getD input at 0) (getD input (at + 1) 0) (getD input (at + 2) 0))
+commandIn version ClientPreflight input at = request (clientPreflight (getD input at 0) (getD input (at + 1) 0) (getD input (at + 2) 0))
 commandIn version Unknown input at = unreadable
 
 -- the kind of the step at pos, where its body is all there: "2: kind unknown or body cut short"
@@ -102,6 +107,7 @@ endOf version Draw pos size = pos + bodySize version Draw + 1
 endOf version Generations pos size = pos + bodySize version Generations + 1
 endOf version Snapshot pos size = pos + bodySize version Snapshot + 1
 endOf version Release pos size = pos + bodySize version Release + 1
+endOf version ClientPreflight pos size = pos + bodySize version ClientPreflight + 1
 endOf version Unknown pos size = size
 
 abbrev pub nextAt : ℕ → List ℕ → ℕ → ℕ

@@ -13,5 +13,6 @@ pub enum Kind {
     Generations,
     Snapshot,
     Release,
+    ClientPreflight,
     Unknown,
 }

@@ -1,4 +1,4 @@
--- A command decided from what it looks at: the settings, how many records are booked, a vault, and the votes on a job.
+-- A command decided from what it looks at: the settings, how many records are booked, a vault, the votes on a job, and a client's history.
 use mathlib.Core.Bool.{Bool, cond, false, true}
 use mathlib.Core.List.{List}
 use mathlib.Core.Path.{_≡_}
@@ -12,11 +12,13 @@ use Rattle.journal.specs.Journal.{capacity, isBooked, jobAt}
 use Rattle.generations.specs.Generations.{ageIn}
 use Rattle.generations.specs.Memo.{Memo}
 use Rattle.draw.specs.Draw.{drawOf}
-use Rattle.ledger.specs.Decisions.{ageing, answering, committing, gated, preflighting, proposal, refusing, releasing, snapshotting, statusOf, voting}
+use Rattle.ledger.specs.Decisions.{ageing, answering, clientPreflighting, committing, gated, preflighting}
+use Rattle.ledger.specs.Decisions.{proposal, refusing, releasing, snapshotting, statusOf, voting}
 use Rattle.ledger.specs.Holders.{isHeld}
+use Rattle.quota.specs.Quota.{historyPlace}
 use Rattle.ledger.specs.Steps.{gateOf}
 use Rattle.vaults.specs.Votes.{columnOf}
-use Rattle.ledger.specs.Worlds.{Request, commit, faultyVote, generations, jobIn, preflight, propose, release, show, snapshot, vaultIn}
+use Rattle.ledger.specs.Worlds.{Request, clientPreflight, commit, faultyVote, generations, jobIn, preflight, propose, release, show, snapshot, vaultIn}
 use Rattle.ledger.specs.declared.Change.the-variants.{Nothing, Record}
 use Rattle.ledger.specs.declared.Decision.{Decision}
 use Rattle.runfile.specs.Steps.{Command, draw, request, unreadable}
@@ -33,6 +35,23 @@ abbrev pub jobOf : Command → ℕ
 jobOf (request q) = jobIn q
 jobOf (draw u) = u
 jobOf unreadable = 0
+
+-- the place of the history of the client that a command names, 0 where it names none
+abbrev pub placeIn : Request → ℕ
+placeIn (propose bytes) = 0
+placeIn (preflight v job) = 0
+placeIn (commit v job signers) = 0
+placeIn (faultyVote column v job) = 0
+placeIn (show job) = 0
+placeIn (generations job) = 0
+placeIn snapshot = 0
+placeIn (release v job rival) = 0
+placeIn (clientPreflight v job client) = historyPlace v client
+
+abbrev pub historyOf : Command → ℕ
+historyOf (request q) = placeIn q
+historyOf (draw u) = 0
+historyOf unreadable = 0
 
 -- check 4 alone
 unfoldable pub bookedOr : Bool → Verdict
@@ -56,6 +75,9 @@ requested w journal (generations job) = refusing NotHeld
 requested w journal snapshot = snapshotting (w .settings) (w .next) (w .seen) (w .turn .held)
 requested w journal (release v job rival) =
     gated (gateBy w journal v false job) (releasing (w .state) (w .settings .version) journal (w .booked) (w .votes .signatures) job rival)
+requested w journal (clientPreflight v job client) =
+    gated (gateBy w journal v false job)
+    (clientPreflighting (w .state) (w .settings .version) journal (w .booked) client (w .history) (w .votes .signatures) v job)
 
 abbrev pub decidedBy : View → List ℕ → Command → Decision
 decidedBy w journal (request q) = requested w journal q

@@ -121,6 +121,20 @@ pub(crate) fn decide(
             j,
             reading::byte_at(input, at + 2) as usize,
         ),
+        Kind::ClientPreflight => decisions::client_preflight(
+            view.gate(journal, vault, false, j),
+            view.state,
+            numbers,
+            sets,
+            version,
+            journal,
+            booked,
+            reading::byte_at(input, at + 2),
+            view.history,
+            votes.signatures,
+            vault,
+            j,
+        ),
         Kind::Unknown => decisions::refuse(Refusal::Unreadable),
     }
 }

@@ -16,11 +16,12 @@ pub use turning::survey;
 use vaults::Vault;
 use vaults::Votes;
 
-// What the body of a step names: neither vault nor job, a job, a vault and a job. Of a kind that is unknown there is no body.
+// What the body of a step names: neither vault nor job, a job, a vault and a job, these and a client. Of a kind that is unknown there is no body.
 pub enum Form {
     Bare,
     OfJob,
     OfVault,
+    OfClient,
     Unreadable,
 }
 
@@ -32,24 +33,27 @@ pub struct Operation {
     pub wide: bool,
 }
 
-// A step: its number, the vault and the job that it names, 0 where it names none, where its body starts, and where the next step stands.
+// A step: its number, the vault and the job that it names, 0 where it names none, the place of the history of the client that it names, where its body starts,
+// and where the next step stands.
 pub struct Step {
     pub number: u32,
     pub kind: Kind,
     pub wide: bool,
     pub vault: u8,
     pub job: u8,
+    pub place: usize,
     pub at: usize,
     pub end: usize,
 }
 
-// What a step looks at that looks at one vault: its state, and the votes on the job that the step names; of the snapshot the number of the vault that is next,
-// the jobs seen in this round, and that vault.
+// What a step looks at that looks at one vault: its state, the votes on the job that the step names, and the history at the place that it names; of the
+// snapshot the number of the vault that is next, the jobs seen in this round, and that vault.
 pub struct View {
     pub settings: Settings,
     pub booked: usize,
     pub state: Vault,
     pub votes: Votes,
+    pub history: u16,
     pub next: u8,
     pub seen: JobSet,
     pub turn: Vault,

@@ -76,6 +76,7 @@ fn operation_of(version: u16, byte: u8) -> Operation
         8 => row(Kind::Generations, 1, Form::OfJob, true),
         9 => row(Kind::Snapshot, 0, Form::Bare, false),
         10 => row(Kind::Release, 3, Form::OfVault, false),
+        12 => row(Kind::ClientPreflight, 3, Form::OfClient, false),
         _ => row(Kind::Unknown, 0, Form::Unreadable, false),
     }
 }
@@ -90,6 +91,7 @@ fn unreadable(input: &[u8], number: u32, at: usize) -> Step
         wide: false,
         vault: 0,
         job: 0,
+        place: 0,
         at,
         end: input.len(),
     }
@@ -111,6 +113,7 @@ impl Operation {
                 wide,
                 vault: 0,
                 job: 0,
+                place: 0,
                 at,
                 end,
             },
@@ -120,6 +123,7 @@ impl Operation {
                 wide,
                 vault: 0,
                 job: byte_at(input, at),
+                place: 0,
                 at,
                 end,
             },
@@ -129,9 +133,24 @@ impl Operation {
                 wide,
                 vault: byte_at(input, at),
                 job: byte_at(input, at + 1),
+                place: 0,
                 at,
                 end,
             },
+            Form::OfClient => {
+                let vault = byte_at(input, at);
+                let client = byte_at(input, at + 2);
+                Step {
+                    number,
+                    kind,
+                    wide,
+                    vault,
+                    job: byte_at(input, at + 1),
+                    place: quota::place(vault, client),
+                    at,
+                    end,
+                }
+            }
             Form::Unreadable => unreadable(input, number, at),
         }
     }
