@@ -303,7 +303,8 @@ module _ (w : World) (sh : Shape (w .ledger) (w .booked)) (size : ℕ) (beyond :
   change-client : (v k client : ℕ) → Moves (clientPreflight v k client) (carried l (clientPreflightDecision l journal v k client) v k)
   unfolding clientPreflightDecision clientPreflighting countedConsent vaultPreflight
   change-client v k client =
-      let decided = countedConsent (vaultAt l v) (admissionAt (vaultAt l v) (versionOf l) journal (l .booked) k) client (historyAt l v client) (signersOf l k) v k in
+      let admission = admissionAt (vaultAt l v) (versionOf l) journal (l .booked) k in
+      let decided = countedConsent (vaultAt l v) admission client (historyAt l v client) (signersOf l k) v k in
       behind (clientPreflight v k client) (vaultGate l journal v k false) _ v k
       (λ g. by-cases (λ b. Moves (clientPreflight v k client) (carried l (cond b decided (refusing NoClient)) v k)) (isClient client)
       (λ e. consents-counted v k client (historyAt l v client) (jobHas (vaultAt l v .signed) k) _ refl (entered l journal v k false g))

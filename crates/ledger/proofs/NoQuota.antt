@@ -135,7 +135,8 @@ module _ (l : Ledger) (journal : List ℕ) where
       showDecision generationsDecision snapshotDecision snapshotting releaseDecision releasing
   plain (propose bytes) e =
       behind (saneGate l) (proposal (versionOf l) journal (l .booked) bytes)
-      (behind (examined (versionOf l) bytes) (settling (versionOf l) journal (l .booked) bytes) (placed (equalIn (versionOf l) journal (l .booked) bytes) _ _ _))
+      (behind (examined (versionOf l) bytes) (settling (versionOf l) journal (l .booked) bytes)
+      (placed (equalIn (versionOf l) journal (l .booked) bytes) _ _ _))
   plain (preflight v k) e =
       let answer = vaultPreflight (vaultAt l v) (admissionAt (vaultAt l v) (versionOf l) journal (l .booked) k) k in
       behind (vaultGate l journal v k false) (preflighting (vaultAt l v) (versionOf l) journal (l .booked) (signersOf l k) v k)

@@ -75,12 +75,12 @@ all-over (suc n) a (inr m) = all-over n a m
 
 seen : asked 0 0 (start 1 0 0 1) busy [] ≡ replicate 12 turned ++ replicate 4 granted
 unfolding sameList anyBelow allBelow firstBelow sumFrom hasBit withBit withMember withoutBit jobHas jobWith jobWithout inputsFormed countsFormed isFilled
-    isBlank entryFormed trimmedFormed wellFormed hasLabelOf repeatedAt isWritten unsupportedAt balanced checkOf examined recordSize saysTrimmed
-    placeOf wholeIn leAt entryAt entriesAt jobOf isLabelAt labelIn isTapeAt makesTape isDrive supports labelOf framesOf isUsed usedFrames isBetween charAt isAlphanumeric mediumOf isLabel makesAt madeBy listsAt listedBy
-    notCreatedAt consumedAt madeBefore remadeAt admission isKnown isFederation isLawfulUpTo slotAt recordAt isBooked jobAt insideOf equalAt equalIn hasRoom putAt votesIn isSane
-    newLedger booking voted withVault counted historyAt applied gateOf saneGate vaultGate placing settling proposal proposeDecision journalAfter admissionAt
-    withinQuota countedConsent clientPreflighting clientPreflightDecision signing vaultPreflight isClient isSpent historyPlace remembered lend overlay after start
-    ones onesIn
+    isBlank entryFormed trimmedFormed wellFormed hasLabelOf repeatedAt isWritten unsupportedAt balanced checkOf examined recordSize saysTrimmed placeOf
+    wholeIn leAt entryAt entriesAt jobOf isLabelAt labelIn isTapeAt makesTape isDrive supports labelOf framesOf isUsed usedFrames isBetween charAt
+    isAlphanumeric mediumOf isLabel makesAt madeBy listsAt listedBy notCreatedAt consumedAt madeBefore remadeAt admission isKnown isFederation isLawfulUpTo
+    slotAt recordAt isBooked jobAt insideOf equalAt equalIn hasRoom putAt votesIn isSane newLedger booking voted withVault counted historyAt applied gateOf
+    saneGate vaultGate placing settling proposal proposeDecision journalAfter admissionAt withinQuota countedConsent clientPreflighting
+    clientPreflightDecision signing vaultPreflight isClient isSpent historyPlace remembered lend overlay after start ones onesIn
 seen = refl
 
 pub twelve : Twelve

@@ -2,6 +2,7 @@
 // the answer. Document 01 decides what they must be; `stdout` holds them.
 mod ages;
 mod checks;
+mod clients;
 mod releases;
 mod run;
 mod settings;
@@ -17,4 +18,5 @@ fn main() {
     ages::ages();
     releases::releases();
     versions::versions();
+    clients::clients();
 }

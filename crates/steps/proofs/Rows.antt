@@ -23,8 +23,19 @@ pub unknown-row : (version b : ℕ) (r : Operation) → (b ≡ 1 → ⊥) → (b
 unfolding operationOf kindOf
 unknown-row version b r a c d e f g h i j k m q =
     q
-    ∙ simp (ne-eqb b 1 a, ne-eqb b 2 c, ne-eqb b 3 d, ne-eqb b 4 e, ne-eqb b 5 f, ne-eqb b 6 g, ne-eqb b 7 h, ne-eqb b 8 i, ne-eqb b 9 j, ne-eqb b 10 k,
-    ne-eqb b 12 m)
+    ∙ simp (
+      ne-eqb b 1 a,
+      ne-eqb b 2 c,
+      ne-eqb b 3 d,
+      ne-eqb b 4 e,
+      ne-eqb b 5 f,
+      ne-eqb b 6 g,
+      ne-eqb b 7 h,
+      ne-eqb b 8 i,
+      ne-eqb b 9 j,
+      ne-eqb b 10 k,
+      ne-eqb b 12 m,
+    )
 
 -- ---- the table of kinds
 module _ (version : ℕ) (input : List ℕ) (pos number : ℕ) where

@@ -80,7 +80,8 @@ apply-requires c κs =
 loop-less-3 : tie.Need-loop-less-3 Inv-loop μ-loop
 loop-less-3 c =
     let t = c .before .before .before .before .before .before .before .before .before .before .before .before .before in
-    reads-on (t .before .before .before .before .before .before .before .before .before .before .before .before .before .before .before .before .step-at .ensures)
+    let n = t .before .before .before .before .before .before .before .before .before .before .before .before .before .before .before in
+    reads-on (n .before .step-at .ensures)
 
 loop-again-3 : tie.Need-loop-again-3 Inv-loop μ-loop
 loop-again-3 c =
