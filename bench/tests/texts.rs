@@ -67,8 +67,8 @@ fn files_are_as_large_as_meant() {
     }
     assert!(file("repeats").steps() - BOOK_RECORDS > 500);
     for refusal in 2..=REFUSALS as u8 {
-        // Its steps are those of document 01: no release.
-        let expected = !matches!(refusal, 2 | 13 | 19 | 20);
+        // Its steps are those of document 01: no release, no client.
+        let expected = !matches!(refusal, 2 | 13 | 19..=23);
         assert_eq!(file("mixed").refused(refusal) > 0, expected, "{refusal}");
     }
 }

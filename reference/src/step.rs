@@ -13,10 +13,11 @@ pub mod kind {
     pub const GENERATIONS: u8 = 8;
     pub const SNAPSHOT: u8 = 9;
     pub const RELEASE: u8 = 10;
+    pub const CLIENT_PREFLIGHT: u8 = 12;
 }
 
 /// Every kind and the length of its body in a version 1 file.
-pub const KINDS: [(u8, usize); 10] = [
+pub const KINDS: [(u8, usize); 11] = [
     (kind::PROPOSE, RECORD_BYTES),
     (kind::PREFLIGHT, 2),
     (kind::COMMIT, 4),
@@ -27,6 +28,7 @@ pub const KINDS: [(u8, usize); 10] = [
     (kind::GENERATIONS, 1),
     (kind::SNAPSHOT, 0),
     (kind::RELEASE, 3),
+    (kind::CLIENT_PREFLIGHT, 3),
 ];
 
 #[derive(Clone, PartialEq, Eq, Debug)]
@@ -67,6 +69,12 @@ pub enum Step {
         vault: u8,
         job: u8,
         rival: u8,
+    },
+    /// "a preflight from one of desks 0 to 7"
+    ClientPreflight {
+        vault: u8,
+        job: u8,
+        client: u8,
     },
 }
 
@@ -110,6 +118,9 @@ fn read_body(kind: u8, body: &[u8]) -> Step {
         (kind::GENERATIONS, &[job]) => Step::Generations { job },
         (kind::SNAPSHOT, &[]) => Step::Snapshot,
         (kind::RELEASE, &[vault, job, rival]) => Step::Release { vault, job, rival },
+        (kind::CLIENT_PREFLIGHT, &[vault, job, client]) => {
+            Step::ClientPreflight { vault, job, client }
+        }
         _ => unreachable!("kind {kind} has another length in the table"),
     }
 }
@@ -134,6 +145,7 @@ impl Step {
             Step::Generations { .. } => kind::GENERATIONS,
             Step::Snapshot => kind::SNAPSHOT,
             Step::Release { .. } => kind::RELEASE,
+            Step::ClientPreflight { .. } => kind::CLIENT_PREFLIGHT,
         }
     }
 
@@ -162,6 +174,9 @@ impl Step {
             Step::Draw { u } => bytes.push(*u),
             Step::Snapshot => {}
             Step::Release { vault, job, rival } => bytes.extend([*vault, *job, *rival]),
+            Step::ClientPreflight { vault, job, client } => {
+                bytes.extend([*vault, *job, *client]);
+            }
         }
         bytes
     }

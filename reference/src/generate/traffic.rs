@@ -1,6 +1,7 @@
 //! Traffic that makes sense, with its repeats and small mistakes.
 
 use super::build::Builder;
+use super::clients::{busy_client, odd_request};
 use super::records::{new_accession, new_migration, some_tapes};
 use super::releases::odd_release;
 use crate::settings::MOST_VAULTS;
@@ -42,6 +43,8 @@ pub fn action(builder: &mut Builder) {
         17 => misplaced(builder, job),
         18 | 19 => visit(builder),
         20 => odd_release(builder, job),
+        21 => odd_request(builder, job),
+        22 if builder.random.chance(25) => busy_client(builder),
         _ => look(builder, job),
     }
 }

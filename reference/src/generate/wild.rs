@@ -58,7 +58,8 @@ fn any_step(builder: &mut Builder) -> Step {
             builder.random.below(bound + 1) as u8
         }
     };
-    let first = if kind < kind::SHOW || kind == kind::RELEASE {
+    let at_vault = kind < kind::SHOW || kind == kind::RELEASE || kind == kind::CLIENT_PREFLIGHT;
+    let first = if at_vault {
         near(builder, n)
     } else {
         near(builder, booked.max(n))
@@ -71,10 +72,10 @@ fn any_step(builder: &mut Builder) -> Step {
         _ => builder.random.word() as u16 & builder.random.word() as u16,
     };
     let [low, high] = signers.to_le_bytes();
-    let third = if kind == kind::RELEASE {
-        near(builder, booked)
-    } else {
-        low
+    let third = match kind {
+        kind::RELEASE => near(builder, booked),
+        kind::CLIENT_PREFLIGHT => near(builder, 8),
+        _ => low,
     };
     let bytes = [kind, first, job, third, high];
     decode(builder.version(), &bytes)
