@@ -2,12 +2,12 @@
 ghost use mathlib.Core.Bool.{true};
 ghost use mathlib.Core.Path.{_≡_};
 ghost use Prim.Native.Nat.{_<_};
-ghost use Rattle.estimates.specs.Tighten.{lowerEnd, upperEnd, tightestIn, tightestBy, canBalance, tightestOf};
-ghost use Rattle.estimates.specs.Spans.{Meeting};
-use crate::Estimate;
-use crate::Range;
+ghost use Rattle.ranges.specs.Tighten.{lowerEnd, upperEnd, tightestIn, tightestBy, canBalance, tightestOf};
+ghost use Rattle.ranges.specs.Spans.{Meeting};
 use crate::spans;
-use crate::spans::Span;
+use ranges::Estimate;
+use ranges::Range;
+use ranges::Span;
 
 // What is missing where all else on its own side is at its most and the other side at its least.
 fn lower_end(own: Span, other: Span, range: Range) -> u32

@@ -2,10 +2,10 @@
 ghost use mathlib.Core.Path.{_≡_};
 ghost use Prim.Native.Nat.{_<_};
 ghost use Rattle.base.specs.Search.{allBelow};
-ghost use Rattle.estimates.specs.Form.{lowestJob, isBounded, withoutBalance, formOf};
-use crate::Estimate;
+ghost use Rattle.ranges.specs.Form.{lowestJob, isBounded, withoutBalance, formOf};
 use outcome::Refusal;
 use outcome::Verdict;
+use ranges::Estimate;
 use record::Entry;
 use record::Job;
 

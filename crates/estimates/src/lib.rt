@@ -1,6 +1,6 @@
-// Frame counts that are known only within ranges (document 02, M-110): whether some choice of counts balances, and each entry's tightest range.
+// An estimate is checked and tightened (document 02, M-110): whether some choice of counts balances, and each entry's tightest range.
 ghost use mathlib.Core.Path.{_≡_};
-ghost use Rattle.estimates.specs.Tighten.{firstFailing, checksOf, tightenOf};
+ghost use Rattle.ranges.specs.Tighten.{firstFailing, checksOf, tightenOf};
 
 mod ends;
 mod form;
@@ -8,29 +8,8 @@ mod spans;
 
 use outcome::Outcome;
 use outcome::Verdict;
-
-// At least `lowest` frames, and at most `highest`.
-pub struct Range {
-    pub lowest: u32,
-    pub highest: u32,
-}
-
-// A job as `Job` has it, with a range for each entry in place of its frames, and the exact count of frames that are trimmed.
-pub struct Estimate {
-    pub kind: u8,
-    pub drive: u8,
-    pub inputs: u8,
-    pub outputs: u8,
-    pub labels: [u64; 8],
-    pub ranges: [Range; 8],
-    pub trimmed: u32,
-}
-
-// Done with the value 0 and each entry's tightest range, or refused with the ranges as they were.
-pub struct Tightened {
-    pub outcome: Outcome,
-    pub ranges: [Range; 8],
-}
+use ranges::Estimate;
+use ranges::Tightened;
 
 fn first_failing(earlier: Verdict, later: Verdict) -> Verdict
     ensures { λ r. ⌜ r ≡ firstFailing earlier later ⌝ }

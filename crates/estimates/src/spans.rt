@@ -2,17 +2,12 @@
 ghost use mathlib.Core.Path.{_≡_};
 ghost use Prim.Native.Nat.{_+_, _≤_, _<_};
 ghost use Rattle.base.specs.Search.{firstBelow};
-ghost use Rattle.estimates.specs.Ranges.{low, high};
-ghost use Rattle.estimates.specs.Tighten.{spanOf, inflow, outflow, meets, canBalance, isReversed, orderOf, balanceOf};
-use crate::Estimate;
+ghost use Rattle.ranges.specs.Ranges.{low, high};
+ghost use Rattle.ranges.specs.Tighten.{spanOf, inflow, outflow, meets, canBalance, isReversed, orderOf, balanceOf};
 use outcome::Refusal;
 use outcome::Verdict;
-
-// The least that can go in and the most; or that can come out, with what is trimmed. Five numbers of 32 bits fit 64.
-pub(crate) struct Span {
-    pub(crate) least: u64,
-    pub(crate) most: u64,
-}
+use ranges::Estimate;
+use ranges::Span;
 
 pub(crate) fn wide(x: u32) -> u64
     ensures { λ r. ⌜ (r ≡ x) × (r ≤ 4294967295) ⌝ }

@@ -37,8 +37,8 @@ use Rattle.runfile.specs.declared.Kind.the-variants.{ClientPreflight, Commit, D
 use Rattle.runfile.specs.declared.Kind.the-variants.{Release, Show, Snapshot, Unknown}
 use Rattle.quota.specs.Quota.{historyPlace}
 use Rattle.steps.proofs.Quiet.{Bookless}
-use Rattle.steps.specs.Decided.{bookedOr, decidedBy, historyOf, jobOf, surveyed, vaultOf}
-use Rattle.steps.specs.Reading.{isWide}
+use Rattle.steps.specs.Decided.{bookedOr, decidedBy, surveyed}
+use Rattle.reading.specs.Reading.{historyOf, isWide, jobOf, vaultOf}
 use Rattle.steps.specs.declared.Books.{Books}
 use Rattle.steps.specs.declared.View.{View}
 

@@ -25,11 +25,10 @@ use Rattle.runfile.specs.Steps.{Command, commandIn, journalBy, replyOf, stepAt}
 use Rattle.runfile.specs.declared.Kind.{Kind}
 use Rattle.runfile.specs.declared.Kind.the-variants.{Propose}
 use Rattle.steps.proofs.Quiet.{Bookless, books, writable}
-use Rattle.steps.specs.Decided.{jobOf, vaultOf}
-use Rattle.steps.specs.Reading.{Asked, Read, isWide}
+use Rattle.reading.specs.Reading.{Asked, Read, isWide, jobOf, vaultOf}
 use Rattle.steps.specs.Stored.{Stored}
 use Rattle.steps.specs.Turned.{CarriedOut, Said, Surveyed, decisionAt, longestText, recordIn}
-use Rattle.steps.specs.declared.Step.{Step}
+use Rattle.reading.specs.declared.Step.{Step}
 use Rattle.steps.specs.declared.Told.{Told}
 use Rattle.steps.specs.declared.View.{View}
 use Rattle.run.proofs.Commands.{There, booksOf, commandDecision, decided-is, left-by, reply-ledger, reply-outcome, there, viewAt}

@@ -30,8 +30,8 @@ pub(crate) fn settings_in(input: &[u8]) -> Settings
     Settings {
         n: input[5],
         b: input[6],
-        faulty: steps::word_at(input, 7),
-        version: steps::word_at(input, 3),
+        faulty: reading::word_at(input, 7),
+        version: reading::word_at(input, 3),
     }
 }
 

@@ -88,7 +88,7 @@ pub fn advance(
             return standing(ledger, pos, count, at);
         }
         count += 1;
-        let step = steps::step_at(ledger.settings.version, input, pos, count);
+        let step = reading::step_at(ledger.settings.version, input, pos, count);
         pos = step.end;
         if step.wide {
             let order = &ledger.order;

@@ -34,10 +34,10 @@ use Rattle.runfile.specs.Steps.{Command, commandIn, draw, request, unreadable, 
 use Rattle.runfile.specs.declared.Kind.{Kind}
 use Rattle.runfile.specs.declared.Kind.the-variants.{ClientPreflight, Commit, Draw, FaultyAcknowledge, FaultySign, Generations, Preflight, Propose}
 use Rattle.runfile.specs.declared.Kind.the-variants.{Release, Show, Snapshot, Unknown}
-use Rattle.steps.specs.Decided.{Answered, bookedOr, decidedBy, gateBy, jobOf, vaultOf}
-use Rattle.steps.specs.Reading.{Asked}
+use Rattle.steps.specs.Decided.{Answered, bookedOr, decidedBy, gateBy}
+use Rattle.reading.specs.Reading.{Asked, jobOf, vaultOf}
 use Rattle.steps.specs.declared.Books.{Books}
-use Rattle.steps.specs.declared.Step.{Step}
+use Rattle.reading.specs.declared.Step.{Step}
 use Rattle.steps.specs.declared.View.{View}
 
 -- all booked records lie inside a run's journal

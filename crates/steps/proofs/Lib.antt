@@ -1,5 +1,4 @@
 pub mod Arms
 pub mod Quiet
 pub mod Records
-pub mod Rows
 pub mod Turns

@@ -11,7 +11,7 @@ use Rattle.steps.specs.Decided.{Answered}
 use Rattle.steps.specs.Stored.{Stored}
 use Rattle.steps.specs.Turned.{CarriedOut, Said, Surveyed, decisionAt, longestText, recordIn}
 use Rattle.steps.specs.declared.Books.{Books}
-use Rattle.steps.specs.declared.Step.{Step}
+use Rattle.reading.specs.declared.Step.{Step}
 use Rattle.steps.specs.declared.View.{View}
 
 told : (number : ℕ) (o : Outcome) (d : Decision) (out : List ℕ) (at : ℕ) (out′ : List ℕ) (r : ℕ) → o ≡ d .outcome → Put out at (lineFor number o) out′ r

@@ -15,43 +15,14 @@ use Rattle.draw.specs.Draw.{drawOf}
 use Rattle.ledger.specs.Decisions.{ageing, answering, clientPreflighting, committing, gated, preflighting}
 use Rattle.ledger.specs.Decisions.{proposal, refusing, releasing, snapshotting, statusOf, voting}
 use Rattle.ledger.specs.Holders.{isHeld}
-use Rattle.quota.specs.Quota.{historyPlace}
 use Rattle.ledger.specs.Steps.{gateOf}
 use Rattle.vaults.specs.Votes.{columnOf}
-use Rattle.ledger.specs.Worlds.{Request, clientPreflight, commit, faultyVote, generations, jobIn, preflight, propose, release, show, snapshot, vaultIn}
+use Rattle.ledger.specs.Worlds.{Request, clientPreflight, commit, faultyVote, generations, preflight, propose, release, show, snapshot}
 use Rattle.ledger.specs.declared.Change.the-variants.{Nothing, Record}
 use Rattle.ledger.specs.declared.Decision.{Decision}
 use Rattle.runfile.specs.Steps.{Command, draw, request, unreadable}
 use Rattle.steps.specs.declared.Books.{Books}
 use Rattle.steps.specs.declared.View.{View}
-
--- the vault and the job that a command names
-abbrev pub vaultOf : Command → ℕ
-vaultOf (request q) = vaultIn q
-vaultOf (draw u) = 0
-vaultOf unreadable = 0
-
-abbrev pub jobOf : Command → ℕ
-jobOf (request q) = jobIn q
-jobOf (draw u) = u
-jobOf unreadable = 0
-
--- the place of the history of the client that a command names, 0 where it names none
-abbrev pub placeIn : Request → ℕ
-placeIn (propose bytes) = 0
-placeIn (preflight v job) = 0
-placeIn (commit v job signers) = 0
-placeIn (faultyVote column v job) = 0
-placeIn (show job) = 0
-placeIn (generations job) = 0
-placeIn snapshot = 0
-placeIn (release v job rival) = 0
-placeIn (clientPreflight v job client) = historyPlace v client
-
-abbrev pub historyOf : Command → ℕ
-historyOf (request q) = placeIn q
-historyOf (draw u) = 0
-historyOf unreadable = 0
 
 -- check 4 alone
 unfoldable pub bookedOr : Bool → Verdict

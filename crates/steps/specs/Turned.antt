@@ -12,7 +12,7 @@ use Rattle.text.specs.Text.{Put, lineFor, longestLine}
 use Rattle.steps.specs.Decided.{decidedBy, surveyed}
 use Rattle.steps.specs.Stored.{Stored}
 use Rattle.steps.specs.declared.Books.{Books}
-use Rattle.steps.specs.declared.Step.{Step}
+use Rattle.reading.specs.declared.Step.{Step}
 use Rattle.steps.specs.declared.Told.{Told}
 use Rattle.steps.specs.declared.View.{View}
 

@@ -6,16 +6,15 @@ ghost use Rattle.generations.specs.Memo.{Ready};
 ghost use Rattle.journal.specs.Journal.{isBooked};
 ghost use Rattle.runfile.specs.Steps.{commandIn};
 ghost use Rattle.steps.specs.Decided.{Answered, bookedOr, decidedBy, gateBy};
-ghost use Rattle.steps.specs.Reading.{Asked};
+ghost use Rattle.reading.specs.Reading.{Asked};
 use crate::Books;
-use crate::Step;
 use crate::View;
-use crate::reading;
 use ledger::Change;
 use ledger::Decision;
 use outcome::Outcome;
 use outcome::Refusal;
 use outcome::Verdict;
+use reading::Step;
 use runfile::Kind;
 use vaults::Column;
 

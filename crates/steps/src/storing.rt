@@ -6,7 +6,6 @@ ghost use Rattle.index.specs.Index.{Indexed};
 ghost use Rattle.ledger.specs.Given.{Writable};
 ghost use Rattle.runfile.specs.Run.{longest};
 ghost use Rattle.steps.specs.Stored.{Stored};
-use crate::reading;
 use ledger::Change;
 
 pub(crate) fn store(

@@ -3,14 +3,14 @@ ghost use Prim.Native.Nat.{_+_, _<_, _≤_};
 ghost use lib.ListN.{length};
 ghost use Rattle.index.specs.Index.{Indexed};
 ghost use Rattle.generations.specs.Memo.{Ready};
-ghost use Rattle.steps.specs.Reading.{Asked};
+ghost use Rattle.reading.specs.Reading.{Asked};
 ghost use Rattle.steps.specs.Turned.{CarriedOut, Surveyed, longestText};
 use crate::Books;
-use crate::Step;
 use crate::Told;
 use crate::View;
 use crate::deciding;
 use crate::storing;
+use reading::Step;
 
 // A step that looks at one vault.
 pub fn carry_out(

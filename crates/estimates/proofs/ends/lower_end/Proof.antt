@@ -2,7 +2,7 @@
 use native.Mathlib.Omega.{arith}
 use borrow.Author.Needs.{needs}
 use Rattle.estimates.proofs.ends.lower_end.Statement.{statement}
-use Rattle.estimates.specs.Tighten.{lowerEnd}
+use Rattle.ranges.specs.Tighten.{lowerEnd}
 use Rattle.estimates.proofs.ends.lower_end.Tie as tie
 
 pub lower-end-spec : {M : Type 1} → statement M

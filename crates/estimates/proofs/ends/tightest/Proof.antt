@@ -6,10 +6,10 @@ use lib.ListN.{length, length-set}
 use borrow.Author.Needs.{needs}
 use borrow.Author.Tests.{eq-eqb, ne-eqb}
 use Rattle.record.proofs.Eight.{length-mapped}
-use Rattle.estimates.proofs.Lists.{list-end, list-next, list-start}
-use Rattle.estimates.proofs.Meets.{Narrowing, meeting}
+use Rattle.ranges.proofs.Lists.{list-end, list-next, list-start}
+use Rattle.ranges.proofs.Meets.{Narrowing, meeting}
 use Rattle.estimates.proofs.ends.tightest.Statement.{statement}
-use Rattle.estimates.specs.Tighten.{tightestAt, tightestOf}
+use Rattle.ranges.specs.Tighten.{tightestAt, tightestOf}
 use Rattle.estimates.proofs.ends.tightest.Tie as tie
 
 abbrev Inv-loop : tie.InvT-loop

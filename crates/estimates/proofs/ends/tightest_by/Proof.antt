@@ -2,7 +2,7 @@
 use borrow.Author.Needs.{needs}
 use borrow.Author.Tests.{le-ltb, lt-ltb}
 use Rattle.estimates.proofs.ends.tightest_by.Statement.{statement}
-use Rattle.estimates.specs.Tighten.{tightestBy}
+use Rattle.ranges.specs.Tighten.{tightestBy}
 use Rattle.estimates.proofs.ends.tightest_by.Tie as tie
 
 pub tightest-by-spec : {M : Type 1} → statement M

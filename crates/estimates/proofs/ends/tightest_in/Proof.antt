@@ -1,7 +1,7 @@
 -- The two ends are what the callees found.
 use borrow.Author.Needs.{needs}
 use Rattle.estimates.proofs.ends.tightest_in.Statement.{statement}
-use Rattle.estimates.specs.Tighten.{tightestIn}
+use Rattle.ranges.specs.Tighten.{tightestIn}
 use Rattle.estimates.proofs.ends.tightest_in.Tie as tie
 
 pub tightest-in-spec : {M : Type 1} → statement M

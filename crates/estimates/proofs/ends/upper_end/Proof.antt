@@ -2,7 +2,7 @@
 use native.Mathlib.Omega.{arith}
 use borrow.Author.Needs.{needs}
 use Rattle.estimates.proofs.ends.upper_end.Statement.{statement}
-use Rattle.estimates.specs.Tighten.{upperEnd}
+use Rattle.ranges.specs.Tighten.{upperEnd}
 use Rattle.estimates.proofs.ends.upper_end.Tie as tie
 
 pub upper-end-spec : {M : Type 1} → statement M

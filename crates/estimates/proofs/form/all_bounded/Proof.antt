@@ -5,7 +5,7 @@ use Prim.Native.Nat.{_-_, _≤_}
 use Rattle.base.proofs.Search.{loops}
 use Rattle.base.specs.Search.{allBelow}
 use Rattle.estimates.proofs.form.all_bounded.Statement.{statement}
-use Rattle.estimates.specs.Form.{isBounded}
+use Rattle.ranges.specs.Form.{isBounded}
 use Rattle.estimates.proofs.form.all_bounded.Tie as tie
 
 pub all-bounded-spec : {M : Type 1} → statement M

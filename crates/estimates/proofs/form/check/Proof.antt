@@ -2,7 +2,7 @@
 use mathlib.Core.Path.{_∙_, sym}
 use borrow.Author.Needs.{needs}
 use Rattle.estimates.proofs.form.check.Statement.{statement}
-use Rattle.estimates.specs.Form.{formOf}
+use Rattle.ranges.specs.Form.{formOf}
 use Rattle.estimates.proofs.form.check.Tie as tie
 
 pub check-spec : {M : Type 1} → statement M

@@ -2,7 +2,7 @@
 use borrow.Author.Needs.{needs}
 use Rattle.base.proofs.Tests.{chain}
 use Rattle.estimates.proofs.form.is_bounded.Statement.{statement}
-use Rattle.estimates.specs.Form.{isBounded}
+use Rattle.ranges.specs.Form.{isBounded}
 use Rattle.estimates.proofs.form.is_bounded.Tie as tie
 
 pub is-bounded-spec : {M : Type 1} → statement M

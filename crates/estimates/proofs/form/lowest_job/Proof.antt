@@ -5,10 +5,10 @@ use native.Mathlib.Omega.{arith}
 use lib.ListN.{length, length-set}
 use lib.Seq.{sets}
 use borrow.Author.Needs.{needs}
-use Rattle.estimates.proofs.Lists.{list-end, list-next, list-start}
+use Rattle.ranges.proofs.Lists.{list-end, list-next, list-start}
 use Rattle.estimates.proofs.form.lowest_job.Statement.{statement}
-use Rattle.estimates.specs.Form.{lowestEntry, lowestJob}
-use Rattle.estimates.specs.Ranges.{listFrom}
+use Rattle.ranges.specs.Form.{lowestEntry, lowestJob}
+use Rattle.ranges.specs.Ranges.{listFrom}
 use Rattle.estimates.proofs.form.lowest_job.Tie as tie
 
 abbrev Inv-loop : tie.InvT-loop

@@ -2,7 +2,7 @@
 use borrow.Author.Needs.{needs}
 use borrow.Author.Tests.{eq-eqb, ne-eqb}
 use Rattle.estimates.proofs.spans.can_balance.Statement.{statement}
-use Rattle.estimates.specs.Tighten.{canBalance}
+use Rattle.ranges.specs.Tighten.{canBalance}
 use Rattle.estimates.proofs.spans.can_balance.Tie as tie
 
 pub can-balance-spec : {M : Type 1} → statement M

@@ -2,7 +2,7 @@
 use borrow.Author.Needs.{needs}
 use Rattle.base.proofs.Tests.{chain}
 use Rattle.estimates.proofs.spans.check_balance.Statement.{statement}
-use Rattle.estimates.specs.Tighten.{balanceOf}
+use Rattle.ranges.specs.Tighten.{balanceOf}
 use Rattle.estimates.proofs.spans.check_balance.Tie as tie
 
 pub check-balance-spec : {M : Type 1} → statement M

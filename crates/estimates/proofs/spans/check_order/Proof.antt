@@ -2,7 +2,7 @@
 use borrow.Author.Needs.{needs}
 use borrow.Author.Tests.{le-ltb, lt-ltb}
 use Rattle.estimates.proofs.spans.check_order.Statement.{statement}
-use Rattle.estimates.specs.Tighten.{orderOf}
+use Rattle.ranges.specs.Tighten.{orderOf}
 use Rattle.estimates.proofs.spans.check_order.Tie as tie
 
 pub check-order-spec : {M : Type 1} → statement M

@@ -2,7 +2,7 @@
 use Prim.Native.Nat.{_-_}
 use Rattle.base.proofs.Search.{NoneBefore, loops}
 use Rattle.estimates.proofs.spans.first_reversed.Statement.{statement}
-use Rattle.estimates.specs.Tighten.{isReversed}
+use Rattle.ranges.specs.Tighten.{isReversed}
 use Rattle.estimates.proofs.spans.first_reversed.Tie as tie
 
 pub first-reversed-spec : {M : Type 1} → statement M

@@ -7,8 +7,8 @@ use borrow.Author.Needs.{needs}
 use Rattle.base.proofs.Search.{sum-end, sum-next}
 use Rattle.base.specs.Search.{sumFrom}
 use Rattle.estimates.proofs.spans.half_span.Statement.{statement}
-use Rattle.estimates.specs.Ranges.{high, low}
-use Rattle.estimates.specs.Tighten.{spanOf}
+use Rattle.ranges.specs.Ranges.{high, low}
+use Rattle.ranges.specs.Tighten.{spanOf}
 use Rattle.estimates.proofs.spans.half_span.Tie as tie
 
 abbrev Inv-loop : tie.InvT-loop

@@ -1,7 +1,7 @@
 -- The comparison is `isReversed`.
 use borrow.Author.Needs.{needs}
 use Rattle.estimates.proofs.spans.is_reversed.Statement.{statement}
-use Rattle.estimates.specs.Tighten.{isReversed}
+use Rattle.ranges.specs.Tighten.{isReversed}
 use Rattle.estimates.proofs.spans.is_reversed.Tie as tie
 
 pub is-reversed-spec : {M : Type 1} → statement M

@@ -1,7 +1,7 @@
 -- Each return is one way through the tests of `meets`.
 use Rattle.base.proofs.Tests.{chain}
 use Rattle.estimates.proofs.spans.meet.Statement.{statement}
-use Rattle.estimates.specs.Tighten.{meets}
+use Rattle.ranges.specs.Tighten.{meets}
 use Rattle.estimates.proofs.spans.meet.Tie as tie
 
 pub meet-spec : {M : Type 1} → statement M

@@ -1,7 +1,7 @@
 -- Outputs are entries 4 to 7, and what is trimmed is added to them.
 use borrow.Author.Needs.{needs}
 use Rattle.estimates.proofs.spans.outward.Statement.{statement}
-use Rattle.estimates.specs.Tighten.{outflow}
+use Rattle.ranges.specs.Tighten.{outflow}
 use Rattle.estimates.proofs.spans.outward.Tie as tie
 
 pub outward-spec : {M : Type 1} → statement M
