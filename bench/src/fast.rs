@@ -28,6 +28,13 @@ pub fn run(input: &[u8], out: &mut Vec<u8>) {
 fn take_steps<'a>(mut ledger: Ledger<'a>, mut rest: &'a [u8], out: &mut Vec<u8>) {
     let mut lines = Lines::new(out, rest.len());
     while !rest.is_empty() {
+        if let [kind::DEPENDENCIES, vault, job, ref after @ ..] = *rest {
+            let (answer, jobs) = ledger.dependencies(vault, job);
+            lines.put(answer);
+            lines.list(jobs);
+            rest = after;
+            continue;
+        }
         match step(&mut ledger, rest) {
             Some((answer, after)) => {
                 lines.put(answer);

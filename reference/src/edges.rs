@@ -39,6 +39,10 @@ pub fn all() -> Vec<Edge> {
         edge("nothing but visits", visits(), &[(0, 0); 65_527]),
         edge("a superseded signature", superseded(), &SUPERSEDED),
         edge("rivals by an output", remade(), &REMADE),
+        missing_after_whole_run(),
+        edge("missing before any commit", unheld(), &UNHELD),
+        missing_makers(),
+        edge("makers in the way", in_the_way(), &IN_THE_WAY),
         edge("a busy client", busy(), &busy_answers()),
         edge("a client beside others", beside(), &BESIDE),
         edge("a draw of 937.5", a_half(1), &[(0, 938)]),
@@ -432,6 +436,162 @@ const REMADE: [Answer; 13] = [
     (0, 1),
     (14, 4),
     (0, 1),
+];
+
+/// Document 02, M-108, after document 01's run: vault 1 lacks job 0 for job 1; vault 0 has signed both; vault 2 is handed job 0, which it never signed and
+/// so can never sign, and lacks nothing for job 1.
+fn missing_after_whole_run() -> Edge {
+    let mut file = whole_run();
+    let steps = [
+        dependencies(1, 1),
+        dependencies(0, 1),
+        dependencies(1, 0),
+        commit(2, 0, 11),
+        dependencies(2, 0),
+        dependencies(2, 1),
+        dependencies(3, 1),
+        dependencies(4, 1),
+        dependencies(0, 2),
+    ];
+    file.extend(steps.iter().flat_map(Step::encode));
+    let more = "13 0 1\n0\n14 0 0\n15 0 0\n16 0 2\n17 21 0\n18 0 0\n19 5 0\n20 3 0\n21 4 0\n";
+    Edge {
+        name: "missing after one run whole",
+        file,
+        text: whole_text().to_string() + more,
+    }
+}
+
+/// A faulty vault's acknowledgement supplies nothing.
+fn unheld() -> Vec<u8> {
+    let (old, new) = ((b"VAA001L7", 9), (b"VAB001L7", 9));
+    let steps = [
+        propose(record(0, 7, &[], &[old])),
+        propose(record(1, 7, &[old], &[new])),
+        dependencies(0, 1),
+        dependencies(0, 0),
+        faulty_acknowledgement(3, 0),
+        dependencies(0, 1),
+    ];
+    run_file(4, 1, 8, &steps)
+}
+
+const UNHELD: [Answer; 6] = [(0, 0), (0, 1), (21, 0), (0, 0), (0, 1), (21, 0)];
+
+/// Job 4 takes the tapes of jobs 0 to 3, job 5 one of them with other frames. Vault 0 holds jobs 1 and 3, vault 1 all four, vault 2 none. Job 6 takes what job
+/// 4 makes, which nobody holds.
+fn missing_makers() -> Edge {
+    let tapes: [Written; 4] = [
+        (b"AAAAAAL7", 1),
+        (b"BBBBBBL7", 2),
+        (b"CCCCCCL7", 3),
+        (b"DDDDDDL7", 4),
+    ];
+    let mut steps: Vec<Step> = tapes
+        .iter()
+        .map(|tape| propose(record(0, 7, &[], &[*tape])))
+        .collect();
+    steps.push(propose(record(1, 7, &tapes, &[(b"EEEEEEL7", 10)])));
+    steps.push(propose(record(
+        1,
+        7,
+        &[(b"AAAAAAL7", 2)],
+        &[(b"FFFFFFL7", 2)],
+    )));
+    steps.push(propose(record(
+        1,
+        7,
+        &[(b"EEEEEEL7", 10)],
+        &[(b"GGGGGGL7", 10)],
+    )));
+    for job in 0..4 {
+        steps.extend((0..3).map(|vault| preflight(vault, job)));
+        steps.push(commit(1, job, 7));
+        if job % 2 == 1 {
+            steps.push(commit(0, job, 7));
+        }
+    }
+    steps.extend([
+        dependencies(2, 4),
+        dependencies(0, 4),
+        dependencies(1, 4),
+        dependencies(0, 5),
+        dependencies(0, 6),
+    ]);
+    let mut text = String::new();
+    for i in 1..=7 {
+        writeln!(text, "{i} 0 {}", i - 1).expect("a string takes all");
+    }
+    let mut i = 8;
+    for job in 0..4 {
+        for value in [1, 2, 3, 1] {
+            writeln!(text, "{i} 0 {value}").expect("a string takes all");
+            i += 1;
+        }
+        if job % 2 == 1 {
+            writeln!(text, "{i} 0 2").expect("a string takes all");
+            i += 1;
+        }
+    }
+    text += "26 0 4\n0\n1\n2\n3\n27 0 2\n0\n2\n28 0 0\n29 21 0\n30 21 0\n";
+    Edge {
+        name: "four makers missing, and two",
+        file: run_file(4, 1, 0, &steps),
+        text,
+    }
+}
+
+/// Job 1 makes two tapes and retires the one it takes, A. Job 2 takes A and one of the two; job 3 takes one and makes the other's label; job 4 takes one alone.
+/// Vault 3 holds job 0, which made A and B, and not job 1.
+fn in_the_way() -> Vec<u8> {
+    let (a, b) = ((b"AAAAAAL7", 9), (b"BBBBBBL7", 5));
+    let (c, d) = ((b"CCCCCCL7", 4), (b"DDDDDDL7", 5));
+    let mut steps = vec![
+        propose(record(0, 7, &[], &[a, b])),
+        propose(record(1, 7, &[a], &[c, d])),
+        propose(record(1, 7, &[a, c], &[(b"EEEEEEL7", 13)])),
+        propose(record(1, 7, &[c], &[(b"DDDDDDL7", 4)])),
+        propose(record(1, 7, &[c], &[(b"FFFFFFL7", 4)])),
+    ];
+    steps.extend((0..3).map(|vault| preflight(vault, 0)));
+    steps.extend((0..4).map(|vault| commit(vault, 0, 7)));
+    steps.extend((0..3).map(|vault| preflight(vault, 1)));
+    steps.extend([
+        commit(0, 1, 7),
+        dependencies(3, 2),
+        dependencies(3, 3),
+        dependencies(3, 1),
+        dependencies(0, 4),
+        dependencies(3, 0),
+    ]);
+    run_file(4, 1, 0, &steps)
+}
+
+const IN_THE_WAY: [Answer; 21] = [
+    (0, 0),
+    (0, 1),
+    (0, 2),
+    (0, 3),
+    (0, 4),
+    (0, 1),
+    (0, 2),
+    (0, 3),
+    (0, 1),
+    (0, 2),
+    (0, 3),
+    (0, 4),
+    (0, 1),
+    (0, 2),
+    (0, 3),
+    (0, 1),
+    // Each input has a maker, which retires the other.
+    (21, 0),
+    // The maker makes the output's label too.
+    (21, 0),
+    (0, 0),
+    (0, 0),
+    // Held, and not signed.
+    (21, 0),
 ];
 
 /// Six accessions of one tape each, booked at one vault that is correct.

@@ -1,6 +1,8 @@
 //! The ledger: the book, the vaults, signatures, acknowledgements and the
 //! arrival order, and what each kind of step does to them.
 
+mod dependencies;
+
 use crate::draw::thousandths;
 use crate::record::{check, Bytes, Kind, Record};
 use crate::refusal::{first_offender, plain, Answer, Refusal};
@@ -29,6 +31,8 @@ pub struct Engine {
     next: usize,
     /// The jobs that this round of the snapshot has seen.
     seen: BTreeSet<usize>,
+    /// The jobs that the last step lists, ascending.
+    pub listed: Vec<usize>,
     /// The counted requests of a client at a vault: whether each brought a
     /// new signature.
     requests: BTreeMap<(usize, u8), Vec<bool>>,
@@ -46,11 +50,13 @@ impl Engine {
             generations: Vec::new(),
             next: 0,
             seen: BTreeSet::new(),
+            listed: Vec::new(),
             requests: BTreeMap::new(),
         }
     }
 
     pub fn take(&mut self, step: &Step) -> Answer {
+        self.listed.clear();
         match step {
             Step::Propose { record } => self.propose(record),
             Step::Preflight { vault, job } => self.preflight(*vault, *job),
@@ -66,6 +72,7 @@ impl Engine {
             Step::Generations { job } => self.generations(*job),
             Step::Snapshot => self.snapshot(),
             Step::Release { vault, job, rival } => self.release(*vault, *job, *rival),
+            Step::Dependencies { vault, job } => self.dependencies(*vault, *job),
             Step::ClientPreflight { vault, job, client } => {
                 self.client_preflight(*vault, *job, *client)
             }
@@ -296,7 +303,7 @@ impl Engine {
         Ok(usize::from(job))
     }
 
-    /// Check 5 for kinds 2, 3, 10 and 12.
+    /// Check 5 for kinds 2, 3 and 10 to 12.
     fn must_be_sound(&self, vault: usize) -> Result<(), Refusal> {
         if self.settings.is_faulty(vault as u64) {
             return Err(plain(5));

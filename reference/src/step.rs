@@ -13,11 +13,12 @@ pub mod kind {
     pub const GENERATIONS: u8 = 8;
     pub const SNAPSHOT: u8 = 9;
     pub const RELEASE: u8 = 10;
+    pub const DEPENDENCIES: u8 = 11;
     pub const CLIENT_PREFLIGHT: u8 = 12;
 }
 
 /// Every kind and the length of its body in a version 1 file.
-pub const KINDS: [(u8, usize); 11] = [
+pub const KINDS: [(u8, usize); 12] = [
     (kind::PROPOSE, RECORD_BYTES),
     (kind::PREFLIGHT, 2),
     (kind::COMMIT, 4),
@@ -28,6 +29,7 @@ pub const KINDS: [(u8, usize); 11] = [
     (kind::GENERATIONS, 1),
     (kind::SNAPSHOT, 0),
     (kind::RELEASE, 3),
+    (kind::DEPENDENCIES, 2),
     (kind::CLIENT_PREFLIGHT, 3),
 ];
 
@@ -69,6 +71,11 @@ pub enum Step {
         vault: u8,
         job: u8,
         rival: u8,
+    },
+    /// "Which papers must a vault see first."
+    Dependencies {
+        vault: u8,
+        job: u8,
     },
     /// "a preflight from one of desks 0 to 7"
     ClientPreflight {
@@ -118,6 +125,7 @@ fn read_body(kind: u8, body: &[u8]) -> Step {
         (kind::GENERATIONS, &[job]) => Step::Generations { job },
         (kind::SNAPSHOT, &[]) => Step::Snapshot,
         (kind::RELEASE, &[vault, job, rival]) => Step::Release { vault, job, rival },
+        (kind::DEPENDENCIES, &[vault, job]) => Step::Dependencies { vault, job },
         (kind::CLIENT_PREFLIGHT, &[vault, job, client]) => {
             Step::ClientPreflight { vault, job, client }
         }
@@ -145,6 +153,7 @@ impl Step {
             Step::Generations { .. } => kind::GENERATIONS,
             Step::Snapshot => kind::SNAPSHOT,
             Step::Release { .. } => kind::RELEASE,
+            Step::Dependencies { .. } => kind::DEPENDENCIES,
             Step::ClientPreflight { .. } => kind::CLIENT_PREFLIGHT,
         }
     }
@@ -161,7 +170,8 @@ impl Step {
             Step::Propose { record } => bytes.extend(&record[..record_bytes(version)]),
             Step::Preflight { vault, job }
             | Step::FaultySignature { vault, job }
-            | Step::FaultyAcknowledgement { vault, job } => bytes.extend([*vault, *job]),
+            | Step::FaultyAcknowledgement { vault, job }
+            | Step::Dependencies { vault, job } => bytes.extend([*vault, *job]),
             Step::Commit {
                 vault,
                 job,

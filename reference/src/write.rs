@@ -125,3 +125,7 @@ pub fn client_preflight(vault: u8, job: u8, client: u8) -> Step {
 pub fn generations(job: u8) -> Step {
     Step::Generations { job }
 }
+
+pub fn dependencies(vault: u8, job: u8) -> Step {
+    Step::Dependencies { vault, job }
+}

@@ -242,6 +242,25 @@ impl<'a> Ledger<'a> {
         Answer::done(booked.signatures.count.into())
     }
 
+    /// The jobs that the vault misses, and how many they are.
+    #[inline]
+    pub fn dependencies(&self, vault: u8, job: u8) -> (Answer, Jobs) {
+        if let Some(refusal) = self.gate(vault, job, false) {
+            return (refusal, 0);
+        }
+        let mut state = self.vaults[usize::from(vault)];
+        if state.signed >> job & 1 == 1 {
+            return (Answer::done(0), 0);
+        }
+        let tapes = &self.jobs[usize::from(job)].tapes;
+        let missing = self.index.missing(state.held, self.arrived, tapes);
+        state.held |= missing;
+        match self.index.refusal(state, tapes) {
+            Some(_) => (Answer::refused(21, 0), 0),
+            None => (Answer::done(missing.count_ones() as u16), missing),
+        }
+    }
+
     #[inline]
     pub fn client_preflight(&mut self, vault: u8, job: u8, client: u8) -> Answer {
         if let Some(refusal) = self.gate(vault, job, false) {

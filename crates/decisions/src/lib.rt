@@ -1,6 +1,7 @@
 // What a step decides, from the pieces that it names: the verdict of the checks before, a vault, the votes on a job. The ledger's
 // operations and the run share these functions.
 mod clients;
+mod missing;
 mod releases;
 
 ghost use mathlib.Core.Bool.{_&&_, not};
@@ -38,6 +39,8 @@ pub use clients::client_preflight;
 use federation::Settings;
 use ledger::Change;
 use ledger::Decision;
+pub use missing::dependencies;
+pub use missing::unlist;
 use outcome::Outcome;
 use outcome::Refusal;
 use outcome::Verdict;

@@ -78,6 +78,8 @@ use Rattle.ledger.specs.Steps.{
   carried,
   clientPreflightDecision,
   commitDecision,
+  dependenciesDecision,
+  dependenciesOf,
   faultyVoteDecision,
   generationsDecision,
   journalAfter,
@@ -98,6 +100,7 @@ use Rattle.ledger.specs.Worlds.{
   after,
   clientPreflight,
   commit,
+  dependencies,
   faultyVote,
   generations,
   leftBy,
@@ -111,7 +114,7 @@ use Rattle.ledger.specs.Worlds.{
   snapshot,
   stepOf,
 }
-use Rattle.ledger.specs.declared.Change.the-variants.{Count, Grant, Hold, Record, Release, Sign}
+use Rattle.ledger.specs.declared.Change.the-variants.{Count, Grant, Hold, Nothing, Record, Release, Sign}
 use Rattle.vaults.specs.declared.Column.{Column}
 use Rattle.vaults.specs.declared.Column.the-variants.{Acknowledgements, Signatures}
 use Rattle.vaults.specs.declared.Consent.the-variants.{Already}
@@ -170,6 +173,7 @@ Idle w (show k) = Unit {0}
 Idle w (generations k) = Unit {0}
 Idle w snapshot = ⊥
 Idle w (release v k rival) = ⊥
+Idle w (dependencies v k) = Unit {0}
 Idle w (clientPreflight v k client) = ⊥
 
 pub data Change (w : World) : Request → Bool → World → Type 0 where
@@ -391,6 +395,15 @@ module _ (w : World) (sh : Shape (w .ledger) (w .booked)) (size : ℕ) (beyond :
         conflicts = subst (λ (job : ℕ → Job). conflicting (job rival) (job k) ≡ true) (jobs h) (conflicting-sym _ _ (kept .1));
       }))))
 
+  -- ---- missing dependencies: whatever is answered, nothing changes
+  reads : (q : Request) (o : Outcome) (v k : ℕ) → Idle w q → Moves q (carried l (record { outcome = o; change = Nothing }) v k)
+  reads q (Done value) v k i = answers q value v k i
+  reads q (Refused why) v k i = refuses q why v k
+
+  change-dependencies : (v k : ℕ) → Moves (dependencies v k) (carried l (dependenciesDecision l journal v k) v k)
+  unfolding dependenciesDecision
+  change-dependencies v k = reads (dependencies v k) (dependenciesOf l journal v k .outcome) v k tt
+
   -- ---- propose
   -- a record inside the journal is a booked one
   slot-tabled : (k : ℕ) → k < insideOf (versionOf l) journal (l .booked) → slotAt (versionOf l) journal k ≡ getD (tableOf w) k []
@@ -436,6 +449,7 @@ module _ (w : World) (sh : Shape (w .ledger) (w .booked)) (size : ℕ) (beyond :
   change (generations k) = change-generations k
   change snapshot = change-snapshot
   change (release v k rival) = change-release v k rival
+  change (dependencies v k) = change-dependencies v k
   change (clientPreflight v k client) = change-client v k client
 
 pub changes : (w : World) → Shape (w .ledger) (w .booked) → (e : Event) → Change w (e .request) (isDone (replyTo w e .outcome)) (after w e)

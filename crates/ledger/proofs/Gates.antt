@@ -21,11 +21,12 @@ use Rattle.ledger.specs.Meaning.{Entered, Sane}
 use Rattle.ledger.specs.Register.{isDone}
 use Rattle.ledger.specs.State.{applied, isSane, versionOf}
 use Rattle.ledger.specs.Steps.{bookedGate, carried, gateOf, turned, vaultGate}
-use Rattle.ledger.specs.Decisions.{gated}
+use Rattle.ledger.specs.Decisions.{gated, gatedListing, unlisted}
 use Rattle.ledger.specs.Given.{Placed}
 use Rattle.ledger.specs.declared.Decision.{Decision}
 use Rattle.ledger.specs.declared.Reply.{Reply}
 use Rattle.ledger.specs.declared.Ledger.{Ledger}
+use Rattle.ledger.specs.declared.Listing.{Listing}
 
 pub reflect-sane : (l : Ledger) → Reflects (isSane l) (Sane l)
 unfolding isSane
@@ -114,6 +115,9 @@ module _ (l : Ledger) (journal : List ℕ) (v job : ℕ) (faulty : Bool) where
   pub placed-job : (r : Verdict) → r ≡ vaultGate l journal v job faulty → r ≡ Pass → job < 128
   placed-job r p q = placed r p q .job
 
+  pub placed-vaults : (r : Verdict) → r ≡ vaultGate l journal v job faulty → r ≡ Pass → l .settings .n ≤ 16
+  placed-vaults r p q = entered l journal v job faulty (sym p ∙ q) .sane .lawful .vaults
+
 module _ (l : Ledger) (journal : List ℕ) (job : ℕ) where
   pub known-job : (r : Verdict) → r ≡ bookedGate l journal job → r ≡ Pass → job < 128
   known-job r p q = let h = booked-entered l journal job (sym p ∙ q) in omega (arith, h .1 .below, h .0 .booked)
@@ -149,6 +153,7 @@ pub ruleset entering = (
   placed-job,
   placed-few,
   placed-known,
+  placed-vaults,
   known-job,
   known-booked,
   known-few,
@@ -182,4 +187,11 @@ read-shut g r d why p q = simp (sym p ∙ q)
 pub read-passed : (g r : Verdict) (d e : Decision) → r ≡ g → r ≡ Pass → e ≡ d → e .outcome ≡ gated g d .outcome
 read-passed g r d e p q u = simp (sym p ∙ q, ← u)
 
-pub ruleset ways = (opened, passed, shut, read-opened, read-passed, read-shut, entering)
+-- and of one that lists jobs
+pub list-passed : (g r : Verdict) (d e : Listing) → r ≡ g → r ≡ Pass → e ≡ d → e ≡ gatedListing g d
+list-passed g r d e p q u = simp (sym p ∙ q) u
+
+pub list-shut : (g r : Verdict) (d : Listing) (why : Refusal) (e : Listing) → r ≡ g → r ≡ Fail why → e ≡ unlisted why → e ≡ gatedListing g d
+list-shut g r d why e p q u = simp (sym p ∙ q) u
+
+pub ruleset ways = (opened, passed, shut, read-opened, read-passed, read-shut, list-passed, list-shut, entering)

@@ -84,7 +84,8 @@ use Rattle.federation.specs.Federation.{thresholdOf}
 use Rattle.ledger.specs.Graph.{Unblocked}
 use Rattle.ledger.specs.Register.{Register, entering, feed, feedCommit, feedDone, feedProposal, isAdmissible, stopped, tabled, taking}
 use Rattle.ledger.specs.State.{arrived, booking, counted, signersOf, vaultAt, versionOf, visited, voted, votesIn, withVault}
-use Rattle.ledger.specs.Worlds.{Request, World, clientPreflight, commit, faultyVote, generations, preflight, propose, release, show, snapshot}
+use Rattle.ledger.specs.Worlds.{Request, World, clientPreflight, commit, dependencies, faultyVote, generations, preflight, propose, release, show}
+use Rattle.ledger.specs.Worlds.{snapshot}
 use Rattle.vaults.specs.declared.Column.{Column}
 use Rattle.vaults.specs.declared.Column.the-variants.{Acknowledgements, Signatures}
 use Rattle.ledger.specs.declared.History.{History}
@@ -415,6 +416,7 @@ module _ {w : World} {r : Register} (i : Inv w r) where
   inv-idle (generations k) m = i
   inv-idle snapshot m = absurd m
   inv-idle (release v k rival) m = absurd m
+  inv-idle (dependencies v k) m = i
   inv-idle (clientPreflight v k client) m = absurd m
 
   -- a record that is not in the table enters it

@@ -6,6 +6,7 @@ pub mod Counted
 pub mod Creators
 pub mod Demand2
 pub mod Demand3
+pub mod Dependencies
 pub mod Effects
 pub mod Example
 pub mod Gates
@@ -15,6 +16,7 @@ pub mod Independence
 pub mod Invariant
 pub mod Lending
 pub mod Meaning
+pub mod Missing
 pub mod NoQuota
 pub mod OneLabel
 pub mod Paper

@@ -41,6 +41,8 @@ use Rattle.ledger.specs.State.{applied, booking, isSane, signersOf, vaul
 use Rattle.ledger.specs.Steps.{
   bookedGate,
   commitDecision,
+  dependenciesDecision,
+  dependenciesOf,
   faultyVoteDecision,
   generationsDecision,
   preflightDecision,
@@ -56,6 +58,7 @@ use Rattle.ledger.specs.Worlds.{
   clientPreflight,
   commit,
   decisionOf,
+  dependencies,
   faultyVote,
   generations,
   jobIn,
@@ -132,7 +135,7 @@ aged b age = either b (answering age) (refusing NotHeld) tt tt
 module _ (l : Ledger) (journal : List ℕ) where
   plain : (q : Request) → isClientPreflight q ≡ false → Plain (decisionOf l journal q .change)
   unfolding proposeDecision proposal settling preflightDecision preflighting consent commitDecision committing faultyVoteDecision
-      showDecision generationsDecision snapshotDecision snapshotting releaseDecision releasing
+      showDecision generationsDecision snapshotDecision snapshotting releaseDecision releasing dependenciesDecision
   plain (propose bytes) e =
       behind (saneGate l) (proposal (versionOf l) journal (l .booked) bytes)
       (behind (examined (versionOf l) bytes) (settling (versionOf l) journal (l .booked) bytes)
@@ -155,14 +158,15 @@ module _ (l : Ledger) (journal : List ℕ) where
       behind (vaultGate l journal v k false) (releasing (vaultAt l v) (versionOf l) journal (l .booked) (signersOf l k) k rival)
       (behind (supersession (vaultAt l v) (versionOf l) journal (l .booked) k rival)
       (record { outcome = Done (ones (signersOf l k)); change = Release (unsigning (vaultAt l v) k) }) tt)
+  plain (dependencies v k) e = tt
   plain (clientPreflight v k client) e = absurd (true≢false e)
 
   pub same-histories : (q : Request) → isClientPreflight q ≡ false → stepOf l journal q .ledger .histories ≡ l .histories
   same-histories q e = leaves l (vaultIn q) (jobIn q) (decisionOf l journal q .change) (plain q e)
 
   unread : (histories : List ℕ) (q : Request) → isClientPreflight q ≡ false → decisionOf (withHistories l histories) journal q ≡ decisionOf l journal q
-  unfolding proposeDecision preflightDecision commitDecision faultyVoteDecision showDecision generationsDecision snapshotDecision releaseDecision saneGate
-      bookedGate vaultGate isSane votesIn
+  unfolding proposeDecision preflightDecision commitDecision faultyVoteDecision showDecision generationsDecision snapshotDecision releaseDecision
+      dependenciesDecision dependenciesOf saneGate bookedGate vaultGate isSane votesIn
   unread histories (propose bytes) e = refl
   unread histories (preflight v k) e = refl
   unread histories (commit v k signers) e = refl
@@ -171,6 +175,7 @@ module _ (l : Ledger) (journal : List ℕ) where
   unread histories (generations k) e = refl
   unread histories snapshot e = refl
   unread histories (release v k rival) e = refl
+  unread histories (dependencies v k) e = refl
   unread histories (clientPreflight v k client) e = absurd (true≢false e)
 
 pub no-quota : NoQuota

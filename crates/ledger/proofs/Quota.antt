@@ -53,6 +53,7 @@ use Rattle.ledger.specs.Worlds.{
   afterAll,
   clientPreflight,
   commit,
+  dependencies,
   faultyVote,
   generations,
   lent,
@@ -314,6 +315,7 @@ module _ (v c : ℕ) (w : World) (sh : Shape (w .ledger) (w .booked)) (e : Event
       go (generations k) q = others (ap isClientPreflight q)
       go snapshot q = others (ap isClientPreflight q)
       go (release u k rival) q = others (ap isClientPreflight q)
+      go (dependencies u k) q = others (ap isClientPreflight q)
       go (clientPreflight u k d) q = client-on u k d q
 
 kept-along : (v c : ℕ) (es : List Event) (w : World) (r : Register) → Inv w r → (past : List Ask) → Kept v c w past

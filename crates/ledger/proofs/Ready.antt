@@ -68,6 +68,7 @@ use Rattle.ledger.specs.Worlds.{
   afterAll,
   clientPreflight,
   commit,
+  dependencies,
   faultyVote,
   generations,
   lend,
@@ -324,6 +325,7 @@ allowed-spares w s j (show k) a = tt
 allowed-spares w s j (generations k) a = tt
 allowed-spares w s j snapshot a = tt
 allowed-spares w s j (release v k rival) a = absurd a
+allowed-spares w s j (dependencies v k) a = tt
 allowed-spares w s j (clientPreflight v k client) a = absurd a
 
 own-spares : (w : World) (s j v : ℕ) (q : Request) → q ≡ preflight v j → Spares w s j q

@@ -7,6 +7,7 @@ use native.Mathlib.Omega.{arith}
 use lib.Count.{ones}
 use lib.Dec.{eqb, leb, ltb}
 use lib.ListN.{length}
+use Rattle.base.proofs.Reflect.{by-cases}
 use Rattle.base.specs.Search.{firstBelow}
 use Rattle.outcome.specs.Figures.{numberOf, refusalNumber}
 use Rattle.outcome.specs.declared.Outcome.{Outcome}
@@ -17,6 +18,7 @@ use Rattle.outcome.specs.declared.Refusal.the-variants.{
   InputReserved,
   Malformed,
   NoClient,
+  NoSetWorks,
   NoVault,
   NotBooked,
   NotCreated,
@@ -41,12 +43,13 @@ use Rattle.checks.specs.Meaning.{repeated, unsupported}
 use Rattle.record.specs.declared.Job.{Job}
 use Rattle.quota.specs.Quota.{isClient, isSpent}
 use Rattle.sets.specs.Bits.{hasBit, subsetOf, withMember}
-use Rattle.sets.specs.Jobs.{jobHas}
+use Rattle.sets.specs.Jobs.{jobCount, jobHas, noJobs}
 use Rattle.sets.specs.declared.job_set.JobSet.{JobSet}
 use Rattle.index.specs.Admission.{admission, consumedAt, notCreatedAt, remadeAt}
+use Rattle.index.specs.Missing.{missingJobs}
 use Rattle.federation.specs.Federation.{thresholdOf}
 use Rattle.federation.specs.declared.Settings.{Settings}
-use Rattle.journal.specs.Journal.{isBooked}
+use Rattle.journal.specs.Journal.{isBooked, jobAt}
 use Rattle.ledger.specs.Meaning.{missing, remade, reserved}
 use Rattle.ledger.specs.State.{isSane, versionOf}
 use Rattle.ledger.specs.Decisions.{
@@ -60,13 +63,19 @@ use Rattle.ledger.specs.Decisions.{
   countedConsent,
   counting,
   gated,
+  gatedListing,
+  ifAdmitted,
+  listing,
   placing,
   preflighting,
   proposal,
   receiving,
+  receivingAll,
   releasing,
+  requiring,
   settling,
   snapshotting,
+  supplying,
   supersededAt,
   supersession,
   withinQuota,
@@ -75,6 +84,8 @@ use Rattle.ledger.specs.Steps.{
   bookedGate,
   clientPreflightDecision,
   commitDecision,
+  dependenciesDecision,
+  dependenciesOf,
   faultyVoteDecision,
   gateOf,
   generationsDecision,
@@ -87,10 +98,12 @@ use Rattle.ledger.specs.Steps.{
   vaultGate,
 }
 use Rattle.vaults.specs.Vaults.{consented, vaultPreflight}
-use Rattle.ledger.specs.Worlds.{Request, clientPreflight, commit, faultyVote, generations, preflight, propose, release, show, snapshot, stepOf}
+use Rattle.ledger.specs.Worlds.{Request, clientPreflight, commit, dependencies, faultyVote, generations, preflight, propose, release, show, snapshot}
+use Rattle.ledger.specs.Worlds.{stepOf}
 use Rattle.vaults.specs.declared.Consent.the-variants.{Already}
 use Rattle.ledger.specs.declared.Decision.{Decision}
 use Rattle.ledger.specs.declared.Ledger.{Ledger}
+use Rattle.ledger.specs.declared.Listing.{Listing}
 use Rattle.vaults.specs.declared.Signing.{Signing}
 use Rattle.vaults.specs.declared.Vault.{Vault}
 
@@ -234,9 +247,27 @@ module _ (l : Ledger) (journal : List ℕ) (sane : isSane l ≡ true) where
   unfolding ageing
   ages b age = either b _ _ (done age) (refuses NotHeld (fails NotHeld refl))
 
+  listed : (g : Verdict) (r : Listing) → NotOne g → Fine (r .outcome) → Fine (gatedListing g r .outcome)
+  listed Pass r p q = q
+  listed (Fail why) r p q = refuses why p
+
+  admitted : (d : Verdict) (jobs : JobSet) → Fine (ifAdmitted d jobs .outcome)
+  admitted Pass jobs = done (jobCount jobs)
+  admitted (Fail why) jobs = refuses NoSetWorks (fails NoSetWorks refl)
+
+  requires : (state : Vault) (elsewhere : JobSet) (k : ℕ) → Fine (requiring state elsewhere (versionOf l) journal (l .booked) k .outcome)
+  unfolding requiring supplying
+  requires state elsewhere k =
+      by-cases (λ b. Fine (cond b (listing noJobs) (supplying state elsewhere (versionOf l) journal (l .booked) k) .outcome)) (jobHas (state .signed) k)
+      (λ e. done (jobCount noJobs))
+      (λ e.
+      let jobs = missingJobs (jobAt (versionOf l) journal (l .booked)) (l .booked) (state .held) elsewhere (jobAt (versionOf l) journal (l .booked) k) in
+      admitted (admissionAt (receivingAll state jobs) (versionOf l) journal (l .booked) k) jobs)
+
   fine : (q : Request) → Fine (stepOf l journal q .outcome)
   unfolding proposeDecision proposal settling preflightDecision preflighting admissionAt commitDecision committing faultyVoteDecision showDecision
-      generationsDecision snapshotDecision snapshotting releaseDecision releasing clientPreflightDecision clientPreflighting
+      generationsDecision snapshotDecision snapshotting releaseDecision releasing
+      dependenciesDecision dependenciesOf clientPreflightDecision clientPreflighting
   fine (propose bytes) = behind (saneGate l) _ sane-gate (behind (examined (versionOf l) bytes) _ (examines (versionOf l) bytes) (places _ _ _ _))
   fine (preflight v k) = behind (vaultGate l journal v k false) _ (vault-gate v k false) (consents _ _ _ _ _ (admits _ _ _ _ _))
   fine (commit v k signers) =
@@ -247,6 +278,7 @@ module _ (l : Ledger) (journal : List ℕ) (sane : isSane l ≡ true) where
   fine snapshot = behind (saneGate l) _ sane-gate (done _)
   fine (release v k rival) =
       behind (vaultGate l journal v k false) _ (vault-gate v k false) (behind (supersession _ _ _ _ _ _) _ (supersedes _ _ _ _ _ _) (done _))
+  fine (dependencies v k) = listed (vaultGate l journal v k false) _ (vault-gate v k false) (requires _ _ _)
   fine (clientPreflight v k client) =
       behind (vaultGate l journal v k false) _ (vault-gate v k false)
       (either (isClient client) _ _ (consents-counted _ _ _ _ _ _ _ (admits _ _ _ _ _)) (refuses NoClient (fails NoClient refl)))

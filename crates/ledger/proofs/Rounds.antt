@@ -40,6 +40,7 @@ use Rattle.ledger.specs.Worlds.{
   afterAll,
   clientPreflight,
   commit,
+  dependencies,
   faultyVote,
   generations,
   preflight,
@@ -75,6 +76,7 @@ is-snapshot (show k) e = absurd (true≢false (sym e))
 is-snapshot (generations k) e = absurd (true≢false (sym e))
 is-snapshot snapshot e = refl
 is-snapshot (release v k rival) e = absurd (true≢false (sym e))
+is-snapshot (dependencies v k) e = absurd (true≢false (sym e))
 is-snapshot (clientPreflight v k client) e = absurd (true≢false (sym e))
 
 turned : (w : World) (q : Request) (done : Bool) (w′ : World) → Change w q done w′ → Turned w (isSnapshot q) done w′

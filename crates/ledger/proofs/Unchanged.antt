@@ -47,6 +47,7 @@ use Rattle.ledger.specs.Steps.{
   bookedGate,
   clientPreflightDecision,
   commitDecision,
+  dependenciesDecision,
   faultyVoteDecision,
   generationsDecision,
   journalAfter,
@@ -60,8 +61,8 @@ use Rattle.ledger.specs.Steps.{
   vaultGate,
 }
 use Rattle.vaults.specs.Vaults.{consented, vaultPreflight}
-use Rattle.ledger.specs.Worlds.{Request, clientPreflight, commit, decisionOf, faultyVote, generations, leftBy}
-use Rattle.ledger.specs.Worlds.{preflight, propose, release, show, snapshot, stepOf}
+use Rattle.ledger.specs.Worlds.{Request, clientPreflight, commit, decisionOf, dependencies, faultyVote, generations, leftBy, preflight, propose}
+use Rattle.ledger.specs.Worlds.{release, show, snapshot, stepOf}
 use Rattle.ledger.specs.declared.Change.{Change}
 use Rattle.ledger.specs.declared.Change.the-variants.{Book, Count, Nothing}
 use Rattle.vaults.specs.declared.Consent.{Consent}
@@ -168,11 +169,12 @@ module _ (l : Ledger) (journal : List ℕ) where
   Silent (generations k) = Quiet (generationsDecision l journal k)
   Silent snapshot = Quiet (snapshotDecision l)
   Silent (release v k rival) = Quiet (releaseDecision l journal v k rival)
+  Silent (dependencies v k) = Quiet (dependenciesDecision l journal v k)
   Silent (clientPreflight v k client) = Unit {0}
 
   quiets : (q : Request) → Silent q
   unfolding proposeDecision proposal settling preflightDecision preflighting commitDecision committing faultyVoteDecision showDecision generationsDecision
-      snapshotDecision snapshotting releaseDecision releasing
+      snapshotDecision snapshotting releaseDecision releasing dependenciesDecision
   quiets (propose bytes) = behind (saneGate l) _ (behind (examined (versionOf l) bytes) _ (placed _ _ _ _))
   quiets (preflight v k) = behind (vaultGate l journal v k false) _ (consents _ _ _ _ _)
   quiets (commit v k signers) = behind (vaultGate l journal v k false) _ (behind (certificate _ _ _) _ (received _ _ _ _))
@@ -181,6 +183,7 @@ module _ (l : Ledger) (journal : List ℕ) where
   quiets (generations k) = behind (bookedGate l journal k) _ (aged _ _)
   quiets snapshot = behind (saneGate l) _ (done _ _)
   quiets (release v k rival) = behind (vaultGate l journal v k false) _ (behind (supersession _ _ _ _ _ _) _ (done _ _))
+  quiets (dependencies v k) = quiet _ refl
   quiets (clientPreflight v k client) = tt
 
   -- what is left of the ledger and of the journal
@@ -210,6 +213,7 @@ module _ (l : Ledger) (journal : List ℕ) where
   unchanged (generations k) why e = (nothing-applied 0 k _ (quiets (generations k) .refused why e), refl)
   unchanged snapshot why e = (nothing-applied 0 0 _ (quiets snapshot .refused why e), refl)
   unchanged (release v k rival) why e = (nothing-applied v k _ (quiets (release v k rival) .refused why e), refl)
+  unchanged (dependencies v k) why e = (nothing-applied v k _ (quiets (dependencies v k) .refused why e), refl)
   unchanged (clientPreflight v k client) why e =
       let n = client-notes v k client .refused why e in
       (ap (λ (x : Change). applied l x v k) n ∙ noting-applied v k client (isCounted (refusalNumber why)), refl)

@@ -10,6 +10,7 @@ use Rattle.outcome.specs.declared.Refusal.{Refusal}
 use Rattle.outcome.specs.declared.Refusal.the-variants.{
   Full,
   NoClient,
+  NoSetWorks,
   NotBooked,
   NotHeld,
   NotSigned,
@@ -21,7 +22,7 @@ use Rattle.outcome.specs.declared.Refusal.the-variants.{
 use Rattle.outcome.specs.declared.Verdict.{Verdict}
 use Rattle.outcome.specs.declared.Verdict.the-variants.{Pass, Fail}
 use Rattle.sets.specs.Bits.{subsetOf, withMember}
-use Rattle.sets.specs.Jobs.{jobCount, jobHas, jobWithout}
+use Rattle.sets.specs.Jobs.{jobCount, jobHas, jobUnion, jobWithout, noJobs}
 use Rattle.sets.specs.declared.job_set.JobSet.{JobSet}
 use Rattle.quota.specs.Quota.{isClient, isSpent, remembered}
 use Rattle.snapshot.specs.Snapshot.{seenAfter}
@@ -30,6 +31,7 @@ use Rattle.federation.specs.declared.Settings.{Settings}
 use Rattle.checks.specs.Checks.{examined}
 use Rattle.conflicts.specs.Conflicts.{conflicting}
 use Rattle.index.specs.Admission.{admission}
+use Rattle.index.specs.Missing.{missingJobs}
 use Rattle.journal.specs.Journal.{equalIn, hasRoom, insideOf, isBooked, jobAt}
 use Rattle.ledger.specs.declared.Change.{Change}
 use Rattle.ledger.specs.declared.Change.the-variants.{Book, Count, Grant, Hold, Nothing, Record, Release, See, Sign}
@@ -37,6 +39,7 @@ use Rattle.ledger.specs.declared.History.{History}
 use Rattle.vaults.specs.declared.Consent.{Consent}
 use Rattle.vaults.specs.declared.Consent.the-variants.{Already, Denied, Fresh}
 use Rattle.ledger.specs.declared.Decision.{Decision}
+use Rattle.ledger.specs.declared.Listing.{Listing}
 use Rattle.vaults.specs.declared.Vault.{Vault}
 use Rattle.vaults.specs.declared.Votes.{Votes}
 use Rattle.vaults.specs.Vaults.{holding, unsigning, vaultPreflight}
@@ -144,6 +147,38 @@ supersession state version journal booked job rival =
 unfoldable pub releasing : Vault → ℕ → List ℕ → ℕ → ℕ → ℕ → ℕ → Decision
 releasing state version journal booked signers job rival =
     gated (supersession state version journal booked job rival) (record { outcome = Done (ones signers); change = Release (unsigning state job) })
+
+-- ---- kind 11, a job's missing dependencies (document 02): "the smallest set of them which, once held by this vault too, makes preflight accept the job"
+
+abbrev pub listing : JobSet → Listing
+listing jobs = record { outcome = Done (jobCount jobs); members = jobs }
+
+abbrev pub unlisted : Refusal → Listing
+unlisted why = record { outcome = Refused why; members = noJobs }
+
+abbrev pub gatedListing : Verdict → Listing → Listing
+gatedListing Pass r = r
+gatedListing (Fail why) r = unlisted why
+
+-- the vault, once it holds these jobs too
+unfoldable pub receivingAll : Vault → JobSet → Vault
+receivingAll state jobs = record { held = jobUnion (state .held) jobs; signed = state .signed }
+
+-- "then 21 exactly if no set works"
+abbrev pub ifAdmitted : Verdict → JobSet → Listing
+ifAdmitted Pass jobs = listing jobs
+ifAdmitted (Fail why) jobs = unlisted NoSetWorks
+
+-- the jobs that make its missing inputs, where checks 11 to 14 pass with them
+unfoldable pub supplying : Vault → JobSet → ℕ → List ℕ → ℕ → ℕ → Listing
+supplying state elsewhere version journal booked job =
+    let jobs = missingJobs (jobAt version journal booked) booked (state .held) elsewhere (jobAt version journal booked job) in
+    ifAdmitted (admissionAt (receivingAll state jobs) version journal booked job) jobs
+
+-- "A job already signed there needs the empty set."
+unfoldable pub requiring : Vault → JobSet → ℕ → List ℕ → ℕ → ℕ → Listing
+requiring state elsewhere version journal booked job =
+    cond (jobHas (state .signed) job) (listing noJobs) (supplying state elsewhere version journal booked job)
 
 -- ---- kind 12, a preflight from a client (document 02, "A fair quota for each desk")
 

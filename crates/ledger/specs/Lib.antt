@@ -1,6 +1,7 @@
 pub mod Decisions
 pub mod Demand2
 pub mod Demand3
+pub mod Dependencies
 pub mod Given
 pub mod Graph
 pub mod Growth

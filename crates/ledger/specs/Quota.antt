@@ -24,6 +24,7 @@ use Rattle.ledger.specs.Worlds.{
   clientPreflight,
   commit,
   decisionOf,
+  dependencies,
   faultyVote,
   generations,
   preflight,
@@ -61,6 +62,7 @@ asks v c w e (show k) past = past
 asks v c w e (generations k) past = past
 asks v c w e snapshot past = past
 asks v c w e (release u k rival) past = past
+asks v c w e (dependencies u k) past = past
 asks v c w e (clientPreflight u k d) past = cond (eqb u v && (eqb d c && counts (replyTo w e .outcome))) (askOf u k w e ∷ past) past
 
 -- the counted requests of a client at a vault along a list of steps, the newest first, after those before it
@@ -109,6 +111,7 @@ isClientPreflight (show k) = false
 isClientPreflight (generations k) = false
 isClientPreflight snapshot = false
 isClientPreflight (release v k rival) = false
+isClientPreflight (dependencies v k) = false
 isClientPreflight (clientPreflight v k client) = true
 
 abbrev pub withHistories : Ledger → List ℕ → Ledger

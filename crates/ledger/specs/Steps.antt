@@ -20,10 +20,24 @@ use Rattle.ledger.specs.declared.Change.the-variants.{Book, Count, Grant
 use Rattle.vaults.specs.declared.Column.{Column}
 use Rattle.ledger.specs.declared.Decision.{Decision}
 use Rattle.ledger.specs.declared.Ledger.{Ledger}
+use Rattle.ledger.specs.declared.Listing.{Listing}
 use Rattle.ledger.specs.declared.Reply.{Reply}
-use Rattle.ledger.specs.Decisions.{ageing, answering, clientPreflighting, committing, gated, preflighting}
-use Rattle.ledger.specs.Decisions.{proposal, releasing, snapshotting, statusOf, voting}
-use Rattle.ledger.specs.Holders.{isHeld}
+use Rattle.ledger.specs.Decisions.{
+  ageing,
+  answering,
+  clientPreflighting,
+  committing,
+  gated,
+  gatedListing,
+  preflighting,
+  proposal,
+  releasing,
+  requiring,
+  snapshotting,
+  statusOf,
+  voting,
+}
+use Rattle.ledger.specs.Holders.{heldSomewhere, isHeld}
 use Rattle.ledger.specs.State.{applied, historyAt, isSane, newLedger, signersOf, vaultAt, versionOf, votesAt, votesIn}
 
 -- ---- a new ledger: the threshold where the settings are lawful
@@ -98,6 +112,15 @@ unfoldable pub releaseDecision : Ledger → List ℕ → ℕ → ℕ → ℕ →
 releaseDecision l journal v job rival =
     gated (vaultGate l journal v job false) (releasing (vaultAt l v) (versionOf l) journal (l .booked) (signersOf l job) job rival)
 
+-- kind 11: "3, 5, 4 as for preflight; then 21"
+unfoldable pub dependenciesOf : Ledger → List ℕ → ℕ → ℕ → Listing
+dependenciesOf l journal v job =
+    gatedListing (vaultGate l journal v job false)
+    (requiring (vaultAt l v) (heldSomewhere (l .settings) (l .vaults)) (versionOf l) journal (l .booked) job)
+
+unfoldable pub dependenciesDecision : Ledger → List ℕ → ℕ → ℕ → Decision
+dependenciesDecision l journal v job = record { outcome = dependenciesOf l journal v job .outcome; change = Nothing }
+
 -- kind 12: "3, 5, 4 as for kind 2; then 22", a job already signed, 23, 11 to 14
 unfoldable pub clientPreflightDecision : Ledger → List ℕ → ℕ → ℕ → ℕ → Decision
 clientPreflightDecision l journal v job client =
@@ -150,7 +173,7 @@ releaseOf l journal v job rival = carried l (releaseDecision l journal v job riv
 unfoldable pub clientPreflightOf : Ledger → List ℕ → ℕ → ℕ → ℕ → Reply
 clientPreflightOf l journal v job client = carried l (clientPreflightDecision l journal v job client) v job
 
--- the two that only read
+-- the two that only read a figure; `dependenciesOf` stands above
 abbrev pub showOf : Ledger → List ℕ → ℕ → Outcome
 showOf l journal job = showDecision l journal job .outcome
 

@@ -10,6 +10,7 @@ use Rattle.ledger.specs.Steps.{
   carried,
   clientPreflightDecision,
   commitDecision,
+  dependenciesDecision,
   faultyVoteDecision,
   generationsDecision,
   journalAfter,
@@ -24,7 +25,7 @@ use Rattle.ledger.specs.declared.Decision.{Decision}
 use Rattle.ledger.specs.declared.Ledger.{Ledger}
 use Rattle.ledger.specs.declared.Reply.{Reply}
 
--- kinds 1 to 6, 8 to 10 and 12. "A draw neither reads nor changes what the engine keeps and stays out".
+-- kinds 1 to 6 and 8 to 12. "A draw neither reads nor changes what the engine keeps and stays out".
 pub data Request : Type 0 where
   propose : List ℕ → Request
   preflight : ℕ → ℕ → Request
@@ -35,6 +36,7 @@ pub data Request : Type 0 where
   snapshot : Request
   -- the vault, the job, and the rival that it lost to
   release : ℕ → ℕ → ℕ → Request
+  dependencies : ℕ → ℕ → Request
   -- the vault, the job, and the client
   clientPreflight : ℕ → ℕ → ℕ → Request
 
@@ -48,6 +50,7 @@ vaultIn (show job) = 0
 vaultIn (generations job) = 0
 vaultIn snapshot = 0
 vaultIn (release v job rival) = v
+vaultIn (dependencies v job) = v
 vaultIn (clientPreflight v job client) = v
 
 abbrev pub jobIn : Request → ℕ
@@ -59,6 +62,7 @@ jobIn (show job) = job
 jobIn (generations job) = job
 jobIn snapshot = 0
 jobIn (release v job rival) = job
+jobIn (dependencies v job) = job
 jobIn (clientPreflight v job client) = job
 
 abbrev pub decisionOf : Ledger → List ℕ → Request → Decision
@@ -70,9 +74,10 @@ decisionOf l journal (show job) = showDecision l journal job
 decisionOf l journal (generations job) = generationsDecision l journal job
 decisionOf l journal snapshot = snapshotDecision l
 decisionOf l journal (release v job rival) = releaseDecision l journal v job rival
+decisionOf l journal (dependencies v job) = dependenciesDecision l journal v job
 decisionOf l journal (clientPreflight v job client) = clientPreflightDecision l journal v job client
 
--- every step is a decision carried out: the right sides are those of `proposeOf` to `generationsOf`, which the contracts cite
+-- every step is a decision carried out: the right sides are those of `proposeOf` to `dependenciesOf`, which the contracts cite
 abbrev pub stepOf : Ledger → List ℕ → Request → Reply
 stepOf l journal q = carried l (decisionOf l journal q) (vaultIn q) (jobIn q)
 
@@ -86,6 +91,7 @@ leftBy l journal (show job) = journal
 leftBy l journal (generations job) = journal
 leftBy l journal snapshot = journal
 leftBy l journal (release v job rival) = journal
+leftBy l journal (dependencies v job) = journal
 leftBy l journal (clientPreflight v job client) = journal
 
 -- "each step gets all that the engine keeps and the booked bytes as the step before left them"

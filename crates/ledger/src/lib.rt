@@ -58,3 +58,9 @@ pub struct Reply {
     pub outcome: Outcome,
     pub ledger: Ledger,
 }
+
+// What a step answers, and the numbers that it lists, all below 128; a refusal lists none.
+pub struct Listing {
+    pub outcome: Outcome,
+    pub members: JobSet,
+}

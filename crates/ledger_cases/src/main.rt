@@ -3,6 +3,7 @@
 mod ages;
 mod checks;
 mod clients;
+mod dependencies;
 mod releases;
 mod run;
 mod settings;
@@ -17,6 +18,9 @@ fn main() {
     votes::votes();
     ages::ages();
     releases::releases();
+    dependencies::after_run();
+    dependencies::four_missing();
+    dependencies::no_set();
     versions::versions();
     clients::clients();
 }

@@ -51,6 +51,7 @@ use Rattle.ledger.specs.Steps.{
   bookedGate,
   clientPreflightDecision,
   commitDecision,
+  dependenciesDecision,
   faultyVoteDecision,
   gateOf,
   generationsDecision,
@@ -64,8 +65,8 @@ use Rattle.ledger.specs.Steps.{
   vaultGate,
 }
 use Rattle.vaults.specs.Vaults.{holding, unsigning, vaultPreflight}
-use Rattle.ledger.specs.Worlds.{Request, clientPreflight, commit, decisionOf, faultyVote, generations}
-use Rattle.ledger.specs.Worlds.{leftBy, preflight, propose, release, show, snapshot, stepOf}
+use Rattle.ledger.specs.Worlds.{Request, clientPreflight, commit, decisionOf, dependencies, faultyVote, generations, leftBy, preflight, propose, release}
+use Rattle.ledger.specs.Worlds.{show, snapshot, stepOf}
 use Rattle.ledger.specs.declared.Change.{Change}
 use Rattle.ledger.specs.declared.Change.the-variants.{Book, Count, Grant, Hold, Nothing, Record, Release, See, Sign}
 use Rattle.vaults.specs.declared.Column.the-variants.{Acknowledgements}
@@ -119,11 +120,12 @@ Other (show j) = Unit {0}
 Other (generations j) = Unit {0}
 Other snapshot = Unit {0}
 Other (release v j rival) = Unit {0}
+Other (dependencies v j) = Unit {0}
 Other (clientPreflight v j client) = Unit {0}
 
 other-calm : (l : Ledger) (journal : List ℕ) (q : Request) → Other q → Calm (decisionOf l journal q)
 unfolding preflightDecision preflighting consent commitDecision committing receiving faultyVoteDecision showDecision generationsDecision ageing
-    snapshotDecision snapshotting releaseDecision releasing clientPreflightDecision clientPreflighting countedConsent
+    snapshotDecision snapshotting releaseDecision releasing dependenciesDecision clientPreflightDecision clientPreflighting countedConsent
 other-calm l journal (propose bytes) h = absurd h
 other-calm l journal (preflight v j) h =
     let a = vaultPreflight (vaultAt l v) (admissionAt (vaultAt l v) (versionOf l) journal (l .booked) j) j in
@@ -146,6 +148,7 @@ other-calm l journal (release v j rival) h =
     let test = supersession (vaultAt l v) (versionOf l) journal (l .booked) j rival in
     let released : Decision = record { outcome = Done (ones (signersOf l j)); change = Release (unsigning (vaultAt l v) j) } in
     gated-calm (vaultGate l journal v j false) (gated test released) (gated-calm test released refl)
+other-calm l journal (dependencies v j) h = refl
 other-calm l journal (clientPreflight v j client) h =
     let admission = admissionAt (vaultAt l v) (versionOf l) journal (l .booked) j in
     let history = historyAt l v client in
@@ -193,6 +196,7 @@ other-left l journal (show j) h = refl
 other-left l journal (generations j) h = refl
 other-left l journal snapshot h = refl
 other-left l journal (release v j rival) h = refl
+other-left l journal (dependencies v j) h = refl
 other-left l journal (clientPreflight v j client) h = refl
 
 module _ (first : ℕ) (s : Settings) (k : ℕ) (l : Ledger) (journal : List ℕ) (h : Standing first s k l journal) where

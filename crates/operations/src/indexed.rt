@@ -4,10 +4,11 @@ ghost use Prim.Native.Nat.{_≤_};
 ghost use lib.ListN.{length};
 ghost use Rattle.generations.specs.Generations.{ageIn};
 ghost use Rattle.journal.specs.Journal.{Booked, jobAt};
-ghost use Rattle.ledger.specs.Decisions.{ageing, clientPreflighting, preflighting, proposal, releasing};
-ghost use Rattle.ledger.specs.Holders.{isHeld};
+ghost use Rattle.ledger.specs.Decisions.{ageing, clientPreflighting, preflighting, proposal, releasing, requiring};
+ghost use Rattle.ledger.specs.Holders.{heldSomewhere, isHeld};
 use federation::Settings;
 use ledger::Decision;
+use ledger::Listing;
 use outcome::Verdict;
 use vaults::Vault;
 
@@ -101,6 +102,43 @@ pub(crate) fn release(
         signers,
         job,
         rival,
+    )
+}
+
+pub(crate) fn dependencies(
+    settings: Settings,
+    vaults: [Vault; 16],
+    state: Vault,
+    version: u16,
+    journal: &[u8],
+    booked: usize,
+    job: usize,
+) -> Listing
+    requires { ⌜ (settings .n ≤ 16) × (booked ≤ 128) × Booked version (now journal) booked job ⌝ }
+    ensures { λ r. ⌜ r ≡ requiring state (heldSomewhere settings vaults) version (now (journal .entry)) booked job ⌝ }
+{
+    let mut numbers = [0u16; index::NUMBERS];
+    let mut sets = [0u64; index::SETS];
+    let mut records = [0u16; index::RECORDS];
+    index::build(
+        &mut numbers,
+        &mut sets,
+        &mut records,
+        version,
+        journal,
+        booked,
+    );
+    decisions::dependencies(
+        Verdict::Pass,
+        settings,
+        vaults,
+        state,
+        &numbers,
+        &sets,
+        version,
+        journal,
+        booked,
+        job,
     )
 }
 

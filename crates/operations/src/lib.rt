@@ -10,6 +10,7 @@ ghost use Rattle.ledger.specs.State.{versionOf};
 ghost use Rattle.ledger.specs.Steps.{
   clientPreflightOf,
   commitOf,
+  dependenciesOf,
   faultyVoteOf,
   generationsOf,
   journalAfter,
@@ -20,6 +21,7 @@ ghost use Rattle.ledger.specs.Steps.{
   snapshotOf,
 };
 use ledger::Ledger;
+use ledger::Listing;
 use ledger::Reply;
 use outcome::Outcome;
 use outcome::Refusal;
@@ -197,6 +199,32 @@ pub fn release(ledger: Ledger, journal: &[u8], vault: u8, job: u8, rival: u8) ->
             gates::carry(ledger, decision, vault, job)
         }
         Verdict::Fail(why) => gates::turn_back(ledger, why),
+    }
+}
+
+// Kind 11: the jobs, each held by a correct vault, that this vault must hold before it can sign the job; the value is how many. Nothing changes.
+pub fn dependencies(ledger: Ledger, journal: &[u8], vault: u8, job: u8) -> Listing
+    ensures { λ r. ⌜ r ≡ dependenciesOf ledger (now (journal .entry)) vault job ⌝ }
+{
+    let gate = gates::vault_gate(ledger, journal, vault, job, false);
+    match gate {
+        Verdict::Pass => {
+            let v = vault as usize;
+            let settings = ledger.settings;
+            let vaults = ledger.vaults;
+            let state = ledger.vaults[v];
+            let j = job as usize;
+            indexed::dependencies(
+                settings,
+                vaults,
+                state,
+                settings.version,
+                journal,
+                ledger.booked,
+                j,
+            )
+        }
+        Verdict::Fail(why) => decisions::unlist(why),
     }
 }
 

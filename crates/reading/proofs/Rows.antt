@@ -10,17 +10,17 @@ use Rattle.codec.specs.Codec.{recordSize}
 use Rattle.runfile.specs.Run.{longest}
 use Rattle.runfile.specs.Steps.{bodySize, commandIn, endOf, kindAt, kindOf}
 use Rattle.runfile.specs.declared.Kind.{Kind}
-use Rattle.runfile.specs.declared.Kind.the-variants.{ClientPreflight, Commit, Draw, FaultyAcknowledge, FaultySign, Generations, Preflight, Propose}
-use Rattle.runfile.specs.declared.Kind.the-variants.{Release, Show, Snapshot, Unknown}
+use Rattle.runfile.specs.declared.Kind.the-variants.{ClientPreflight, Commit, Dependencies, Draw, FaultyAcknowledge, FaultySign, Generations, Preflight}
+use Rattle.runfile.specs.declared.Kind.the-variants.{Propose, Release, Show, Snapshot, Unknown}
 use Rattle.reading.specs.Reading.{Read, formOf, formed, historyOf, isWide, jobOf, operationOf, rowOf, unread, vaultOf}
 use Rattle.reading.specs.declared.Operation.{Operation}
 use Rattle.reading.specs.declared.Step.{Step}
 
 -- a byte that the table does not have
 pub unknown-row : (version b : ℕ) (r : Operation) → (b ≡ 1 → ⊥) → (b ≡ 2 → ⊥) → (b ≡ 3 → ⊥) → (b ≡ 4 → ⊥) → (b ≡ 5 → ⊥) → (b ≡ 6 → ⊥) → (b ≡ 7 → ⊥)
-    → (b ≡ 8 → ⊥) → (b ≡ 9 → ⊥) → (b ≡ 10 → ⊥) → (b ≡ 12 → ⊥) → r ≡ rowOf version Unknown → r ≡ operationOf version b
+    → (b ≡ 8 → ⊥) → (b ≡ 9 → ⊥) → (b ≡ 10 → ⊥) → (b ≡ 11 → ⊥) → (b ≡ 12 → ⊥) → r ≡ rowOf version Unknown → r ≡ operationOf version b
 unfolding operationOf kindOf
-unknown-row version b r a c d e f g h i j k m q =
+unknown-row version b r a c d e f g h i j k m p q =
     q
     ∙ simp (
       ne-eqb b 1 a,
@@ -33,7 +33,8 @@ unknown-row version b r a c d e f g h i j k m q =
       ne-eqb b 8 i,
       ne-eqb b 9 j,
       ne-eqb b 10 k,
-      ne-eqb b 12 m,
+      ne-eqb b 11 m,
+      ne-eqb b 12 p,
     )
 
 -- ---- the table of kinds
@@ -67,6 +68,7 @@ module _ (version : ℕ) (input : List ℕ) (pos number : ℕ) where
   row Generations = search (size-least version, arith)
   row Snapshot = search (size-least version, arith)
   row Release = search (size-least version, arith)
+  row Dependencies = search (size-least version, arith)
   row ClientPreflight = search (size-least version, arith)
   row Unknown = search (size-least version, arith)
 

@@ -7,11 +7,12 @@ use lib.ListN.{getD, length}
 use Rattle.codec.specs.Codec.{recordSize}
 use Rattle.quota.specs.Quota.{historyPlace}
 use Rattle.runfile.specs.Run.{longest}
-use Rattle.ledger.specs.Worlds.{Request, clientPreflight, commit, faultyVote, generations, jobIn, preflight, propose, release, show, snapshot, vaultIn}
+use Rattle.ledger.specs.Worlds.{Request, clientPreflight, commit, dependencies, faultyVote, generations, jobIn}
+use Rattle.ledger.specs.Worlds.{preflight, propose, release, show, snapshot, vaultIn}
 use Rattle.runfile.specs.Steps.{Command, bodySize, commandIn, draw, kindAt, kindOf, nextAt, request, unreadable}
 use Rattle.runfile.specs.declared.Kind.{Kind}
-use Rattle.runfile.specs.declared.Kind.the-variants.{ClientPreflight, Commit, Draw, FaultyAcknowledge, FaultySign, Generations, Preflight, Propose}
-use Rattle.runfile.specs.declared.Kind.the-variants.{Release, Show, Snapshot, Unknown}
+use Rattle.runfile.specs.declared.Kind.the-variants.{ClientPreflight, Commit, Dependencies, Draw, FaultyAcknowledge, FaultySign, Generations, Preflight}
+use Rattle.runfile.specs.declared.Kind.the-variants.{Propose, Release, Show, Snapshot, Unknown}
 use Rattle.reading.specs.declared.Form.{Form}
 use Rattle.reading.specs.declared.Form.the-variants.{Bare, OfClient, OfJob, OfVault, Unreadable}
 use Rattle.reading.specs.declared.Operation.{Operation}
@@ -38,6 +39,7 @@ placeIn (show job) = 0
 placeIn (generations job) = 0
 placeIn snapshot = 0
 placeIn (release v job rival) = 0
+placeIn (dependencies v job) = 0
 placeIn (clientPreflight v job client) = historyPlace v client
 
 abbrev pub historyOf : Command → ℕ
@@ -57,10 +59,11 @@ formOf Draw = OfJob
 formOf Generations = OfJob
 formOf Snapshot = Bare
 formOf Release = OfVault
+formOf Dependencies = OfVault
 formOf ClientPreflight = OfClient
 formOf Unknown = Unreadable
 
--- generations ask which vaults hold the job: all vaults are looked at
+-- generations ask which vaults hold the job, missing dependencies which jobs they hold: all vaults are looked at
 abbrev pub isWide : Kind → Bool
 isWide Propose = false
 isWide Preflight = false
@@ -72,6 +75,7 @@ isWide Draw = false
 isWide Generations = true
 isWide Snapshot = false
 isWide Release = false
+isWide Dependencies = true
 isWide ClientPreflight = false
 isWide Unknown = false
 

@@ -103,6 +103,7 @@ fn operation_of(version: u16, byte: u8) -> Operation
         8 => row(Kind::Generations, 1, Form::OfJob, true),
         9 => row(Kind::Snapshot, 0, Form::Bare, false),
         10 => row(Kind::Release, 3, Form::OfVault, false),
+        11 => row(Kind::Dependencies, 2, Form::OfVault, true),
         12 => row(Kind::ClientPreflight, 3, Form::OfClient, false),
         _ => row(Kind::Unknown, 0, Form::Unreadable, false),
     }

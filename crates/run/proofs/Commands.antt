@@ -11,18 +11,21 @@ use Rattle.base.proofs.Reflect.{by-cases}
 use Rattle.outcome.specs.declared.Refusal.the-variants.{Unreadable}
 use Rattle.outcome.specs.declared.Verdict.{Verdict}
 use Rattle.outcome.specs.declared.Verdict.the-variants.{Fail, Pass}
+use Rattle.sets.specs.Jobs.{noJobs}
 use Rattle.codec.specs.Codec.{recordSize}
 use Rattle.journal.specs.Journal.{isBooked}
 use Rattle.draw.specs.Draw.{drawOf}
 use Rattle.ledger.proofs.Gates.{booked-entered, entered, in-place, reflect-sane}
 use Rattle.ledger.proofs.Places.{proposed}
 use Rattle.ledger.proofs.Writes.{unwritten}
-use Rattle.ledger.specs.Decisions.{ageing, answering, clientPreflighting, committing, gated, isBook, isNothing, preflighting, refusing, releasing, snapshotting}
-use Rattle.ledger.specs.Decisions.{statusOf, voting}
+use Rattle.ledger.specs.Decisions.{ageing, answering, clientPreflighting, committing, gated, gatedListing, isBook, isNothing, preflighting, refusing}
+use Rattle.ledger.specs.Decisions.{releasing, requiring, snapshotting, statusOf, voting}
+use Rattle.ledger.specs.Holders.{heldSomewhere}
 use Rattle.ledger.specs.Given.{Placed}
 use Rattle.ledger.specs.Meaning.{Proposed, Sane, failed, full, insane, known, new}
 use Rattle.ledger.specs.State.{applied, historyAt, signersOf, vaultAt, versionOf, votesAt, votesIn}
-use Rattle.ledger.specs.Steps.{bookedGate, clientPreflightDecision, commitDecision, faultyVoteDecision, gateOf, generationsDecision, journalAfter}
+use Rattle.ledger.specs.Steps.{bookedGate, clientPreflightDecision, commitDecision, dependenciesDecision, dependenciesOf, faultyVoteDecision, gateOf}
+use Rattle.ledger.specs.Steps.{generationsDecision, journalAfter}
 use Rattle.ledger.specs.Steps.{journalWith, preflightDecision, proposeDecision, releaseDecision, saneGate, showDecision, snapshotDecision, vaultGate}
 use Rattle.ledger.specs.Worlds.{decisionOf}
 use Rattle.ledger.specs.declared.Change.{Change}
@@ -30,14 +33,15 @@ use Rattle.ledger.specs.declared.Change.the-variants.{Book, Count, Grant, Hold,
 use Rattle.vaults.specs.declared.Column.the-variants.{Acknowledgements, Signatures}
 use Rattle.ledger.specs.declared.Decision.{Decision}
 use Rattle.ledger.specs.declared.Ledger.{Ledger}
+use Rattle.ledger.specs.declared.Listing.{Listing}
 use Rattle.vaults.specs.declared.Vault.{Vault}
-use Rattle.runfile.specs.Steps.{Command, commandIn, draw, journalBy, replyOf, request, unreadable, wordAt}
+use Rattle.runfile.specs.Steps.{Command, commandIn, draw, journalBy, listedBy, replyOf, request, unreadable, wordAt}
 use Rattle.runfile.specs.declared.Kind.{Kind}
-use Rattle.runfile.specs.declared.Kind.the-variants.{ClientPreflight, Commit, Draw, FaultyAcknowledge, FaultySign, Generations, Preflight, Propose}
-use Rattle.runfile.specs.declared.Kind.the-variants.{Release, Show, Snapshot, Unknown}
+use Rattle.runfile.specs.declared.Kind.the-variants.{ClientPreflight, Commit, Dependencies, Draw, FaultyAcknowledge, FaultySign, Generations, Preflight}
+use Rattle.runfile.specs.declared.Kind.the-variants.{Propose, Release, Show, Snapshot, Unknown}
 use Rattle.quota.specs.Quota.{historyPlace}
 use Rattle.steps.proofs.Quiet.{Bookless}
-use Rattle.steps.specs.Decided.{bookedOr, decidedBy, surveyed}
+use Rattle.steps.specs.Decided.{bookedOr, decidedBy, required, surveyed}
 use Rattle.reading.specs.Reading.{historyOf, isWide, jobOf, vaultOf}
 use Rattle.steps.specs.declared.Books.{Books}
 use Rattle.steps.specs.declared.View.{View}
@@ -111,20 +115,25 @@ unfolding ageing
 ageing-quiet true age = refl
 ageing-quiet false age = refl
 
--- generations alone look at all vaults
-wide-kind : (k : Kind) → isWide k ≡ true → k ≡ Generations
-wide-kind Propose w = cc
-wide-kind Preflight w = cc
-wide-kind Commit w = cc
-wide-kind FaultySign w = cc
-wide-kind FaultyAcknowledge w = cc
-wide-kind Show w = cc
-wide-kind Draw w = cc
-wide-kind Generations w = refl
-wide-kind Snapshot w = cc
-wide-kind Release w = cc
-wide-kind ClientPreflight w = cc
-wide-kind Unknown w = cc
+same-listed : (g : Verdict) (r q : Listing) → (g ≡ Pass → r ≡ q) → gatedListing g r ≡ gatedListing g q
+same-listed Pass r q h = h refl
+same-listed (Fail why) r q h = refl
+
+-- two kinds look at all vaults
+by-wide : (P : Kind → Type 0) → P Generations → P Dependencies → (k : Kind) → isWide k ≡ true → P k
+by-wide P g d Propose w = absurd (true≢false (sym w))
+by-wide P g d Preflight w = absurd (true≢false (sym w))
+by-wide P g d Commit w = absurd (true≢false (sym w))
+by-wide P g d FaultySign w = absurd (true≢false (sym w))
+by-wide P g d FaultyAcknowledge w = absurd (true≢false (sym w))
+by-wide P g d Show w = absurd (true≢false (sym w))
+by-wide P g d Draw w = absurd (true≢false (sym w))
+by-wide P g d Generations w = g
+by-wide P g d Snapshot w = absurd (true≢false (sym w))
+by-wide P g d Release w = absurd (true≢false (sym w))
+by-wide P g d Dependencies w = d
+by-wide P g d ClientPreflight w = absurd (true≢false (sym w))
+by-wide P g d Unknown w = absurd (true≢false (sym w))
 
 module _ (l : Ledger) (s : Sane l) (journal : List ℕ) where
   vault-gate : (v job : ℕ) (faulty : Bool) → gateOf (l .settings) v faulty (isBooked (versionOf l) journal (l .booked) job) ≡ vaultGate l journal v job faulty
@@ -198,6 +207,7 @@ module _ (l : Ledger) (s : Sane l) (journal : List ℕ) where
         simp (reflect-sane l .complete s, a)
     decided-is Release n =
         at-vault first second false (λ v job. releasing (vaultAt l v) (versionOf l) journal (l .booked) (signersOf l job) second (getD input (at + 2) 0))
+    decided-is Dependencies n = absurd (true≢false n)
     decided-is ClientPreflight n =
         let third = getD input (at + 2) 0 in
         let history = getD (l .histories) ((8 * (first % 16) + third % 8) % 128) 0 in
@@ -207,14 +217,52 @@ module _ (l : Ledger) (s : Sane l) (journal : List ℕ) where
         ∙ rw p
     decided-is Unknown n = refl
 
-    -- ---- generations
+    -- ---- a kind that looks at all vaults changes nothing
     pub wide-quiet : (k : Kind) → isWide k ≡ true → decision k .change ≡ Nothing
-    unfolding generationsDecision
-    wide-quiet k w = rw (wide-kind k w) (quiet-behind (bookedGate l journal first) _ (ageing-quiet _ _))
+    unfolding generationsDecision dependenciesDecision
+    wide-quiet = by-wide (λ k. decision k .change ≡ Nothing) (quiet-behind (bookedGate l journal first) _ (ageing-quiet _ _)) refl
 
-    pub wide-outcome : (k : Kind) → isWide k ≡ true → surveyed (booksOf l) (l .order) journal (jobOf (command k)) .outcome ≡ decision k .outcome
-    unfolding generationsDecision
-    wide-outcome k w = rw (wide-kind k w, booked-gate first)
+    -- what a command answers and lists, by the ledger's definitions
+    abbrev pub answer : Kind → Listing
+    answer k = record { outcome = decision k .outcome; members = listedBy l journal (command k) }
+
+    -- kind 11: behind an open gate the vault modulo the number of vaults is itself
+    requiredAt : ℕ → Listing
+    requiredAt v = requiring (vaultAt l v) (heldSomewhere (l .settings) (l .vaults)) (versionOf l) journal (l .booked) second
+
+    required-is : required (booksOf l) journal first second ≡ dependenciesOf l journal first second
+    unfolding dependenciesOf requiredAt
+    required-is =
+        ap (λ (g : Verdict). gatedListing g (requiredAt (first % 16))) (vault-gate first second false)
+        ∙ same-listed (vaultGate l journal first second false) _ _ placed
+      where
+        placed : vaultGate l journal first second false ≡ Pass → requiredAt (first % 16) ≡ requiredAt first
+        placed e =
+            let p = in-place l journal first second false (entered l journal first second false e) in
+            let a : first % 16 ≡ first = omega (arith, p .vault) in
+            ap requiredAt a
+
+    pub wide-answer : (k : Kind) → isWide k ≡ true
+        → surveyed (booksOf l) (l .order) journal k (vaultOf (command k)) (jobOf (command k)) ≡ answer k
+    unfolding generationsDecision dependenciesDecision
+    wide-answer =
+        by-wide (λ k. surveyed (booksOf l) (l .order) journal k (vaultOf (command k)) (jobOf (command k)) ≡ answer k) (rw (booked-gate first)) required-is
+
+    -- any other kind lists nothing
+    pub narrow-lists : (k : Kind) → isWide k ≡ false → noJobs ≡ listedBy l journal (command k)
+    narrow-lists Propose n = refl
+    narrow-lists Preflight n = refl
+    narrow-lists Commit n = refl
+    narrow-lists FaultySign n = refl
+    narrow-lists FaultyAcknowledge n = refl
+    narrow-lists Show n = refl
+    narrow-lists Draw n = refl
+    narrow-lists Generations n = refl
+    narrow-lists Snapshot n = refl
+    narrow-lists Release n = refl
+    narrow-lists Dependencies n = absurd (true≢false n)
+    narrow-lists ClientPreflight n = refl
+    narrow-lists Unknown n = refl
 
     -- ---- only a proposal writes the journal
     abbrev LeftBy : Kind → Type 0
@@ -238,6 +286,7 @@ module _ (l : Ledger) (s : Sane l) (journal : List ℕ) where
     bookless-left Generations b = untouched (decision Generations) b
     bookless-left Snapshot b = untouched (decision Snapshot) b
     bookless-left Release b = untouched (decision Release) b
+    bookless-left Dependencies b = untouched (decision Dependencies) b
     bookless-left ClientPreflight b = untouched (decision ClientPreflight) b
     bookless-left Unknown b = untouched (decision Unknown) b
 
@@ -289,5 +338,6 @@ module _ (l : Ledger) (s : Sane l) (journal : List ℕ) where
     there Generations e = quiet _ (wide-quiet Generations refl) e
     there Snapshot e = unnamed _ visit-holds-nothing
     there Release e = gone-in first second false _ e
+    there Dependencies e = quiet _ (wide-quiet Dependencies refl) e
     there ClientPreflight e = gone-in first second false _ e
     there Unknown e = quiet _ refl e

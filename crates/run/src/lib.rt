@@ -6,7 +6,7 @@ ghost use mathlib.Core.Path.{_≡_};
 ghost use Prim.Native.Nat.{_≤_};
 ghost use lib.ListN.{length};
 ghost use Rattle.run.specs.Pieces.{Advanced, Going, Started};
-ghost use Rattle.steps.specs.Turned.{longestText};
+ghost use Rattle.text.specs.Text.{longestText};
 pub use buffers::INPUT;
 pub use buffers::JOURNAL;
 pub use buffers::PIECE;

@@ -13,6 +13,7 @@ pub enum Kind {
     Generations,
     Snapshot,
     Release,
+    Dependencies,
     ClientPreflight,
     Unknown,
 }

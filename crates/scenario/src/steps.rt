@@ -9,6 +9,7 @@ use ledger::Reply;
 use libc::STDOUT_FILENO;
 use outcome::Outcome;
 use record::Job;
+use sets::JobSet;
 use vaults::Column;
 
 fn figures(first: u64, second: u64) {
@@ -84,6 +85,24 @@ pub fn release(l: Ledger, journal: &[u8], vault: u8, job: u8, rival: u8) -> Ledg
     named(b"release", vault, job);
     argument(rival as u64);
     report(b"", operations::release(l, journal, vault, job, rival))
+}
+
+fn listed(members: JobSet) {
+    for k in 0..128 {
+        if members.has(k) {
+            io::print_decimal(STDOUT_FILENO, k as u64);
+            io::write_all(STDOUT_FILENO, b"\n");
+        }
+    }
+}
+
+// Its line, and the jobs that it lists.
+pub fn dependencies(l: Ledger, journal: &[u8], vault: u8, job: u8) {
+    named(b"dependencies", vault, job);
+    let listing = operations::dependencies(l, journal, vault, job);
+    let outcome = listing.outcome;
+    line(b"", outcome);
+    listed(listing.members);
 }
 
 pub fn client_preflight(l: Ledger, journal: &[u8], vault: u8, job: u8, client: u8) -> Ledger

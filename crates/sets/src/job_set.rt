@@ -1,6 +1,6 @@
 // A set of jobs. A journal books at most 128, so two words hold every set.
 ghost use mathlib.Core.Path.{_≡_};
-ghost use Rattle.sets.specs.Jobs.{noJobs, jobHas, jobWith, jobWithout, jobUnion, jobsMeet, jobCount};
+ghost use Rattle.sets.specs.Jobs.{noJobs, jobHas, jobWith, jobWithout, jobUnion, jobsCommon, jobsMeet, jobCount};
 use super::words;
 
 // Jobs 0 to 63 are the bits of `low`, and 64 to 127 those of `high`. No method asks anything of its arguments: a job of
@@ -75,6 +75,16 @@ impl JobSet {
         JobSet {
             low: self.low | other.low,
             high: self.high | other.high,
+        }
+    }
+
+    // The members that both sets have.
+    pub fn common(self, other: JobSet) -> JobSet
+        ensures { λ r. ⌜ r ≡ jobsCommon self other ⌝ }
+    {
+        JobSet {
+            low: self.low & other.low,
+            high: self.high & other.high,
         }
     }
 

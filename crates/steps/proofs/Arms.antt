@@ -2,7 +2,7 @@
 use mathlib.Core.Bool.{Bool, Bool·beq, false, true}
 use mathlib.Core.List.{List}
 use mathlib.Core.Path.{_∙_, _≡_, ap, refl, subst, sym}
-use Prim.Native.Nat.{_+_, _≤_, ℕ}
+use Prim.Native.Nat.{_%_, _+_, _≤_, ℕ}
 use native.Mathlib.Omega.{arith}
 use lib.Dec.{ltb}
 use lib.ListN.{drop, getD, length, take}
@@ -21,20 +21,23 @@ use Rattle.generations.specs.Memo.{Memo}
 use Rattle.index.proofs.Tables.{records-part}
 use Rattle.index.specs.Index.{Indexed, IndexedRecords}
 use Rattle.ledger.proofs.Gates.{passed-rest, passed-test}
-use Rattle.ledger.specs.Decisions.{clientPreflighting, committing, gated, proposal, releasing}
+use Rattle.ledger.specs.Decisions.{clientPreflighting, committing, gated, gatedListing, proposal, releasing, requiring}
 use Rattle.ledger.specs.Given.{Aged, Known, Searchable}
+use Rattle.ledger.specs.Holders.{heldSomewhere}
 use Rattle.ledger.specs.Steps.{gateOf}
 use Rattle.vaults.specs.declared.Column.the-variants.{Acknowledgements, Signatures}
 use Rattle.vaults.specs.declared.Votes.{Votes}
-use Rattle.ledger.specs.Worlds.{clientPreflight, commit, faultyVote, generations, preflight, propose, release, show, snapshot}
+use Rattle.ledger.specs.Worlds.{clientPreflight, commit, dependencies, faultyVote, generations, preflight, propose, release, show, snapshot}
 use Rattle.ledger.specs.declared.Change.the-variants.{Nothing}
 use Rattle.ledger.specs.declared.Decision.{Decision}
+use Rattle.ledger.specs.declared.Listing.{Listing}
+use Rattle.vaults.specs.Vaults.{newVault}
 use Rattle.vaults.specs.declared.Vault.{Vault}
 use Rattle.runfile.specs.Steps.{Command, commandIn, draw, request, unreadable, wordAt}
 use Rattle.runfile.specs.declared.Kind.{Kind}
-use Rattle.runfile.specs.declared.Kind.the-variants.{ClientPreflight, Commit, Draw, FaultyAcknowledge, FaultySign, Generations, Preflight, Propose}
-use Rattle.runfile.specs.declared.Kind.the-variants.{Release, Show, Snapshot, Unknown}
-use Rattle.steps.specs.Decided.{Answered, bookedOr, decidedBy, gateBy}
+use Rattle.runfile.specs.declared.Kind.the-variants.{ClientPreflight, Commit, Dependencies, Draw, FaultyAcknowledge, FaultySign, Generations, Preflight}
+use Rattle.runfile.specs.declared.Kind.the-variants.{Propose, Release, Show, Snapshot, Unknown}
+use Rattle.steps.specs.Decided.{Answered, aged, alone, bookedOr, decidedBy, gateBy, isListing, required, surveyed}
 use Rattle.reading.specs.Reading.{Asked, jobOf, vaultOf}
 use Rattle.steps.specs.declared.Books.{Books}
 use Rattle.reading.specs.declared.Step.{Step}
@@ -52,15 +55,14 @@ searched version journal booked numbers sets records i =
     }
 
 -- a job whose gate passes is booked
-pub known-behind : (w : View) (journal : List ℕ) (v : ℕ) (faulty : Bool) (job : ℕ) (g : Verdict) → g ≡ gateBy w journal v faulty job
-    → Known g (w .booked) job
+pub known-behind : (s : Settings) (booked : ℕ) (journal : List ℕ) (v : ℕ) (faulty : Bool) (job : ℕ) (g : Verdict) → g ≡ gateBy s booked journal v faulty job
+    → Known g booked job
 unfolding gateOf
-known-behind w journal v faulty job g h = record {
+known-behind s booked journal v faulty job g h = record {
   below = λ p.
-      let vault = passed-rest (ltb v (w .settings .n)) _ NoVault (sym h ∙ p) in
-      let kind = passed-rest (Bool·beq (hasBit (w .settings .faulty) v) faulty) _ WrongVault vault in
-      reflect-booked (w .settings .version) journal (w .booked) job .sound
-      (passed-test (isBooked (w .settings .version) journal (w .booked) job) Pass NotBooked kind) .below;
+      let vault = passed-rest (ltb v (s .n)) _ NoVault (sym h ∙ p) in
+      let kind = passed-rest (Bool·beq (hasBit (s .faulty) v) faulty) _ WrongVault vault in
+      reflect-booked (s .version) journal booked job .sound (passed-test (isBooked (s .version) journal booked job) Pass NotBooked kind) .below;
 }
 
 -- the command of a kind with this vault and this job
@@ -75,6 +77,7 @@ again version Draw v job input at = draw job
 again version Generations v job input at = request (generations job)
 again version Snapshot v job input at = request snapshot
 again version Release v job input at = request (release v job (getD input (at + 2) 0))
+again version Dependencies v job input at = request (dependencies v job)
 again version ClientPreflight v job input at = request (clientPreflight v job (getD input (at + 2) 0))
 again version Unknown v job input at = unreadable
 
@@ -91,6 +94,7 @@ module _ (version : ℕ) (input : List ℕ) (at : ℕ) where
   same-command Generations = refl
   same-command Snapshot = refl
   same-command Release = refl
+  same-command Dependencies = refl
   same-command ClientPreflight = refl
   same-command Unknown = refl
 
@@ -140,13 +144,36 @@ drawn o o′ e = rw e
 pub ruleset arms = (searched, known-behind, told, record-whole, regated, with-record, with-signers, with-rival, with-client, drawn)
 
 -- ---- generations
-module _ (a : Books) (order journal memo : List ℕ) (job : ℕ) (b : Bool) (e : b ≡ isBooked (a .settings .version) journal (a .booked) job) where
-  pub aged : (d : Decision) → b ≡ true → Aged (a .settings) (a .vaults) order (a .arrivals) journal (a .booked) memo job d
-      → Answered a order journal memo job (d .outcome)
+module _ (a : Books) (order journal memo : List ℕ) (job : ℕ) (b : Bool) (e : b ≡ isBooked (a .settings .version) journal (a .booked) job) (r : Listing) where
+  pub age-found : (d : Decision) → b ≡ true → Aged (a .settings) (a .vaults) order (a .arrivals) journal (a .booked) memo job d → r ≡ alone (d .outcome)
+      → Answered a order journal memo (alone (aged a order journal job .outcome)) r
   unfolding bookedOr
-  aged d t h = record { outcome = simp (sym e ∙ t) (ap (λ (d : Decision). d .outcome) (h .decision)); right = h .right; size = h .size }
+  age-found d t h q = record {
+    told = q ∙ ap alone (simp (sym e ∙ t) (ap (λ (d : Decision). d .outcome) (h .decision)));
+    right = h .right;
+    size = h .size;
+  }
 
   pub unbooked : b ≡ false → Memo (jobAt (a .settings .version) journal (a .booked)) order (a .arrivals) memo → length memo ≡ capacity
-      → Answered a order journal memo job (Refused NotBooked)
+      → r ≡ alone (Refused NotBooked) → Answered a order journal memo (alone (aged a order journal job .outcome)) r
   unfolding bookedOr
-  unbooked f m z = record { outcome = simp (sym e ∙ f); right = m; size = z }
+  unbooked f m z q = record { told = q ∙ ap alone (simp (sym e ∙ f)); right = m; size = z }
+
+-- ---- missing dependencies
+pub required-so : (a : Books) (journal : List ℕ) (v job : ℕ) (g : Verdict) (r : Listing) → g ≡ gateBy (a .settings) (a .booked) journal v false job
+    → r ≡ gatedListing g
+    (requiring (getD (a .vaults) (v % 16) newVault) (heldSomewhere (a .settings) (a .vaults)) (a .settings .version) journal (a .booked) job)
+    → r ≡ required a journal v job
+required-so a journal v job g r e h = rw e at h
+
+-- ---- one or the other
+module _ (a : Books) (order journal memo : List ℕ) (kind : Kind) (v job : ℕ) (b : Bool) (e : b ≡ isListing kind) (r : Listing) where
+  pub look-required : b ≡ true → r ≡ required a journal v job → Memo (jobAt (a .settings .version) journal (a .booked)) order (a .arrivals) memo
+      → length memo ≡ capacity → Answered a order journal memo (surveyed a order journal kind v job) r
+  look-required t q m z = record { told = q ∙ simp (sym e ∙ t); right = m; size = z }
+
+  pub look-aged : b ≡ false → Answered a order journal memo (alone (aged a order journal job .outcome)) r
+      → Answered a order journal memo (surveyed a order journal kind v job) r
+  look-aged f h = record { told = h .told ∙ simp (sym e ∙ f); right = h .right; size = h .size }
+
+pub ruleset looks = (look-required, look-aged)

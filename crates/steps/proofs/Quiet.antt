@@ -27,8 +27,8 @@ use Rattle.ledger.specs.declared.Decision.{Decision}
 use Rattle.vaults.specs.declared.Vault.{Vault}
 use Rattle.runfile.specs.Steps.{commandIn}
 use Rattle.runfile.specs.declared.Kind.{Kind}
-use Rattle.runfile.specs.declared.Kind.the-variants.{ClientPreflight, Commit, Draw, FaultyAcknowledge, FaultySign, Generations, Preflight, Propose}
-use Rattle.runfile.specs.declared.Kind.the-variants.{Release, Show, Snapshot, Unknown}
+use Rattle.runfile.specs.declared.Kind.the-variants.{ClientPreflight, Commit, Dependencies, Draw, FaultyAcknowledge, FaultySign, Generations, Preflight}
+use Rattle.runfile.specs.declared.Kind.the-variants.{Propose, Release, Show, Snapshot, Unknown}
 use Rattle.steps.specs.Decided.{decidedBy}
 use Rattle.steps.specs.declared.View.{View}
 
@@ -99,6 +99,7 @@ module _ (w : View) (journal input : List ℕ) (at : ℕ) where
   books Generations = inr (search quiet)
   books Snapshot = inr (search quiet)
   books Release = inr (search quiet)
+  books Dependencies = inr (search quiet)
   books ClientPreflight = inr (search quiet)
   books Unknown = inr (search quiet)
 

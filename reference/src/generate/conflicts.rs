@@ -1,6 +1,7 @@
 //! Jobs that can't both be done, and faulty vaults that sign them all.
 
 use super::build::Builder;
+use super::dependencies::ask_around;
 use super::records::*;
 use super::releases::{outvote, release_around};
 use super::traffic::{look_at_all, odd_commit, repeat};
@@ -233,6 +234,9 @@ fn settle(builder: &mut Builder, jobs: &[u8]) {
     }
     if builder.random.chance(60) {
         release_around(builder, jobs);
+    }
+    if builder.random.chance(40) {
+        ask_around(builder, jobs);
     }
     for job in jobs {
         builder.sign_around(*job, 60);

@@ -7,6 +7,7 @@ mod chains;
 mod clients;
 mod conflicts;
 mod damage;
+mod dependencies;
 mod edges;
 mod orphans;
 mod records;

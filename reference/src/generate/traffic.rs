@@ -2,6 +2,7 @@
 
 use super::build::Builder;
 use super::clients::{busy_client, odd_request};
+use super::dependencies::{odd_question, scattered};
 use super::records::{new_accession, new_migration, some_tapes};
 use super::releases::odd_release;
 use crate::settings::MOST_VAULTS;
@@ -18,7 +19,7 @@ pub fn traffic(builder: &mut Builder) {
 
 pub fn action(builder: &mut Builder) {
     let job = recent_job(builder);
-    match builder.random.below(26) {
+    match builder.random.below(30) {
         0..=2 => {
             let record = new_accession(builder);
             builder.push(record);
@@ -43,8 +44,10 @@ pub fn action(builder: &mut Builder) {
         17 => misplaced(builder, job),
         18 | 19 => visit(builder),
         20 => odd_release(builder, job),
-        21 => odd_request(builder, job),
-        22 if builder.random.chance(25) => busy_client(builder),
+        21..=23 => odd_question(builder, job),
+        24 => scattered(builder),
+        25 => odd_request(builder, job),
+        26 if builder.random.chance(25) => busy_client(builder),
         _ => look(builder, job),
     }
 }

@@ -58,8 +58,7 @@ fn any_step(builder: &mut Builder) -> Step {
             builder.random.below(bound + 1) as u8
         }
     };
-    let at_vault = kind < kind::SHOW || kind == kind::RELEASE || kind == kind::CLIENT_PREFLIGHT;
-    let first = if at_vault {
+    let first = if kind < kind::SHOW || kind >= kind::RELEASE {
         near(builder, n)
     } else {
         near(builder, booked.max(n))

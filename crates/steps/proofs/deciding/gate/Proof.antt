@@ -1,6 +1,6 @@
 use Rattle.ledger.specs.Steps.{gateOf}
-use Rattle.steps.proofs.View.gate.Statement.{statement}
-use Rattle.steps.proofs.View.gate.Tie as tie
+use Rattle.steps.proofs.deciding.gate.Statement.{statement}
+use Rattle.steps.proofs.deciding.gate.Tie as tie
 use borrow.Author.Needs.{needs}
 use mathlib.Core.Path.{_∙_, ap}
 
