@@ -30,22 +30,26 @@ pub fn busy_client(builder: &mut Builder) {
     };
     let patient = *builder.random.pick(&[50, 90, 100]);
     for _ in 0..builder.random.between(12, 40) {
-        let job = match builder.random.chance(60) {
-            true => *builder.random.pick(&jobs),
-            false => last,
+        let job = match builder.random.below(10) {
+            0 => builder.any_job(),
+            1..=3 => last,
+            _ => *builder.random.pick(&jobs),
         };
         if builder.random.chance(patient) {
             let _ = builder.step(client_preflight(vault, job, client));
         } else {
-            interrupt(builder, vault, job);
+            interrupt(builder, vault, job, client);
         }
     }
 }
 
 /// What is no request of that client at that vault, or of no booked job.
-fn interrupt(builder: &mut Builder, vault: u8, job: u8) {
+fn interrupt(builder: &mut Builder, vault: u8, job: u8, busy: u8) {
     let other = builder.any_vault();
-    let client = builder.random.below(10) as u8;
+    let client = match builder.random.chance(30) {
+        true => busy + 8,
+        false => builder.random.below(10) as u8,
+    };
     let any = builder.any_job();
     let _ = match builder.random.below(6) {
         0 => builder.step(preflight(vault, job)),

@@ -47,7 +47,7 @@ pub fn action(builder: &mut Builder) {
         21..=23 => odd_question(builder, job),
         24 => scattered(builder),
         25 => odd_request(builder, job),
-        26 if builder.random.chance(25) => busy_client(builder),
+        26 if builder.random.chance(40) => busy_client(builder),
         _ => look(builder, job),
     }
 }
