@@ -14,10 +14,11 @@ pub mod kind {
     pub const SNAPSHOT: u8 = 9;
     pub const RELEASE: u8 = 10;
     pub const DEPENDENCIES: u8 = 11;
+    pub const CLIENT_PREFLIGHT: u8 = 12;
 }
 
 /// Every kind and the length of its body in a version 1 file.
-pub const KINDS: [(u8, usize); 11] = [
+pub const KINDS: [(u8, usize); 12] = [
     (kind::PROPOSE, RECORD_BYTES),
     (kind::PREFLIGHT, 2),
     (kind::COMMIT, 4),
@@ -29,6 +30,7 @@ pub const KINDS: [(u8, usize); 11] = [
     (kind::SNAPSHOT, 0),
     (kind::RELEASE, 3),
     (kind::DEPENDENCIES, 2),
+    (kind::CLIENT_PREFLIGHT, 3),
 ];
 
 #[derive(Clone, PartialEq, Eq, Debug)]
@@ -75,6 +77,12 @@ pub enum Step {
         vault: u8,
         job: u8,
     },
+    /// "a preflight from one of desks 0 to 7"
+    ClientPreflight {
+        vault: u8,
+        job: u8,
+        client: u8,
+    },
 }
 
 /// The length of a step, kind and body, or nothing if the kind is unknown.
@@ -118,6 +126,9 @@ fn read_body(kind: u8, body: &[u8]) -> Step {
         (kind::SNAPSHOT, &[]) => Step::Snapshot,
         (kind::RELEASE, &[vault, job, rival]) => Step::Release { vault, job, rival },
         (kind::DEPENDENCIES, &[vault, job]) => Step::Dependencies { vault, job },
+        (kind::CLIENT_PREFLIGHT, &[vault, job, client]) => {
+            Step::ClientPreflight { vault, job, client }
+        }
         _ => unreachable!("kind {kind} has another length in the table"),
     }
 }
@@ -143,6 +154,7 @@ impl Step {
             Step::Snapshot => kind::SNAPSHOT,
             Step::Release { .. } => kind::RELEASE,
             Step::Dependencies { .. } => kind::DEPENDENCIES,
+            Step::ClientPreflight { .. } => kind::CLIENT_PREFLIGHT,
         }
     }
 
@@ -172,6 +184,9 @@ impl Step {
             Step::Draw { u } => bytes.push(*u),
             Step::Snapshot => {}
             Step::Release { vault, job, rival } => bytes.extend([*vault, *job, *rival]),
+            Step::ClientPreflight { vault, job, client } => {
+                bytes.extend([*vault, *job, *client]);
+            }
         }
         bytes
     }

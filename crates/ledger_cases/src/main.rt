@@ -2,6 +2,7 @@
 // the answer. Document 01 decides what they must be; `stdout` holds them.
 mod ages;
 mod checks;
+mod clients;
 mod dependencies;
 mod releases;
 mod run;
@@ -21,4 +22,5 @@ fn main() {
     dependencies::four_missing();
     dependencies::no_set();
     versions::versions();
+    clients::clients();
 }

@@ -14,5 +14,6 @@ pub enum Kind {
     Snapshot,
     Release,
     Dependencies,
+    ClientPreflight,
     Unknown,
 }

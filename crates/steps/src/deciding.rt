@@ -128,6 +128,20 @@ pub(crate) fn decide(
             reading::byte_at(input, at + 2) as usize,
         ),
         Kind::Dependencies => decisions::refuse(Refusal::NotHeld),
+        Kind::ClientPreflight => decisions::client_preflight(
+            gate(view.settings, booked, journal, vault, false, j),
+            view.state,
+            numbers,
+            sets,
+            version,
+            journal,
+            booked,
+            reading::byte_at(input, at + 2),
+            view.history,
+            votes.signatures,
+            vault,
+            j,
+        ),
         Kind::Unknown => decisions::refuse(Refusal::Unreadable),
     }
 }
@@ -225,6 +239,7 @@ fn is_listing(kind: Kind) -> bool
         Kind::Snapshot => false,
         Kind::Release => false,
         Kind::Dependencies => true,
+        Kind::ClientPreflight => false,
         Kind::Unknown => false,
     }
 }
