@@ -79,6 +79,9 @@ fn step<'a>(ledger: &mut Ledger<'a>, rest: &'a [u8]) -> Option<(Answer, &'a [u8]
         [kind::RELEASE, vault, job, rival, ref rest @ ..] => {
             (ledger.release(vault, job, rival), rest)
         }
+        [kind::CLIENT_PREFLIGHT, vault, job, client, ref rest @ ..] => {
+            (ledger.client_preflight(vault, job, client), rest)
+        }
         _ => return None,
     })
 }

@@ -43,6 +43,8 @@ pub fn all() -> Vec<Edge> {
         edge("missing before any commit", unheld(), &UNHELD),
         missing_makers(),
         edge("makers in the way", in_the_way(), &IN_THE_WAY),
+        edge("a busy client", busy(), &busy_answers()),
+        edge("a client beside others", beside(), &BESIDE),
         equivocating_once(),
         equivocating_excused(),
         equivocating_five(),
@@ -663,6 +665,97 @@ const IN_THE_WAY: [Answer; 21] = [
     (0, 0),
     // Held, and not signed.
     (21, 0),
+];
+
+/// Six accessions of one tape each, booked at one vault that is correct.
+fn six_accessions() -> Vec<Step> {
+    let labels: [&[u8; 8]; 6] = [
+        b"VAA000L7",
+        b"VAA001L7",
+        b"VAA002L7",
+        b"VAA003L7",
+        b"VAA004L7",
+        b"VAA005L7",
+    ];
+    let one = |label| propose(record(0, 7, &[], &[(label, 1)]));
+    labels.into_iter().map(one).collect()
+}
+
+const SIX_BOOKED: [Answer; 6] = [(0, 0), (0, 1), (0, 2), (0, 3), (0, 4), (0, 5)];
+
+/// Document 02, M-109: client 0 gets jobs 0 to 3, and job 4 only after twelve refusals; then job 5 at once, since two of the first four are past.
+fn busy() -> Vec<u8> {
+    let mut steps = six_accessions();
+    steps.extend((0..4).map(|job| client_preflight(0, job, 0)));
+    steps.extend(vec![client_preflight(0, 4, 0); 13]);
+    steps.push(client_preflight(0, 5, 0));
+    run_file(1, 0, 0, &steps)
+}
+
+fn busy_answers() -> Vec<Answer> {
+    let mut answers = SIX_BOOKED.to_vec();
+    answers.extend([(0, 1); 4]);
+    answers.extend([(23, 0); 12]);
+    answers.extend([(0, 1); 2]);
+    answers
+}
+
+/// Client 0 is over its quota: client 1 is not, a signed job is accepted, client 8 is none, and a preflight of kind 2 has no quota. Each request of client
+/// 0 counts, also those of a signed job; those that name no booked job, no such vault or no client do not, so the thirteenth is accepted.
+fn beside() -> Vec<u8> {
+    let mut steps = six_accessions();
+    steps.extend((0..4).map(|job| client_preflight(0, job, 0)));
+    steps.extend([
+        client_preflight(0, 4, 0),
+        client_preflight(0, 4, 1),
+        client_preflight(0, 4, 0),
+        client_preflight(0, 3, 0),
+        client_preflight(0, 5, 8),
+        client_preflight(0, 200, 8),
+        client_preflight(0, 200, 0),
+        client_preflight(1, 5, 0),
+        client_preflight(0, 5, 0),
+        preflight(0, 5),
+        client_preflight(0, 5, 0),
+        propose(record(0, 7, &[], &[(b"VAA006L7", 1)])),
+    ]);
+    steps.extend(vec![client_preflight(0, 6, 0); 8]);
+    run_file(1, 0, 0, &steps)
+}
+
+const BESIDE: [Answer; 30] = [
+    (0, 0),
+    (0, 1),
+    (0, 2),
+    (0, 3),
+    (0, 4),
+    (0, 5),
+    (0, 1),
+    (0, 1),
+    (0, 1),
+    (0, 1),
+    (23, 0),
+    (0, 1),
+    // Signed meanwhile, so accepted.
+    (0, 1),
+    (0, 1),
+    (22, 0),
+    (4, 0),
+    (4, 0),
+    (3, 0),
+    (23, 0),
+    (0, 1),
+    (0, 1),
+    (0, 6),
+    // Five counted since the fourth signature: seven more are turned back.
+    (23, 0),
+    (23, 0),
+    (23, 0),
+    (23, 0),
+    (23, 0),
+    (23, 0),
+    (23, 0),
+    (0, 1),
 ];
 
 /// One of 16 vaults is away: of 16 quorums 16 − b want it. No other draw is an exact half.

@@ -14,6 +14,7 @@ pub mod kind {
     pub const SNAPSHOT: u8 = 9;
     pub const RELEASE: u8 = 10;
     pub const DEPENDENCIES: u8 = 11;
+    pub const CLIENT_PREFLIGHT: u8 = 12;
     pub const EQUIVOCATING: u8 = 13;
 }
 
@@ -30,6 +31,7 @@ pub const KINDS: [(u8, usize); 12] = [
     (kind::SNAPSHOT, 0),
     (kind::RELEASE, 3),
     (kind::DEPENDENCIES, 2),
+    (kind::CLIENT_PREFLIGHT, 3),
     (kind::EQUIVOCATING, 0),
 ];
 
@@ -77,6 +79,12 @@ pub enum Step {
         vault: u8,
         job: u8,
     },
+    /// "a preflight from one of desks 0 to 7"
+    ClientPreflight {
+        vault: u8,
+        job: u8,
+        client: u8,
+    },
     /// "Naming a two-faced vault."
     Equivocating,
 }
@@ -122,6 +130,9 @@ fn read_body(kind: u8, body: &[u8]) -> Step {
         (kind::SNAPSHOT, &[]) => Step::Snapshot,
         (kind::RELEASE, &[vault, job, rival]) => Step::Release { vault, job, rival },
         (kind::DEPENDENCIES, &[vault, job]) => Step::Dependencies { vault, job },
+        (kind::CLIENT_PREFLIGHT, &[vault, job, client]) => {
+            Step::ClientPreflight { vault, job, client }
+        }
         (kind::EQUIVOCATING, &[]) => Step::Equivocating,
         _ => unreachable!("kind {kind} has another length in the table"),
     }
@@ -148,6 +159,7 @@ impl Step {
             Step::Snapshot => kind::SNAPSHOT,
             Step::Release { .. } => kind::RELEASE,
             Step::Dependencies { .. } => kind::DEPENDENCIES,
+            Step::ClientPreflight { .. } => kind::CLIENT_PREFLIGHT,
             Step::Equivocating => kind::EQUIVOCATING,
         }
     }
@@ -178,6 +190,9 @@ impl Step {
             Step::Draw { u } => bytes.push(*u),
             Step::Snapshot | Step::Equivocating => {}
             Step::Release { vault, job, rival } => bytes.extend([*vault, *job, *rival]),
+            Step::ClientPreflight { vault, job, client } => {
+                bytes.extend([*vault, *job, *client]);
+            }
         }
         bytes
     }

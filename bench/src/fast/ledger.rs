@@ -12,6 +12,8 @@ use reference::settings::MOST_VAULTS;
 // A set of jobs has a bit for each.
 const _: () = assert!(BOOK_RECORDS <= Jobs::BITS as usize);
 
+const CLIENTS: usize = 8;
+
 /// What a correct vault keeps.
 #[derive(Clone, Copy, Default)]
 pub struct Vault {
@@ -55,6 +57,8 @@ pub struct Ledger<'a> {
     /// The vault that a snapshot visits next, and the jobs that its round has seen.
     next: u8,
     seen: Jobs,
+    /// For each vault and client, its last fifteen counted requests, the newest lowest: a bit where a request brought a new signature.
+    histories: [[u16; CLIENTS]; MOST_VAULTS as usize],
     /// The vaults that equivocate, where no signature has come since they were found.
     named: Option<u16>,
 }
@@ -70,6 +74,7 @@ impl<'a> Ledger<'a> {
             repeats: Repeats::new(),
             next: 0,
             seen: 0,
+            histories: [[0; CLIENTS]; MOST_VAULTS as usize],
             named: None,
         }
     }
@@ -263,6 +268,34 @@ impl<'a> Ledger<'a> {
             Some(_) => (Answer::refused(21, 0), 0),
             None => (Answer::done(missing.count_ones() as u16), missing),
         }
+    }
+
+    #[inline]
+    pub fn client_preflight(&mut self, vault: u8, job: u8, client: u8) -> Answer {
+        if let Some(refusal) = self.gate(vault, job, false) {
+            return refusal;
+        }
+        if usize::from(client) >= CLIENTS {
+            return Answer::refused(22, 0);
+        }
+        let history = &mut self.histories[usize::from(vault)][usize::from(client)];
+        let spent = history.count_ones() >= 4;
+        *history = *history << 1 & 0x7fff;
+        let state = &mut self.vaults[usize::from(vault)];
+        let booked = &mut self.jobs[usize::from(job)];
+        let bit = 1 << job;
+        if state.signed & bit == 0 {
+            if spent {
+                return Answer::refused(23, 0);
+            }
+            if let Some(refusal) = self.index.refusal(*state, &booked.tapes) {
+                return refusal;
+            }
+            *history |= 1;
+            state.signed |= bit;
+            booked.signatures.add(vault);
+        }
+        Answer::done(booked.signatures.count.into())
     }
 
     /// The vaults that equivocate, and how many they are.

@@ -1,5 +1,6 @@
 // What a step decides, from the pieces that it names: the verdict of the checks before, a vault, the votes on a job. The ledger's
 // operations and the run share these functions.
+mod clients;
 mod equivocators;
 mod missing;
 mod releases;
@@ -35,6 +36,7 @@ ghost use Rattle.ledger.specs.Holders.{isHeld};
 ghost use Rattle.ledger.specs.Steps.{gateOf};
 ghost use Rattle.vaults.specs.Votes.{columnOf};
 ghost use Rattle.ledger.specs.declared.Change.the-variants.{Record};
+pub use clients::client_preflight;
 pub use equivocators::equivocating;
 use federation::Settings;
 use ledger::Change;

@@ -1,4 +1,4 @@
-// The jobs that a vault misses, by the index: what stands at an input's number, and no record is read.
+// The jobs that a vault misses, by the index: what stands at an input's number; of the records only the count of inputs is read.
 ghost use mathlib.Core.Path.{_≡_};
 ghost use Prim.Native.Nat.{_*_, _+_, _<_};
 ghost use Rattle.journal.specs.Journal.{capacity, jobAt};

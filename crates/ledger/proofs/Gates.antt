@@ -20,6 +20,7 @@ use Rattle.codec.specs.Codec.{placeOf}
 use Rattle.journal.proofs.Booked.{reflect-booked, reflect-whole}
 use Rattle.journal.specs.Journal.{Booked, capacity}
 use Rattle.ledger.specs.Meaning.{Entered, Sane}
+use Rattle.ledger.specs.Register.{isDone}
 use Rattle.ledger.specs.State.{applied, isSane, versionOf}
 use Rattle.ledger.specs.Steps.{bookedGate, carried, gateOf, turned, vaultGate, wholeGate}
 use Rattle.ledger.specs.Decisions.{gated, gatedListing, unlisted}
@@ -52,6 +53,11 @@ passed-test false v why e = cc
 pub passed-rest : (b : Bool) (v : Verdict) (why : Refusal) → cond b v (Fail why) ≡ Pass → v ≡ Pass
 passed-rest true v why e = e
 passed-rest false v why e = cc
+
+-- a step that is answered 0 passed its gate
+pub done-gate : (g : Verdict) (d : Decision) → isDone (gated g d .outcome) ≡ true → g ≡ Pass
+done-gate Pass d e = refl
+done-gate (Fail why) d e = absurd (true≢false (sym e))
 
 pub booked-entered : (l : Ledger) (journal : List ℕ) (job : ℕ) → bookedGate l journal job ≡ Pass → Sane l × Booked (versionOf l) journal (l .booked) job
 unfolding bookedGate

@@ -10,7 +10,9 @@ pub mod Growth
 pub mod Holders
 pub mod Independence
 pub mod Meaning
+pub mod Quota
 pub mod Ready
+pub mod Refused
 pub mod Register
 pub mod Rounds
 pub mod State

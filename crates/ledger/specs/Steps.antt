@@ -16,7 +16,7 @@ use Rattle.federation.specs.declared.Settings.{Settings}
 use Rattle.journal.specs.Journal.{isBooked, isWhole, jobAt, putAt}
 use Rattle.generations.specs.Generations.{ageIn}
 use Rattle.ledger.specs.declared.Change.{Change}
-use Rattle.ledger.specs.declared.Change.the-variants.{Book, Hold, Nothing, Record, Release, See, Sign}
+use Rattle.ledger.specs.declared.Change.the-variants.{Book, Count, Grant, Hold, Nothing, Record, Release, See, Sign}
 use Rattle.vaults.specs.declared.Column.{Column}
 use Rattle.ledger.specs.declared.Decision.{Decision}
 use Rattle.ledger.specs.declared.Ledger.{Ledger}
@@ -25,6 +25,7 @@ use Rattle.ledger.specs.declared.Reply.{Reply}
 use Rattle.ledger.specs.Decisions.{
   ageing,
   answering,
+  clientPreflighting,
   committing,
   gated,
   gatedListing,
@@ -39,7 +40,7 @@ use Rattle.ledger.specs.Decisions.{
 }
 use Rattle.ledger.specs.Equivocation.{equivocators}
 use Rattle.ledger.specs.Holders.{heldSomewhere, isHeld}
-use Rattle.ledger.specs.State.{applied, isSane, newLedger, signersOf, vaultAt, versionOf, votesAt, votesIn}
+use Rattle.ledger.specs.State.{applied, historyAt, isSane, newLedger, signersOf, vaultAt, versionOf, votesAt, votesIn}
 
 -- ---- a new ledger: the threshold where the settings are lawful
 unfoldable pub newOf : ℕ → ℕ → ℕ → ℕ → Reply
@@ -126,6 +127,12 @@ dependenciesOf l journal v job =
 unfoldable pub dependenciesDecision : Ledger → List ℕ → ℕ → ℕ → Decision
 dependenciesDecision l journal v job = record { outcome = dependenciesOf l journal v job .outcome; change = Nothing }
 
+-- kind 12: "3, 5, 4 as for kind 2; then 22", a job already signed, 23, 11 to 14
+unfoldable pub clientPreflightDecision : Ledger → List ℕ → ℕ → ℕ → ℕ → Decision
+clientPreflightDecision l journal v job client =
+    gated (vaultGate l journal v job false)
+    (clientPreflighting (vaultAt l v) (versionOf l) journal (l .booked) client (historyAt l v client) (signersOf l job) v job)
+
 -- kind 13: "4"; the vaults that equivocate
 unfoldable pub equivocatorsOf : Ledger → List ℕ → Listing
 equivocatorsOf l journal =
@@ -152,6 +159,8 @@ journalWith (Hold state) booked version journal bytes = journal
 journalWith (Release state) booked version journal bytes = journal
 journalWith (Record column) booked version journal bytes = journal
 journalWith (See seen) booked version journal bytes = journal
+journalWith (Count history) booked version journal bytes = journal
+journalWith (Grant grant) booked version journal bytes = journal
 
 -- ---- the operations; a proposal names no vault and no job
 unfoldable pub proposeOf : Ledger → List ℕ → List ℕ → Reply
@@ -174,6 +183,9 @@ snapshotOf l = carried l (snapshotDecision l) 0 0
 
 unfoldable pub releaseOf : Ledger → List ℕ → ℕ → ℕ → ℕ → Reply
 releaseOf l journal v job rival = carried l (releaseDecision l journal v job rival) v job
+
+unfoldable pub clientPreflightOf : Ledger → List ℕ → ℕ → ℕ → ℕ → Reply
+clientPreflightOf l journal v job client = carried l (clientPreflightDecision l journal v job client) v job
 
 -- the two that only read a figure; `dependenciesOf` and `equivocatorsOf` stand above
 abbrev pub showOf : Ledger → List ℕ → ℕ → Outcome

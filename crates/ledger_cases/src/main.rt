@@ -2,6 +2,7 @@
 // the answer. Document 01 decides what they must be; `stdout` holds them.
 mod ages;
 mod checks;
+mod clients;
 mod dependencies;
 mod equivocation;
 mod releases;
@@ -25,4 +26,5 @@ fn main() {
     equivocation::excused();
     equivocation::five();
     versions::versions();
+    clients::clients();
 }

@@ -4,7 +4,7 @@ use mathlib.Core.Bool.{Bool, false, true, true≢false}
 use mathlib.Core.List.{List}
 use mathlib.Core.Logic.{_⊎_, ⊎-elim}
 use mathlib.Core.Path.{_∙_, _≡_, ap, refl, subst, sym}
-use Prim.Native.Nat.{_%_, _+_, _<_, ℕ}
+use Prim.Native.Nat.{_*_, _%_, _+_, _<_, ℕ}
 use native.Mathlib.Omega.{arith}
 use lib.ListN.{drop, getD, take}
 use Rattle.base.proofs.Reflect.{by-cases}
@@ -20,19 +20,18 @@ use Rattle.draw.specs.Draw.{drawOf}
 use Rattle.ledger.proofs.Gates.{booked-entered, entered, in-place, reflect-sane}
 use Rattle.ledger.proofs.Places.{proposed}
 use Rattle.ledger.proofs.Writes.{unwritten}
-use Rattle.ledger.specs.Decisions.{ageing, answering, committing, gated, gatedListing, isBook, isNothing, listing, preflighting, refusing, releasing}
-use Rattle.ledger.specs.Decisions.{requiring}
-use Rattle.ledger.specs.Decisions.{snapshotting, statusOf, voting}
+use Rattle.ledger.specs.Decisions.{ageing, answering, clientPreflighting, committing, gated, gatedListing, isBook, isNothing, listing, preflighting}
+use Rattle.ledger.specs.Decisions.{refusing, releasing, requiring, snapshotting, statusOf, voting}
 use Rattle.ledger.specs.Holders.{heldSomewhere}
 use Rattle.ledger.specs.Given.{Placed}
 use Rattle.ledger.specs.Meaning.{Proposed, Sane, failed, full, insane, known, new}
-use Rattle.ledger.specs.State.{applied, signersOf, vaultAt, versionOf, votesAt, votesIn}
-use Rattle.ledger.specs.Steps.{bookedGate, commitDecision, dependenciesDecision, dependenciesOf, faultyVoteDecision, gateOf, generationsDecision, journalAfter}
-use Rattle.ledger.specs.Steps.{equivocatorsDecision, equivocatorsOf, wholeGate}
+use Rattle.ledger.specs.State.{applied, historyAt, signersOf, vaultAt, versionOf, votesAt, votesIn}
+use Rattle.ledger.specs.Steps.{bookedGate, clientPreflightDecision, commitDecision, dependenciesDecision, dependenciesOf, equivocatorsDecision}
+use Rattle.ledger.specs.Steps.{equivocatorsOf, faultyVoteDecision, gateOf, generationsDecision, journalAfter, wholeGate}
 use Rattle.ledger.specs.Steps.{journalWith, preflightDecision, proposeDecision, releaseDecision, saneGate, showDecision, snapshotDecision, vaultGate}
 use Rattle.ledger.specs.Worlds.{decisionOf}
 use Rattle.ledger.specs.declared.Change.{Change}
-use Rattle.ledger.specs.declared.Change.the-variants.{Book, Hold, Nothing, Record, Release as Released, See, Sign}
+use Rattle.ledger.specs.declared.Change.the-variants.{Book, Count, Grant, Hold, Nothing, Record, Release as Released, See, Sign}
 use Rattle.vaults.specs.declared.Column.the-variants.{Acknowledgements, Signatures}
 use Rattle.ledger.specs.declared.Decision.{Decision}
 use Rattle.ledger.specs.declared.Ledger.{Ledger}
@@ -40,11 +39,12 @@ use Rattle.ledger.specs.declared.Listing.{Listing}
 use Rattle.vaults.specs.declared.Vault.{Vault}
 use Rattle.runfile.specs.Steps.{Command, commandIn, draw, journalBy, listedBy, replyOf, request, unreadable, wordAt}
 use Rattle.runfile.specs.declared.Kind.{Kind}
-use Rattle.runfile.specs.declared.Kind.the-variants.{Commit, Dependencies, Draw, Equivocating, FaultyAcknowledge, FaultySign, Generations, Preflight, Propose}
-use Rattle.runfile.specs.declared.Kind.the-variants.{Release, Show, Snapshot, Unknown}
+use Rattle.runfile.specs.declared.Kind.the-variants.{ClientPreflight, Commit, Dependencies, Draw, Equivocating, FaultyAcknowledge, FaultySign, Generations}
+use Rattle.runfile.specs.declared.Kind.the-variants.{Preflight, Propose, Release, Show, Snapshot, Unknown}
+use Rattle.quota.specs.Quota.{historyPlace}
 use Rattle.steps.proofs.Quiet.{Bookless}
 use Rattle.steps.specs.Decided.{Named, bookedOr, decidedBy, naming, required, surveyed}
-use Rattle.reading.specs.Reading.{isWide, jobOf, vaultOf}
+use Rattle.reading.specs.Reading.{historyOf, isWide, jobOf, vaultOf}
 use Rattle.steps.specs.declared.Books.{Books}
 use Rattle.steps.specs.declared.View.{View}
 
@@ -67,13 +67,14 @@ module _ (l : Ledger) (journal : List ℕ) where
   reply-outcome (draw u) = refl
   reply-outcome unreadable = refl
 
--- ---- what a step looks at: the arrays are read at the vault and the job modulo their length
-abbrev pub viewAt : Ledger → ℕ → ℕ → View
-viewAt l v job = record {
+-- ---- what a step looks at: the arrays are read at the vault, the job and the place modulo their length
+abbrev pub viewAt : Ledger → ℕ → ℕ → ℕ → View
+viewAt l v job place = record {
   settings = l .settings;
   booked = l .booked;
   state = vaultAt l (v % 16);
   votes = votesAt l (job % 128);
+  history = getD (l .histories) (place % 128) 0;
   next = l .next;
   seen = l .seen;
   turn = vaultAt l (l .next % 16);
@@ -99,6 +100,8 @@ isHold (Hold state) = true
 isHold (Released state) = false
 isHold (Record column) = false
 isHold (See seen) = false
+isHold (Count history) = false
+isHold (Grant grant) = false
 
 unheld-behind : (g : Verdict) (d : Decision) → isHold (d .change) ≡ false → isHold (gated g d .change) ≡ false
 unheld-behind Pass d e = e
@@ -131,6 +134,7 @@ by-wide P g d e Generations w = g
 by-wide P g d e Snapshot w = absurd (true≢false (sym w))
 by-wide P g d e Release w = absurd (true≢false (sym w))
 by-wide P g d e Dependencies w = d
+by-wide P g d e ClientPreflight w = absurd (true≢false (sym w))
 by-wide P g d e Equivocating w = e
 by-wide P g d e Unknown w = absurd (true≢false (sym w))
 
@@ -190,8 +194,10 @@ module _ (l : Ledger) (s : Sane l) (journal : List ℕ) where
     abbrev second : ℕ
     second = getD input (at + 1) 0
 
-    pub decided-is : (k : Kind) → isWide k ≡ false → decidedBy (viewAt l (vaultOf (command k)) (jobOf (command k))) journal (command k) ≡ decision k
+    pub decided-is : (k : Kind) → isWide k ≡ false → decidedBy (viewAt l (vaultOf (command k)) (jobOf (command k)) (historyOf (command k))) journal (command k)
+        ≡ decision k
     unfolding proposeDecision preflightDecision commitDecision faultyVoteDecision showDecision snapshotDecision saneGate votesIn releaseDecision
+        clientPreflightDecision historyAt historyPlace
     decided-is Propose n = simp (reflect-sane l .complete s)
     decided-is Preflight n =
         at-vault first second false (λ v job. preflighting (vaultAt l v) (versionOf l) journal (l .booked) (signersOf l job) first second)
@@ -209,6 +215,13 @@ module _ (l : Ledger) (s : Sane l) (journal : List ℕ) where
     decided-is Release n =
         at-vault first second false (λ v job. releasing (vaultAt l v) (versionOf l) journal (l .booked) (signersOf l job) second (getD input (at + 2) 0))
     decided-is Dependencies n = absurd (true≢false n)
+    decided-is ClientPreflight n =
+        let third = getD input (at + 2) 0 in
+        let history = getD (l .histories) ((8 * (first % 16) + third % 8) % 128) 0 in
+        let p : (8 * (first % 16) + third % 8) % 128 ≡ 8 * (first % 16) + third % 8 = omega arith in
+        at-vault first second false
+        (λ v job. clientPreflighting (vaultAt l v) (versionOf l) journal (l .booked) third history (signersOf l job) first second)
+        ∙ rw p
     decided-is Equivocating n = absurd (true≢false n)
     decided-is Unknown n = refl
 
@@ -265,6 +278,7 @@ module _ (l : Ledger) (s : Sane l) (journal : List ℕ) where
     narrow-lists Snapshot n = refl
     narrow-lists Release n = refl
     narrow-lists Dependencies n = absurd (true≢false n)
+    narrow-lists ClientPreflight n = refl
     narrow-lists Equivocating n = absurd (true≢false n)
     narrow-lists Unknown n = refl
 
@@ -291,6 +305,7 @@ module _ (l : Ledger) (s : Sane l) (journal : List ℕ) where
     bookless-left Snapshot b = untouched (decision Snapshot) b
     bookless-left Release b = untouched (decision Release) b
     bookless-left Dependencies b = untouched (decision Dependencies) b
+    bookless-left ClientPreflight b = untouched (decision ClientPreflight) b
     bookless-left Equivocating b = untouched (decision Equivocating) b
     bookless-left Unknown b = untouched (decision Unknown) b
 
@@ -331,7 +346,7 @@ module _ (l : Ledger) (s : Sane l) (journal : List ℕ) where
     quiet c q e = absurd (true≢false (sym (ap isNothing q) ∙ e))
 
     pub there : (k : Kind) → isNothing (decision k .change) ≡ false → There (vaultOf (command k)) (jobOf (command k)) (decision k)
-    unfolding preflightDecision commitDecision faultyVoteDecision showDecision releaseDecision
+    unfolding preflightDecision commitDecision faultyVoteDecision showDecision releaseDecision clientPreflightDecision
     there Propose e = unnamed _ (proposal-holds-nothing _ (proposed l journal bytes))
     there Preflight e = gone-in first second false _ e
     there Commit e = gone-in first second false _ e
@@ -343,5 +358,6 @@ module _ (l : Ledger) (s : Sane l) (journal : List ℕ) where
     there Snapshot e = unnamed _ visit-holds-nothing
     there Release e = gone-in first second false _ e
     there Dependencies e = quiet _ (wide-quiet Dependencies refl) e
+    there ClientPreflight e = gone-in first second false _ e
     there Equivocating e = quiet _ (wide-quiet Equivocating refl) e
     there Unknown e = quiet _ refl e

@@ -15,7 +15,7 @@ use Rattle.ledger.specs.Given.{Placed, Writable}
 use Rattle.ledger.specs.State.{applied, versionOf}
 use Rattle.ledger.specs.Steps.{journalWith}
 use Rattle.ledger.specs.declared.Change.{Change}
-use Rattle.ledger.specs.declared.Change.the-variants.{Book, Hold, Nothing, Record, Release, See, Sign}
+use Rattle.ledger.specs.declared.Change.the-variants.{Book, Count, Grant, Hold, Nothing, Record, Release, See, Sign}
 use Rattle.ledger.specs.declared.Decision.{Decision}
 use Rattle.ledger.specs.declared.Ledger.{Ledger}
 use Rattle.ledger.specs.declared.Listing.{Listing}
@@ -63,6 +63,8 @@ is-nothing (Hold state) e = cc
 is-nothing (Release state) e = cc
 is-nothing (Record column) e = cc
 is-nothing (See seen) e = cc
+is-nothing (Count history) e = cc
+is-nothing (Grant grant) e = cc
 
 -- nothing changed
 same-ledger : (l : Ledger) (c : Change) (v job : ℕ) → c ≡ Nothing → l ≡ applied l c v job
@@ -82,7 +84,7 @@ module _ {input : List ℕ} {l₀ : Ledger} {pos₀ count₀ : ℕ} {journal₀ 
   decision = commandDecision l journal command
 
   abbrev view : View
-  view = viewAt l (s .vault) (s .job)
+  view = viewAt l (s .vault) (s .job) (s .place)
 
   -- where the loop goes on
   abbrev Next : Ledger → (memo journal numbers sets records out : List ℕ) → ℕ → Type 0
@@ -153,7 +155,7 @@ module _ {input : List ℕ} {l₀ : Ledger} {pos₀ count₀ : ℕ} {journal₀ 
 
     found-is : found ≡ decision
     found-is =
-        rw (r .asked .vault-is, r .asked .job-is)
+        rw (r .asked .vault-is, r .asked .job-is, r .asked .place-is)
         (decided-is l (t .kept .sane) journal input (s .at) (s .kind) (sym (r .wide-is) ∙ narrow))
 
     change-is : told .change ≡ decision .change

@@ -111,6 +111,7 @@ pub fn advance(
             booked: ledger.booked,
             state: ledger.vaults[(step.vault % 16) as usize],
             votes: ledger.votes[(step.job % 128) as usize],
+            history: ledger.histories[step.place % 128],
             next: ledger.next,
             seen: ledger.seen,
             turn: ledger.vaults[(ledger.next % 16) as usize],

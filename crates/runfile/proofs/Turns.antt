@@ -20,6 +20,7 @@ use Rattle.runfile.specs.Run.{runText, textFrom, textNext, textOf, textU
 use Rattle.runfile.specs.Steps.{endOf, kindAt, listedBy, replyOf}
 use Rattle.runfile.specs.declared.Kind.{Kind}
 use Rattle.runfile.specs.declared.Kind.the-variants.{
+  ClientPreflight,
   Commit,
   Dependencies,
   Draw,
@@ -94,6 +95,7 @@ reads-on version Generations pos size n h = omega arith
 reads-on version Snapshot pos size n h = omega arith
 reads-on version Release pos size n h = omega arith
 reads-on version Dependencies pos size n h = omega arith
+reads-on version ClientPreflight pos size n h = omega arith
 reads-on version Equivocating pos size n h = omega arith
 reads-on version Unknown pos size n h = omega arith
 

@@ -23,14 +23,14 @@ use Rattle.index.proofs.Tables.{records-part}
 use Rattle.index.specs.Index.{Indexed, IndexedRecords}
 use Rattle.ledger.proofs.Gates.{passed-rest, passed-test}
 use Rattle.decisions.specs.Partners.{recordedIn}
-use Rattle.ledger.specs.Decisions.{committing, gated, gatedListing, listing, proposal, releasing, requiring, unlisted}
+use Rattle.ledger.specs.Decisions.{clientPreflighting, committing, gated, gatedListing, listing, proposal, releasing, requiring, unlisted}
 use Rattle.ledger.specs.Equivocation.{equivocators}
 use Rattle.ledger.specs.Given.{Aged, Known, Searchable}
 use Rattle.ledger.specs.Holders.{heldSomewhere}
 use Rattle.ledger.specs.Steps.{gateOf}
 use Rattle.vaults.specs.declared.Column.the-variants.{Acknowledgements, Signatures}
 use Rattle.vaults.specs.declared.Votes.{Votes}
-use Rattle.ledger.specs.Worlds.{commit, dependencies, equivocating, faultyVote, generations, preflight, propose, release, show, snapshot}
+use Rattle.ledger.specs.Worlds.{clientPreflight, commit, dependencies, equivocating, faultyVote, generations, preflight, propose, release, show, snapshot}
 use Rattle.ledger.specs.declared.Change.the-variants.{Nothing}
 use Rattle.ledger.specs.declared.Decision.{Decision}
 use Rattle.ledger.specs.declared.Listing.{Listing}
@@ -38,10 +38,9 @@ use Rattle.vaults.specs.Vaults.{newVault}
 use Rattle.vaults.specs.declared.Vault.{Vault}
 use Rattle.runfile.specs.Steps.{Command, commandIn, draw, request, unreadable, wordAt}
 use Rattle.runfile.specs.declared.Kind.{Kind}
-use Rattle.runfile.specs.declared.Kind.the-variants.{Commit, Dependencies, Draw, Equivocating, FaultyAcknowledge, FaultySign, Generations, Preflight, Propose}
-use Rattle.runfile.specs.declared.Kind.the-variants.{Release, Show, Snapshot, Unknown}
-use Rattle.steps.specs.Decided.{Answered, Named, aged, alone, bookedOr, decidedBy, gateBy, isListing, isNaming, naming, required}
-use Rattle.steps.specs.Decided.{surveyed}
+use Rattle.runfile.specs.declared.Kind.the-variants.{ClientPreflight, Commit, Dependencies, Draw, Equivocating, FaultyAcknowledge, FaultySign, Generations}
+use Rattle.runfile.specs.declared.Kind.the-variants.{Preflight, Propose, Release, Show, Snapshot, Unknown}
+use Rattle.steps.specs.Decided.{Answered, Named, aged, alone, bookedOr, decidedBy, gateBy, isListing, isNaming, naming, required, surveyed}
 use Rattle.reading.specs.Reading.{Asked, jobOf, vaultOf}
 use Rattle.steps.specs.declared.Books.{Books}
 use Rattle.reading.specs.declared.Step.{Step}
@@ -82,6 +81,7 @@ again version Generations v job input at = request (generations job)
 again version Snapshot v job input at = request snapshot
 again version Release v job input at = request (release v job (getD input (at + 2) 0))
 again version Dependencies v job input at = request (dependencies v job)
+again version ClientPreflight v job input at = request (clientPreflight v job (getD input (at + 2) 0))
 again version Equivocating v job input at = request equivocating
 again version Unknown v job input at = unreadable
 
@@ -99,6 +99,7 @@ module _ (version : ℕ) (input : List ℕ) (at : ℕ) where
   same-command Snapshot = refl
   same-command Release = refl
   same-command Dependencies = refl
+  same-command ClientPreflight = refl
   same-command Equivocating = refl
   same-command Unknown = refl
 
@@ -136,10 +137,16 @@ pub with-rival : (g : Verdict) (state : Vault) (version : ℕ) (journal : List �
     → r ≡ gated g (releasing state version journal booked signers job x) → r ≡ gated g (releasing state version journal booked signers job y)
 with-rival g state version journal booked signers job x y r e h = rw e at h
 
+-- with the client that was read
+pub with-client : (g : Verdict) (state : Vault) (version : ℕ) (journal : List ℕ) (booked history signers v job x y : ℕ) (r : Decision) → x ≡ y
+    → r ≡ gated g (clientPreflighting state version journal booked x history signers v job)
+    → r ≡ gated g (clientPreflighting state version journal booked y history signers v job)
+with-client g state version journal booked history signers v job x y r e h = rw e at h
+
 pub drawn : (o o′ : Outcome) → o ≡ o′ → _≡_ {A = Decision} (record { outcome = o; change = Nothing }) (record { outcome = o′; change = Nothing })
 drawn o o′ e = rw e
 
-pub ruleset arms = (searched, known-behind, told, record-whole, regated, with-record, with-signers, with-rival, drawn)
+pub ruleset arms = (searched, known-behind, told, record-whole, regated, with-record, with-signers, with-rival, with-client, drawn)
 
 -- ---- generations
 module _ (a : Books) (order journal memo : List ℕ) (job : ℕ) (b : Bool) (e : b ≡ isBooked (a .settings .version) journal (a .booked) job) (r : Listing) where

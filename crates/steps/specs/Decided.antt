@@ -1,4 +1,4 @@
--- A command decided from what it looks at: the settings, how many records are booked, a vault, and the votes on a job.
+-- A command decided from what it looks at: the settings, how many records are booked, a vault, the votes on a job, and a client's history.
 use mathlib.Core.Bool.{Bool, cond, false, true}
 use mathlib.Core.List.{List}
 use mathlib.Core.Path.{_≡_}
@@ -16,22 +16,23 @@ use Rattle.generations.specs.Generations.{ageIn}
 use Rattle.generations.specs.Memo.{Memo}
 use Rattle.decisions.specs.Partners.{recordedIn}
 use Rattle.draw.specs.Draw.{drawOf}
-use Rattle.ledger.specs.Decisions.{ageing, answering, committing, gated, gatedListing, listing, preflighting, proposal, refusing, releasing, requiring}
-use Rattle.ledger.specs.Decisions.{snapshotting, statusOf, voting}
+use Rattle.ledger.specs.Decisions.{ageing, answering, clientPreflighting, committing, gated, gatedListing, listing, preflighting, proposal, refusing}
+use Rattle.ledger.specs.Decisions.{releasing, requiring, snapshotting, statusOf, voting}
 use Rattle.ledger.specs.Equivocation.{equivocators}
 use Rattle.ledger.specs.Holders.{heldSomewhere, isHeld}
 use Rattle.ledger.specs.Steps.{gateOf}
 use Rattle.vaults.specs.Vaults.{newVault}
 use Rattle.vaults.specs.Votes.{columnOf}
 use Rattle.vaults.specs.declared.Votes.{Votes}
-use Rattle.ledger.specs.Worlds.{Request, commit, dependencies, equivocating, faultyVote, generations, preflight, propose, release, show, snapshot}
+use Rattle.ledger.specs.Worlds.{Request, clientPreflight, commit, dependencies, equivocating, faultyVote, generations, preflight, propose, release, show}
+use Rattle.ledger.specs.Worlds.{snapshot}
 use Rattle.ledger.specs.declared.Change.the-variants.{Nothing, Record}
 use Rattle.ledger.specs.declared.Decision.{Decision}
 use Rattle.ledger.specs.declared.Listing.{Listing}
 use Rattle.runfile.specs.Steps.{Command, draw, request, unreadable}
 use Rattle.runfile.specs.declared.Kind.{Kind}
-use Rattle.runfile.specs.declared.Kind.the-variants.{Commit, Dependencies, Draw, Equivocating, FaultyAcknowledge, FaultySign, Generations, Preflight, Propose}
-use Rattle.runfile.specs.declared.Kind.the-variants.{Release, Show, Snapshot, Unknown}
+use Rattle.runfile.specs.declared.Kind.the-variants.{ClientPreflight, Commit, Dependencies, Draw, Equivocating, FaultyAcknowledge, FaultySign, Generations}
+use Rattle.runfile.specs.declared.Kind.the-variants.{Preflight, Propose, Release, Show, Snapshot, Unknown}
 use Rattle.steps.specs.declared.Books.{Books}
 use Rattle.steps.specs.declared.View.{View}
 
@@ -61,6 +62,9 @@ requested w journal (release v job rival) =
     gated (gateBy (w .settings) (w .booked) journal v false job)
     (releasing (w .state) (w .settings .version) journal (w .booked) (w .votes .signatures) job rival)
 requested w journal (dependencies v job) = refusing NotHeld
+requested w journal (clientPreflight v job client) =
+    gated (gateBy (w .settings) (w .booked) journal v false job)
+    (clientPreflighting (w .state) (w .settings .version) journal (w .booked) client (w .history) (w .votes .signatures) v job)
 requested w journal equivocating = refusing NotHeld
 
 abbrev pub decidedBy : View → List ℕ → Command → Decision
@@ -99,6 +103,7 @@ isListing Generations = false
 isListing Snapshot = false
 isListing Release = false
 isListing Dependencies = true
+isListing ClientPreflight = false
 isListing Equivocating = false
 isListing Unknown = false
 
@@ -115,6 +120,7 @@ isNaming Generations = false
 isNaming Snapshot = false
 isNaming Release = false
 isNaming Dependencies = false
+isNaming ClientPreflight = false
 isNaming Equivocating = true
 isNaming Unknown = false
 

@@ -130,6 +130,20 @@ pub(crate) fn decide(
             reading::byte_at(input, at + 2) as usize,
         ),
         Kind::Dependencies => decisions::refuse(Refusal::NotHeld),
+        Kind::ClientPreflight => decisions::client_preflight(
+            gate(view.settings, booked, journal, vault, false, j),
+            view.state,
+            numbers,
+            sets,
+            version,
+            journal,
+            booked,
+            reading::byte_at(input, at + 2),
+            view.history,
+            votes.signatures,
+            vault,
+            j,
+        ),
         Kind::Equivocating => decisions::refuse(Refusal::NotHeld),
         Kind::Unknown => decisions::refuse(Refusal::Unreadable),
     }
@@ -228,6 +242,7 @@ fn is_listing(kind: Kind) -> bool
         Kind::Snapshot => false,
         Kind::Release => false,
         Kind::Dependencies => true,
+        Kind::ClientPreflight => false,
         Kind::Equivocating => false,
         Kind::Unknown => false,
     }
@@ -248,6 +263,7 @@ fn is_naming(kind: Kind) -> bool
         Kind::Snapshot => false,
         Kind::Release => false,
         Kind::Dependencies => false,
+        Kind::ClientPreflight => false,
         Kind::Equivocating => true,
         Kind::Unknown => false,
     }

@@ -4,22 +4,23 @@ mod deciding;
 mod storing;
 mod turning;
 
+pub use deciding::named;
 use federation::Settings;
 use ledger::Change;
 use sets::JobSet;
-pub use deciding::named;
 pub use turning::carry_out;
 pub use turning::survey;
 use vaults::Vault;
 use vaults::Votes;
 
-// What a step looks at that looks at one vault: its state, and the votes on the job that the step names; of the snapshot the number of the vault that is next,
-// the jobs seen in this round, and that vault.
+// What a step looks at that looks at one vault: its state, the votes on the job that the step names, and the history at the place that it names; of the
+// snapshot the number of the vault that is next, the jobs seen in this round, and that vault.
 pub struct View {
     pub settings: Settings,
     pub booked: usize,
     pub state: Vault,
     pub votes: Votes,
+    pub history: u16,
     pub next: u8,
     pub seen: JobSet,
     pub turn: Vault,

@@ -4,6 +4,7 @@
 
 mod build;
 mod chains;
+mod clients;
 mod conflicts;
 mod damage;
 mod dependencies;

@@ -1,6 +1,7 @@
 //! Traffic that makes sense, with its repeats and small mistakes.
 
 use super::build::Builder;
+use super::clients::{busy_client, odd_request};
 use super::dependencies::{odd_question, scattered};
 use super::equivocation::ask;
 use super::records::{new_accession, new_migration, some_tapes};
@@ -46,6 +47,8 @@ pub fn action(builder: &mut Builder) {
         20 => odd_release(builder, job),
         21..=23 => odd_question(builder, job),
         24 => scattered(builder),
+        25 => odd_request(builder, job),
+        26 if builder.random.chance(40) => busy_client(builder),
         25 => ask(builder),
         _ => look(builder, job),
     }

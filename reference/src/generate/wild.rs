@@ -71,10 +71,10 @@ fn any_step(builder: &mut Builder) -> Step {
         _ => builder.random.word() as u16 & builder.random.word() as u16,
     };
     let [low, high] = signers.to_le_bytes();
-    let third = if kind == kind::RELEASE {
-        near(builder, booked)
-    } else {
-        low
+    let third = match kind {
+        kind::RELEASE => near(builder, booked),
+        kind::CLIENT_PREFLIGHT => near(builder, 8),
+        _ => low,
     };
     let bytes = [kind, first, job, third, high];
     decode(builder.version(), &bytes)

@@ -74,13 +74,13 @@ loop-again c =
 
 carry-out-requires : tie.Need-carry-out-requires Inv-loop μ-loop
 carry-out-requires c κs =
-    let s = c .before .before .before .before .before .before .before .before .before .before .before .before .before in
+    let s = c .before .before .before .before .before .before .before .before .before .before .before .before .before .before .before in
     to-carry-out (s .before .before .before .loop .inv .0) _ (s .before .before .loop-test .taken) (s .step-at .ensures) (s .before .if1 .left)
 
 loop-again-2 : tie.Need-loop-again-2 Inv-loop μ-loop
 loop-again-2 c =
     let t = c .before .before .before .before .before .before .before .before .before .before .before .before in
-    let n = t .before .before .before .before .before .before .before .before .before .before .before .before .before in
+    let n = t .before .before .before .before .before .before .before .before .before .before .before .before .before .before .before in
     let s = n .before in (
       turn-quiet (s .before .before .before .loop .inv .0) (s .before .before .loop-test .taken) _ (s .step-at .ensures) (n .if2 .left) _ _ _ _ _ _
           (t .carry-out .ensures) _
@@ -91,7 +91,7 @@ loop-again-2 c =
 apply-requires : tie.Need-apply-requires Inv-loop μ-loop
 apply-requires c κs =
     let t = c .before .before .before .before .before .before .before .before .before .before .before .before in
-    let n = t .before .before .before .before .before .before .before .before .before .before .before .before .before in
+    let n = t .before .before .before .before .before .before .before .before .before .before .before .before .before .before .before in
     let s = n .before in
     loud-placed (s .before .before .before .loop .inv .0) (s .before .before .loop-test .taken) _ (s .step-at .ensures) (n .if2 .left) _ _ _ _ _ _
     (t .carry-out .ensures) _
@@ -100,12 +100,13 @@ apply-requires c κs =
 loop-less-3 : tie.Need-loop-less-3 Inv-loop μ-loop
 loop-less-3 c =
     let t = c .before .before .before .before .before .before .before .before .before .before .before .before .before in
-    reads-on (t .before .before .before .before .before .before .before .before .before .before .before .before .before .before .step-at .ensures)
+    let n = t .before .before .before .before .before .before .before .before .before .before .before .before .before .before .before in
+    reads-on (n .before .step-at .ensures)
 
 loop-again-3 : tie.Need-loop-again-3 Inv-loop μ-loop
 loop-again-3 c =
     let t = c .before .before .before .before .before .before .before .before .before .before .before .before .before in
-    let n = t .before .before .before .before .before .before .before .before .before .before .before .before .before in
+    let n = t .before .before .before .before .before .before .before .before .before .before .before .before .before .before .before in
     let s = n .before in (
       turn-loud (s .before .before .before .loop .inv .0) (s .before .before .loop-test .taken) _ (s .step-at .ensures) (n .if2 .left) _ _ _ _ _ _
           (t .carry-out .ensures) _
@@ -119,6 +120,8 @@ advance-spec =
     tie.close
     (tie.spec Inv-loop μ-loop (λ c. search by) (λ c. search by) (λ c κs. search by) (λ c. search by) (λ c. search by) (λ c. search by)
     (λ c. search by) (λ c. search by) (λ c. search by) (λ c. search by) (λ c. search by) (λ c κs. search by) (λ c κs. search by)
-    survey-requires (λ c. search by) loop-again (λ c. search by) (λ c. search by) (λ c. search by) (λ c. search by) (λ c. search by) (λ c. search by) (λ c. search by) (λ c. search by)
-    (λ c. search by) carry-out-requires (λ c κs. search by) (λ c. search by) loop-again-2 apply-requires loop-less-3 loop-again-3 (λ c κs. search by)
-    (λ c. search by) (λ c. search by) (λ c. search by) (λ c. search by) (λ c. search by) (λ c. search by) (λ c. search by))
+    survey-requires (λ c. search by) loop-again
+    (λ c. search by) (λ c. search by) (λ c. search by) (λ c. search by) (λ c. search by) (λ c. search by) (λ c. search by) (λ c. search by)
+    (λ c. search by) (λ c. search by) (λ c. search by) carry-out-requires (λ c κs. search by) (λ c. search by) loop-again-2 apply-requires loop-less-3
+    loop-again-3 (λ c κs. search by) (λ c. search by) (λ c. search by) (λ c. search by) (λ c. search by) (λ c. search by) (λ c. search by)
+    (λ c. search by))
