@@ -43,8 +43,10 @@ use Rattle.runfile.specs.declared.Kind.the-variants.{ClientPreflight, Commit, D
 use Rattle.runfile.specs.declared.Kind.the-variants.{Preflight, Propose, Release, Show, Snapshot, Unknown}
 use Rattle.quota.specs.Quota.{historyPlace}
 use Rattle.steps.proofs.Quiet.{Bookless}
-use Rattle.steps.specs.Decided.{Named, bookedOr, decidedBy, naming, required, surveyed}
+use Rattle.steps.specs.Decided.{bookedOr, decidedBy, naming, required, surveyed}
 use Rattle.reading.specs.Reading.{historyOf, isWide, jobOf, vaultOf}
+use Rattle.steps.specs.Kept.{Found}
+use Rattle.steps.specs.declared.Remembered.{Remembered}
 use Rattle.steps.specs.declared.Books.{Books}
 use Rattle.steps.specs.declared.View.{View}
 
@@ -251,19 +253,19 @@ module _ (l : Ledger) (s : Sane l) (journal : List ℕ) where
             ap requiredAt a
 
     -- kind 13: the vaults that were found are those that the rule names
-    naming-is : (named : JobSet) → Named (l .settings) (l .votes) journal (l .booked) Equivocating named → naming (booksOf l named) journal ≡ equivocatorsOf l journal
+    naming-is : (named : Remembered) → Found (l .settings) (l .votes) journal (l .booked) Equivocating named → naming (booksOf l (named .vaults)) journal ≡ equivocatorsOf l journal
     unfolding equivocatorsOf
     naming-is named h =
-        ap (λ (g : Verdict). gatedListing g (listing named)) whole-gate
-        ∙ ap (gatedListing (wholeGate l journal)) (listed-by l (jobAt (versionOf l) journal (l .booked)) named (listing named) (h .are refl) refl)
+        ap (λ (g : Verdict). gatedListing g (listing (named .vaults))) whole-gate
+        ∙ ap (gatedListing (wholeGate l journal)) (listed-by l (jobAt (versionOf l) journal (l .booked)) (named .vaults) _ (h .right .are (h .known refl)) refl)
 
     abbrev Answers : Kind → Type 0
-    Answers k = (named : JobSet) → Named (l .settings) (l .votes) journal (l .booked) k named
-        → surveyed (booksOf l named) (l .order) journal k (vaultOf (command k)) (jobOf (command k)) ≡ answer k
+    Answers k = (named : Remembered) → Found (l .settings) (l .votes) journal (l .booked) k named
+        → surveyed (booksOf l (named .vaults)) (l .order) journal k (vaultOf (command k)) (jobOf (command k)) ≡ answer k
 
     pub wide-answer : (k : Kind) → isWide k ≡ true → Answers k
     unfolding generationsDecision dependenciesDecision equivocatorsDecision
-    wide-answer = by-wide Answers (λ named h. rw (booked-gate first)) (λ named h. required-is named) naming-is
+    wide-answer = by-wide Answers (λ named h. rw (booked-gate first)) (λ named h. required-is (named .vaults)) naming-is
 
     -- any other kind lists nothing
     pub narrow-lists : (k : Kind) → isWide k ≡ false → noJobs ≡ listedBy l journal (command k)

@@ -22,9 +22,7 @@ use Rattle.generations.specs.Memo.{Memo}
 use Rattle.index.proofs.Tables.{records-part}
 use Rattle.index.specs.Index.{Indexed, IndexedRecords}
 use Rattle.ledger.proofs.Gates.{passed-rest, passed-test}
-use Rattle.decisions.specs.Partners.{recordedIn}
 use Rattle.ledger.specs.Decisions.{clientPreflighting, committing, gated, gatedListing, listing, proposal, releasing, requiring, unlisted}
-use Rattle.ledger.specs.Equivocation.{equivocators}
 use Rattle.ledger.specs.Given.{Aged, Known, Searchable}
 use Rattle.ledger.specs.Holders.{heldSomewhere}
 use Rattle.ledger.specs.Steps.{gateOf}
@@ -40,7 +38,9 @@ use Rattle.runfile.specs.Steps.{Command, commandIn, draw, request, unreadable, 
 use Rattle.runfile.specs.declared.Kind.{Kind}
 use Rattle.runfile.specs.declared.Kind.the-variants.{ClientPreflight, Commit, Dependencies, Draw, Equivocating, FaultyAcknowledge, FaultySign, Generations}
 use Rattle.runfile.specs.declared.Kind.the-variants.{Preflight, Propose, Release, Show, Snapshot, Unknown}
-use Rattle.steps.specs.Decided.{Answered, Named, aged, alone, bookedOr, decidedBy, gateBy, isListing, isNaming, naming, required, surveyed}
+use Rattle.steps.specs.Decided.{Answered, aged, alone, bookedOr, decidedBy, gateBy, isListing, isNaming, naming, required, surveyed}
+use Rattle.steps.specs.Kept.{Found, Right, Still, namedBy, unknownYet}
+use Rattle.steps.specs.declared.Remembered.{Remembered}
 use Rattle.reading.specs.Reading.{Asked, jobOf, vaultOf}
 use Rattle.steps.specs.declared.Books.{Books}
 use Rattle.reading.specs.declared.Step.{Step}
@@ -181,14 +181,24 @@ module _ (a : Books) (journal : List ℕ) (b : Bool) (e : b ≡ isWhole (a .sett
   unfolding bookedOr
   unnamed f q = simp (sym e ∙ f) q
 
-module _ (s : Settings) (votes : List Votes) (journal : List ℕ) (booked : ℕ) (kind : Kind) (b : Bool) (e : b ≡ isNaming kind) (r : JobSet) where
-  pub are-named : r ≡ equivocators s (recordedIn votes) (jobAt (s .version) journal booked) booked → Named s votes journal booked kind r
-  are-named q = record { are = λ t. q }
+module _ (s : Settings) (votes : List Votes) (journal : List ℕ) (booked : ℕ) (kind : Kind) where
+  pub already-known : (kept : Remembered) → Right s votes journal booked kept → kept .known ≡ true → Found s votes journal booked kind kept
+  already-known kept h t = record { right = h; known = λ _. t }
 
-  pub not-asked : b ≡ false → Named s votes journal booked kind r
-  not-asked f = record { are = λ t. absurd (true≢false (sym t ∙ (sym e ∙ f))) }
+  pub known-now : (r : JobSet) → r ≡ namedBy s votes journal booked → Found s votes journal booked kind (record { known = true; vaults = r })
+  known-now r q = record { right = record { are = λ _. q }; known = λ _. refl }
 
-pub ruleset names = (named-so, unnamed, are-named, not-asked)
+  pub not-asked : (kept : Remembered) (b : Bool) → b ≡ isNaming kind → b ≡ false → Right s votes journal booked kept → Found s votes journal booked kind kept
+  not-asked kept b e f h = record { right = h; known = λ t. absurd (true≢false (sym t ∙ (sym e ∙ f))) }
+
+module _ (kept : Remembered) (booked signatures booked′ signatures′ : ℕ) where
+  pub still-known : booked ≡ booked′ → signatures ≡ signatures′ → Still kept booked signatures booked′ signatures′ kept
+  still-known a b = record { same = λ _. (refl, a, b) }
+
+  pub not-known : (r : Remembered) → r ≡ unknownYet → Still kept booked signatures booked′ signatures′ r
+  not-known r e = record { same = λ t. absurd (true≢false (sym t ∙ ap (λ (x : Remembered). x .known) e)) }
+
+pub ruleset names = (named-so, unnamed, already-known, known-now, not-asked, still-known, not-known)
 
 -- ---- one of the three
 module _ (a : Books) (order journal memo : List ℕ) (kind : Kind) (v job : ℕ) (b : Bool) (e : b ≡ isListing kind) (r : Listing) where

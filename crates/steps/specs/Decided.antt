@@ -9,21 +9,17 @@ use Rattle.outcome.specs.declared.Refusal.the-variants.{NotBooked, NotHeld, Unr
 use Rattle.outcome.specs.declared.Verdict.{Verdict}
 use Rattle.outcome.specs.declared.Verdict.the-variants.{Fail, Pass}
 use Rattle.sets.specs.Jobs.{noJobs}
-use Rattle.sets.specs.declared.job_set.JobSet.{JobSet}
 use Rattle.federation.specs.declared.Settings.{Settings}
 use Rattle.journal.specs.Journal.{capacity, isBooked, isWhole, jobAt}
 use Rattle.generations.specs.Generations.{ageIn}
 use Rattle.generations.specs.Memo.{Memo}
-use Rattle.decisions.specs.Partners.{recordedIn}
 use Rattle.draw.specs.Draw.{drawOf}
 use Rattle.ledger.specs.Decisions.{ageing, answering, clientPreflighting, committing, gated, gatedListing, listing, preflighting, proposal, refusing}
 use Rattle.ledger.specs.Decisions.{releasing, requiring, snapshotting, statusOf, voting}
-use Rattle.ledger.specs.Equivocation.{equivocators}
 use Rattle.ledger.specs.Holders.{heldSomewhere, isHeld}
 use Rattle.ledger.specs.Steps.{gateOf}
 use Rattle.vaults.specs.Vaults.{newVault}
 use Rattle.vaults.specs.Votes.{columnOf}
-use Rattle.vaults.specs.declared.Votes.{Votes}
 use Rattle.ledger.specs.Worlds.{Request, clientPreflight, commit, dependencies, equivocating, faultyVote, generations, preflight, propose, release, show}
 use Rattle.ledger.specs.Worlds.{snapshot}
 use Rattle.ledger.specs.declared.Change.the-variants.{Nothing, Record}
@@ -123,10 +119,6 @@ isNaming Dependencies = false
 isNaming ClientPreflight = false
 isNaming Equivocating = true
 isNaming Unknown = false
-
--- where the kind asks for them, these are the vaults that equivocate
-pub record Named (s : Settings) (votes : List Votes) (journal : List ℕ) (booked : ℕ) (kind : Kind) (found : JobSet) : Type 0 where
-  pub are : isNaming kind ≡ true → found ≡ equivocators s (recordedIn votes) (jobAt (s .version) journal booked) booked
 
 -- kind 13
 abbrev pub naming : Books → List ℕ → Listing

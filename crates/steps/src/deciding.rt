@@ -5,7 +5,7 @@ ghost use Rattle.index.specs.Index.{Indexed, IndexedEntries};
 ghost use Rattle.generations.specs.Memo.{Ready};
 ghost use Rattle.journal.specs.Journal.{isBooked};
 ghost use Rattle.runfile.specs.Steps.{commandIn};
-ghost use Rattle.steps.specs.Decided.{Answered, Named, aged, alone, bookedOr, decidedBy, gateBy, isListing, isNaming};
+ghost use Rattle.steps.specs.Decided.{Answered, aged, alone, bookedOr, decidedBy, gateBy, isListing, isNaming};
 ghost use Rattle.steps.specs.Decided.{naming, required, surveyed};
 ghost use Rattle.reading.specs.Reading.{Asked};
 use crate::Books;
@@ -21,7 +21,6 @@ use reading::Step;
 use runfile::Kind;
 use sets::JobSet;
 use vaults::Column;
-use vaults::Votes;
 
 // Check 4.
 fn booked_or(version: u16, booked: usize, journal: &[u8], job: usize) -> Verdict
@@ -248,7 +247,7 @@ fn is_listing(kind: Kind) -> bool
     }
 }
 
-fn is_naming(kind: Kind) -> bool
+pub(crate) fn is_naming(kind: Kind) -> bool
     ensures { λ r. ⌜ r ≡ isNaming kind ⌝ }
 {
     match kind {
@@ -278,25 +277,6 @@ fn name(books: Books, journal: &[u8]) -> Listing
         return decisions::list(books.named);
     }
     decisions::unlist(Refusal::NotBooked)
-}
-
-// The vaults that kind 13 names; other kinds don't ask.
-pub fn named(
-    kind: Kind,
-    settings: Settings,
-    votes: [Votes; 128],
-    numbers: &[u16],
-    sets: &[u64],
-    journal: &[u8],
-    booked: usize,
-) -> JobSet
-    requires { ⌜ IndexedEntries (settings .version) (now journal) booked (now numbers) (now sets) ⌝ }
-    ensures { λ r. ⌜ Named settings votes (now (journal .entry)) booked kind r ⌝ }
-{
-    if is_naming(kind) {
-        return decisions::equivocating(settings, votes, numbers, sets, journal, booked);
-    }
-    JobSet::empty()
 }
 
 // What a step answers and lists that looks at all vaults; it changes nothing but the memo.
