@@ -76,10 +76,12 @@ module _ (l : Ledger) (c : Change) (v job : ℕ) where
       → Still kept (l .booked) (getD (l .votes) (job % 128) noVotes .signatures) (next .booked) (getD (next .votes) (job % 128) noVotes .signatures) r
       → Holds next (journalWith c (l .booked) (versionOf l) journal bytes) r
   unfolding recordedIn
-  still-right journal bytes kept r p h s = record { are = λ t.
-      let q = s .same t in
-      let place : job % 128 ≡ job = omega (arith, p) in
-      let known : kept .known ≡ true = ap (λ (x : Remembered). x .known) (sym (q .0)) ∙ t in
-      let recorded = same-recorded (rw place at (q .2)) in
-      ap (λ (x : Remembered). x .vaults) (q .0) ∙ h .are known
-      ∙ same-named (sym (applied-settings l c v job)) recorded (unbooked l c v job (versionOf l) journal bytes (q .1)) (q .1) }
+  still-right journal bytes kept r p h s = record {
+    are = λ t.
+        let q = s .same t in
+        let place : job % 128 ≡ job = omega (arith, p) in
+        let known : kept .known ≡ true = ap (λ (x : Remembered). x .known) (sym (q .0)) ∙ t in
+        let recorded = same-recorded (rw place at (q .2)) in
+        ap (λ (x : Remembered). x .vaults) (q .0) ∙ h .are known
+        ∙ same-named (sym (applied-settings l c v job)) recorded (unbooked l c v job (versionOf l) journal bytes (q .1)) (q .1);
+  }

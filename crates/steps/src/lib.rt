@@ -7,10 +7,10 @@ mod turning;
 
 use federation::Settings;
 use ledger::Change;
-use sets::JobSet;
 pub use naming::named;
 pub use naming::still;
 pub use naming::unknown;
+use sets::JobSet;
 pub use turning::carry_out;
 pub use turning::survey;
 use vaults::Vault;
