@@ -19,7 +19,7 @@ pub mod kind {
 }
 
 /// Every kind and the length of its body in a version 1 file.
-pub const KINDS: [(u8, usize); 12] = [
+pub const KINDS: [(u8, usize); 13] = [
     (kind::PROPOSE, RECORD_BYTES),
     (kind::PREFLIGHT, 2),
     (kind::COMMIT, 4),

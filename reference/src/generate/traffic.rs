@@ -49,7 +49,7 @@ pub fn action(builder: &mut Builder) {
         24 => scattered(builder),
         25 => odd_request(builder, job),
         26 if builder.random.chance(40) => busy_client(builder),
-        25 => ask(builder),
+        27 => ask(builder),
         _ => look(builder, job),
     }
 }
