@@ -10,7 +10,7 @@ use std::ops::Range;
 const FAULTY: Range<u8> = 11..16;
 
 /// How often the question is asked after a signature.
-const QUESTIONS: usize = 98;
+const QUESTIONS: usize = 99;
 
 pub fn file() -> File {
     let mut run = Run::new(16, 5, 0xf800);
