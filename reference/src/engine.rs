@@ -2,6 +2,7 @@
 //! arrival order, and what each kind of step does to them.
 
 mod dependencies;
+mod equivocation;
 
 use crate::draw::thousandths;
 use crate::record::{check, Bytes, Kind, Record};
@@ -31,11 +32,13 @@ pub struct Engine {
     next: usize,
     /// The jobs that this round of the snapshot has seen.
     seen: BTreeSet<usize>,
-    /// The jobs that the last step lists, ascending.
+    /// What the last step lists, ascending.
     pub listed: Vec<usize>,
     /// The counted requests of a client at a vault: whether each brought a
     /// new signature.
     requests: BTreeMap<(usize, u8), Vec<bool>>,
+    /// The vaults that kind 13 named, where the last step asked for them.
+    named: Option<Vec<u64>>,
 }
 
 impl Engine {
@@ -52,11 +55,15 @@ impl Engine {
             seen: BTreeSet::new(),
             listed: Vec::new(),
             requests: BTreeMap::new(),
+            named: None,
         }
     }
 
     pub fn take(&mut self, step: &Step) -> Answer {
         self.listed.clear();
+        if *step != Step::Equivocating {
+            self.named = None;
+        }
         match step {
             Step::Propose { record } => self.propose(record),
             Step::Preflight { vault, job } => self.preflight(*vault, *job),
@@ -76,6 +83,7 @@ impl Engine {
             Step::ClientPreflight { vault, job, client } => {
                 self.client_preflight(*vault, *job, *client)
             }
+            Step::Equivocating => self.equivocating(),
         }
     }
 

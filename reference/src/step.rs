@@ -15,10 +15,11 @@ pub mod kind {
     pub const RELEASE: u8 = 10;
     pub const DEPENDENCIES: u8 = 11;
     pub const CLIENT_PREFLIGHT: u8 = 12;
+    pub const EQUIVOCATING: u8 = 13;
 }
 
 /// Every kind and the length of its body in a version 1 file.
-pub const KINDS: [(u8, usize); 12] = [
+pub const KINDS: [(u8, usize); 13] = [
     (kind::PROPOSE, RECORD_BYTES),
     (kind::PREFLIGHT, 2),
     (kind::COMMIT, 4),
@@ -31,6 +32,7 @@ pub const KINDS: [(u8, usize); 12] = [
     (kind::RELEASE, 3),
     (kind::DEPENDENCIES, 2),
     (kind::CLIENT_PREFLIGHT, 3),
+    (kind::EQUIVOCATING, 0),
 ];
 
 #[derive(Clone, PartialEq, Eq, Debug)]
@@ -83,6 +85,8 @@ pub enum Step {
         job: u8,
         client: u8,
     },
+    /// "Naming a two-faced vault."
+    Equivocating,
 }
 
 /// The length of a step, kind and body, or nothing if the kind is unknown.
@@ -129,6 +133,7 @@ fn read_body(kind: u8, body: &[u8]) -> Step {
         (kind::CLIENT_PREFLIGHT, &[vault, job, client]) => {
             Step::ClientPreflight { vault, job, client }
         }
+        (kind::EQUIVOCATING, &[]) => Step::Equivocating,
         _ => unreachable!("kind {kind} has another length in the table"),
     }
 }
@@ -155,6 +160,7 @@ impl Step {
             Step::Release { .. } => kind::RELEASE,
             Step::Dependencies { .. } => kind::DEPENDENCIES,
             Step::ClientPreflight { .. } => kind::CLIENT_PREFLIGHT,
+            Step::Equivocating => kind::EQUIVOCATING,
         }
     }
 
@@ -182,7 +188,7 @@ impl Step {
             }
             Step::Show { job } | Step::Generations { job } => bytes.push(*job),
             Step::Draw { u } => bytes.push(*u),
-            Step::Snapshot => {}
+            Step::Snapshot | Step::Equivocating => {}
             Step::Release { vault, job, rival } => bytes.extend([*vault, *job, *rival]),
             Step::ClientPreflight { vault, job, client } => {
                 bytes.extend([*vault, *job, *client]);

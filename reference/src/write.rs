@@ -122,6 +122,10 @@ pub fn client_preflight(vault: u8, job: u8, client: u8) -> Step {
     Step::ClientPreflight { vault, job, client }
 }
 
+pub fn equivocating() -> Step {
+    Step::Equivocating
+}
+
 pub fn generations(job: u8) -> Step {
     Step::Generations { job }
 }

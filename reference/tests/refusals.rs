@@ -56,7 +56,8 @@ fn refusal_1_of_headers() {
 #[test]
 fn refusal_2_ends_the_run() {
     let before = run_file(1, 0, 0, &[draw(0)]);
-    for kind in [0, KINDS.len() as u8 + 1, 255] {
+    let (last, _) = KINDS[KINDS.len() - 1];
+    for kind in [0, last + 1, 255] {
         let file = [&before[..], &[kind, 7, 0]].concat();
         assert_eq!(text(&file), "1 0 0\n2 2 0\n");
     }

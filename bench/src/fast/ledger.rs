@@ -1,5 +1,6 @@
 //! The vaults and the booked jobs, and the steps upon them.
 use super::draw;
+use super::equivocation::{equivocators, Signed};
 use super::federation::Federation;
 use super::index::{Index, Jobs, Tapes};
 use super::record::{self, Record};
@@ -58,6 +59,8 @@ pub struct Ledger<'a> {
     seen: Jobs,
     /// For each vault and client, its last fifteen counted requests, the newest lowest: a bit where a request brought a new signature.
     histories: [[u16; CLIENTS]; MOST_VAULTS as usize],
+    /// The vaults that equivocate, where no signature has come since they were found.
+    named: Option<u16>,
 }
 
 impl<'a> Ledger<'a> {
@@ -72,6 +75,7 @@ impl<'a> Ledger<'a> {
             next: 0,
             seen: 0,
             histories: [[0; CLIENTS]; MOST_VAULTS as usize],
+            named: None,
         }
     }
 
@@ -118,6 +122,7 @@ impl<'a> Ledger<'a> {
             }
             state.signed |= bit;
             booked.signatures.add(vault);
+            self.named = None;
         }
         Answer::done(booked.signatures.count.into())
     }
@@ -161,7 +166,11 @@ impl<'a> Ledger<'a> {
             return refusal;
         }
         let signatures = &mut self.jobs[usize::from(job)].signatures;
+        let before = signatures.count;
         signatures.add(vault);
+        if signatures.count != before {
+            self.named = None;
+        }
         Answer::done(signatures.count.into())
     }
 
@@ -287,6 +296,28 @@ impl<'a> Ledger<'a> {
             booked.signatures.add(vault);
         }
         Answer::done(booked.signatures.count.into())
+    }
+
+    /// The vaults that equivocate, and how many they are.
+    #[inline]
+    pub fn equivocating(&mut self) -> (Answer, Jobs) {
+        let vaults = match self.named {
+            Some(vaults) => vaults,
+            None => self.equivocators(),
+        };
+        self.named = Some(vaults);
+        (Answer::done(vaults.count_ones() as u16), Jobs::from(vaults))
+    }
+
+    fn equivocators(&self) -> u16 {
+        let threshold = self.federation.threshold();
+        let signed = |(k, booked): (usize, &Booked)| Signed {
+            rivals: self.index.rivals(&booked.tapes) & !(1 << k),
+            signers: booked.signatures.vaults,
+            certified: booked.signatures.count >= threshold,
+        };
+        let jobs: Vec<Signed> = self.jobs.iter().enumerate().map(signed).collect();
+        equivocators(&jobs)
     }
 
     /// Checks 3, 5 and 4, of a step that is for faulty vaults or for correct ones.

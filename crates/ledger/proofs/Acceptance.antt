@@ -44,8 +44,8 @@ use Rattle.ledger.specs.Graph.{Algorithm1, Lister}
 use Rattle.ledger.specs.Ready.{NoRival, Spares}
 use Rattle.ledger.specs.Register.{Register, isDone}
 use Rattle.ledger.specs.State.{booking, counted, vaultAt, versionOf, visited, voted, votesIn, withVault}
-use Rattle.ledger.specs.Worlds.{Event, Request, World, after, clientPreflight, commit, dependencies, faultyVote, generations, preflight, propose}
-use Rattle.ledger.specs.Worlds.{release, replyTo, show, snapshot}
+use Rattle.ledger.specs.Worlds.{Event, Request, World, after, clientPreflight, commit, dependencies, equivocating, faultyVote, generations, preflight}
+use Rattle.ledger.specs.Worlds.{propose, release, replyTo, show, snapshot}
 use Rattle.federation.specs.declared.Settings.{Settings}
 use Rattle.ledger.specs.declared.History.{History}
 use Rattle.ledger.specs.declared.Ledger.{Ledger}
@@ -105,6 +105,7 @@ module _ (w : World) (sh : Shape (w .ledger) (w .booked)) where
   Leaves w′ (release v k rival) = Unit {0}
   Leaves w′ (dependencies v k) = Unit {0}
   Leaves w′ (clientPreflight v k client) = Unit {0}
+  Leaves w′ equivocating = Unit {0}
 
   leaves-idle : ((v k : ℕ) → signedAt l v k ≡ true → recordedAt l v k ≡ true) → (q : Request) → Idle w q → Leaves w q
   unfolding signedAt heldAt
@@ -118,6 +119,7 @@ module _ (w : World) (sh : Shape (w .ledger) (w .booked)) where
   leaves-idle b (release v k rival) m = tt
   leaves-idle b (dependencies v k) m = tt
   leaves-idle b (clientPreflight v k client) m = tt
+  leaves-idle b equivocating m = tt
 
   pub leaves : ((v k : ℕ) → signedAt l v k ≡ true → recordedAt l v k ≡ true) → (q : Request) (done : Bool) (w′ : World) → Change w q done w′ → done ≡ true
       → Leaves w′ q

@@ -80,6 +80,8 @@ use Rattle.ledger.specs.Steps.{
   commitDecision,
   dependenciesDecision,
   dependenciesOf,
+  equivocatorsDecision,
+  equivocatorsOf,
   faultyVoteDecision,
   generationsDecision,
   journalAfter,
@@ -101,6 +103,7 @@ use Rattle.ledger.specs.Worlds.{
   clientPreflight,
   commit,
   dependencies,
+  equivocating,
   faultyVote,
   generations,
   leftBy,
@@ -175,6 +178,7 @@ Idle w snapshot = ⊥
 Idle w (release v k rival) = ⊥
 Idle w (dependencies v k) = Unit {0}
 Idle w (clientPreflight v k client) = ⊥
+Idle w equivocating = Unit {0}
 
 pub data Change (w : World) : Request → Bool → World → Type 0 where
   -- refused
@@ -404,6 +408,10 @@ module _ (w : World) (sh : Shape (w .ledger) (w .booked)) (size : ℕ) (beyond :
   unfolding dependenciesDecision
   change-dependencies v k = reads (dependencies v k) (dependenciesOf l journal v k .outcome) v k tt
 
+  change-equivocating : Moves equivocating (carried l (equivocatorsDecision l journal) 0 0)
+  unfolding equivocatorsDecision
+  change-equivocating = reads equivocating (equivocatorsOf l journal .outcome) 0 0 tt
+
   -- ---- propose
   -- a record inside the journal is a booked one
   slot-tabled : (k : ℕ) → k < insideOf (versionOf l) journal (l .booked) → slotAt (versionOf l) journal k ≡ getD (tableOf w) k []
@@ -451,6 +459,7 @@ module _ (w : World) (sh : Shape (w .ledger) (w .booked)) (size : ℕ) (beyond :
   change (release v k rival) = change-release v k rival
   change (dependencies v k) = change-dependencies v k
   change (clientPreflight v k client) = change-client v k client
+  change equivocating = change-equivocating
 
 pub changes : (w : World) → Shape (w .ledger) (w .booked) → (e : Event) → Change w (e .request) (isDone (replyTo w e .outcome)) (after w e)
 unfolding after

@@ -60,6 +60,7 @@ use Rattle.ledger.specs.Worlds.{
   clientPreflight,
   commit,
   dependencies,
+  equivocating,
   faultyVote,
   generations,
   leftBy,
@@ -116,6 +117,7 @@ same-count l (generations k) why = refl
 same-count l snapshot why = refl
 same-count l (release v k rival) why = refl
 same-count l (dependencies v k) why = refl
+same-count l equivocating why = refl
 same-count l (clientPreflight v k client) why =
     by-cases (λ b. cond b (counted l v (historyWith client (historyAt l v client) false)) l .booked ≡ l .booked) (isCounted (refusalNumber why)) (λ _. refl)
     (λ _. refl)

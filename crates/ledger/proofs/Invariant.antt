@@ -84,8 +84,8 @@ use Rattle.federation.specs.Federation.{thresholdOf}
 use Rattle.ledger.specs.Graph.{Unblocked}
 use Rattle.ledger.specs.Register.{Register, entering, feed, feedCommit, feedDone, feedProposal, isAdmissible, stopped, tabled, taking}
 use Rattle.ledger.specs.State.{arrived, booking, counted, signersOf, vaultAt, versionOf, visited, voted, votesIn, withVault}
-use Rattle.ledger.specs.Worlds.{Request, World, clientPreflight, commit, dependencies, faultyVote, generations, preflight, propose, release, show}
-use Rattle.ledger.specs.Worlds.{snapshot}
+use Rattle.ledger.specs.Worlds.{Request, World, clientPreflight, commit, dependencies, equivocating, faultyVote, generations, preflight, propose}
+use Rattle.ledger.specs.Worlds.{release, show, snapshot}
 use Rattle.vaults.specs.declared.Column.{Column}
 use Rattle.vaults.specs.declared.Column.the-variants.{Acknowledgements, Signatures}
 use Rattle.ledger.specs.declared.History.{History}
@@ -418,6 +418,7 @@ module _ {w : World} {r : Register} (i : Inv w r) where
   inv-idle (release v k rival) m = absurd m
   inv-idle (dependencies v k) m = i
   inv-idle (clientPreflight v k client) m = absurd m
+  inv-idle equivocating m = i
 
   -- a record that is not in the table enters it
   feeds-new : (bytes : List ℕ) → (In bytes (tableOf w) → ⊥) → feedProposal r bytes ≡ entering r bytes

@@ -8,6 +8,7 @@ pub mod Demand2
 pub mod Demand3
 pub mod Dependencies
 pub mod Effects
+pub mod Equivocation
 pub mod Example
 pub mod Gates
 pub mod Growth
@@ -31,5 +32,6 @@ pub mod Rounds
 pub mod Safety
 pub mod Twelve
 pub mod Unchanged
+pub mod Unnamed
 pub mod Views
 pub mod Writes

@@ -43,6 +43,8 @@ use Rattle.ledger.specs.Steps.{
   commitDecision,
   dependenciesDecision,
   dependenciesOf,
+  equivocatorsDecision,
+  equivocatorsOf,
   faultyVoteDecision,
   generationsDecision,
   preflightDecision,
@@ -52,6 +54,7 @@ use Rattle.ledger.specs.Steps.{
   showDecision,
   snapshotDecision,
   vaultGate,
+  wholeGate,
 }
 use Rattle.ledger.specs.Worlds.{
   Request,
@@ -59,6 +62,7 @@ use Rattle.ledger.specs.Worlds.{
   commit,
   decisionOf,
   dependencies,
+  equivocating,
   faultyVote,
   generations,
   jobIn,
@@ -136,6 +140,7 @@ module _ (l : Ledger) (journal : List ℕ) where
   plain : (q : Request) → isClientPreflight q ≡ false → Plain (decisionOf l journal q .change)
   unfolding proposeDecision proposal settling preflightDecision preflighting consent commitDecision committing faultyVoteDecision
       showDecision generationsDecision snapshotDecision snapshotting releaseDecision releasing dependenciesDecision
+      equivocatorsDecision
   plain (propose bytes) e =
       behind (saneGate l) (proposal (versionOf l) journal (l .booked) bytes)
       (behind (examined (versionOf l) bytes) (settling (versionOf l) journal (l .booked) bytes)
@@ -159,6 +164,7 @@ module _ (l : Ledger) (journal : List ℕ) where
       (behind (supersession (vaultAt l v) (versionOf l) journal (l .booked) k rival)
       (record { outcome = Done (ones (signersOf l k)); change = Release (unsigning (vaultAt l v) k) }) tt)
   plain (dependencies v k) e = tt
+  plain equivocating e = tt
   plain (clientPreflight v k client) e = absurd (true≢false e)
 
   pub same-histories : (q : Request) → isClientPreflight q ≡ false → stepOf l journal q .ledger .histories ≡ l .histories
@@ -166,7 +172,7 @@ module _ (l : Ledger) (journal : List ℕ) where
 
   unread : (histories : List ℕ) (q : Request) → isClientPreflight q ≡ false → decisionOf (withHistories l histories) journal q ≡ decisionOf l journal q
   unfolding proposeDecision preflightDecision commitDecision faultyVoteDecision showDecision generationsDecision snapshotDecision releaseDecision
-      dependenciesDecision dependenciesOf saneGate bookedGate vaultGate isSane votesIn
+      dependenciesDecision dependenciesOf equivocatorsDecision equivocatorsOf wholeGate saneGate bookedGate vaultGate isSane votesIn
   unread histories (propose bytes) e = refl
   unread histories (preflight v k) e = refl
   unread histories (commit v k signers) e = refl
@@ -176,6 +182,7 @@ module _ (l : Ledger) (journal : List ℕ) where
   unread histories snapshot e = refl
   unread histories (release v k rival) e = refl
   unread histories (dependencies v k) e = refl
+  unread histories equivocating e = refl
   unread histories (clientPreflight v k client) e = absurd (true≢false e)
 
 pub no-quota : NoQuota

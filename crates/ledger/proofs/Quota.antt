@@ -54,6 +54,7 @@ use Rattle.ledger.specs.Worlds.{
   clientPreflight,
   commit,
   dependencies,
+  equivocating,
   faultyVote,
   generations,
   lent,
@@ -316,6 +317,7 @@ module _ (v c : ℕ) (w : World) (sh : Shape (w .ledger) (w .booked)) (e : Event
       go snapshot q = others (ap isClientPreflight q)
       go (release u k rival) q = others (ap isClientPreflight q)
       go (dependencies u k) q = others (ap isClientPreflight q)
+      go equivocating q = others (ap isClientPreflight q)
       go (clientPreflight u k d) q = client-on u k d q
 
 kept-along : (v c : ℕ) (es : List Event) (w : World) (r : Register) → Inv w r → (past : List Ask) → Kept v c w past

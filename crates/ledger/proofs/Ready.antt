@@ -69,6 +69,7 @@ use Rattle.ledger.specs.Worlds.{
   clientPreflight,
   commit,
   dependencies,
+  equivocating,
   faultyVote,
   generations,
   lend,
@@ -327,6 +328,7 @@ allowed-spares w s j snapshot a = tt
 allowed-spares w s j (release v k rival) a = absurd a
 allowed-spares w s j (dependencies v k) a = tt
 allowed-spares w s j (clientPreflight v k client) a = absurd a
+allowed-spares w s j equivocating a = tt
 
 own-spares : (w : World) (s j v : ℕ) (q : Request) → q ≡ preflight v j → Spares w s j q
 own-spares w s j v q e = subst (Spares w s j) (sym e) (λ m n b. absurd (n refl))

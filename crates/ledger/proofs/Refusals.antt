@@ -49,7 +49,7 @@ use Rattle.index.specs.Admission.{admission, consumedAt, notCreatedAt, remadeAt
 use Rattle.index.specs.Missing.{missingJobs}
 use Rattle.federation.specs.Federation.{thresholdOf}
 use Rattle.federation.specs.declared.Settings.{Settings}
-use Rattle.journal.specs.Journal.{isBooked, jobAt}
+use Rattle.journal.specs.Journal.{isBooked, isWhole, jobAt}
 use Rattle.ledger.specs.Meaning.{missing, remade, reserved}
 use Rattle.ledger.specs.State.{isSane, versionOf}
 use Rattle.ledger.specs.Decisions.{
@@ -86,6 +86,8 @@ use Rattle.ledger.specs.Steps.{
   commitDecision,
   dependenciesDecision,
   dependenciesOf,
+  equivocatorsDecision,
+  equivocatorsOf,
   faultyVoteDecision,
   gateOf,
   generationsDecision,
@@ -96,10 +98,11 @@ use Rattle.ledger.specs.Steps.{
   showDecision,
   snapshotDecision,
   vaultGate,
+  wholeGate,
 }
 use Rattle.vaults.specs.Vaults.{consented, vaultPreflight}
-use Rattle.ledger.specs.Worlds.{Request, clientPreflight, commit, dependencies, faultyVote, generations, preflight, propose, release, show, snapshot}
-use Rattle.ledger.specs.Worlds.{stepOf}
+use Rattle.ledger.specs.Worlds.{Request, clientPreflight, commit, dependencies, equivocating, faultyVote, generations, preflight, propose, release}
+use Rattle.ledger.specs.Worlds.{show, snapshot, stepOf}
 use Rattle.vaults.specs.declared.Consent.the-variants.{Already}
 use Rattle.ledger.specs.declared.Decision.{Decision}
 use Rattle.ledger.specs.declared.Ledger.{Ledger}
@@ -207,6 +210,10 @@ module _ (l : Ledger) (journal : List ℕ) (sane : isSane l ≡ true) where
       (choose (Bool·beq (hasBit (l .settings .faulty) v) faulty) _ _ (booked-or k) (fails WrongVault refl))
       (fails NoVault refl))
 
+  whole-gate : NotOne (wholeGate l journal)
+  unfolding wholeGate
+  whole-gate = rw sane (choose (isWhole (versionOf l) journal (l .booked)) _ _ pass (fails NotBooked refl))
+
   sane-gate : NotOne (saneGate l)
   unfolding saneGate
   sane-gate = rw sane pass
@@ -267,7 +274,7 @@ module _ (l : Ledger) (journal : List ℕ) (sane : isSane l ≡ true) where
   fine : (q : Request) → Fine (stepOf l journal q .outcome)
   unfolding proposeDecision proposal settling preflightDecision preflighting admissionAt commitDecision committing faultyVoteDecision showDecision
       generationsDecision snapshotDecision snapshotting releaseDecision releasing
-      dependenciesDecision dependenciesOf clientPreflightDecision clientPreflighting
+      dependenciesDecision dependenciesOf clientPreflightDecision clientPreflighting equivocatorsDecision equivocatorsOf
   fine (propose bytes) = behind (saneGate l) _ sane-gate (behind (examined (versionOf l) bytes) _ (examines (versionOf l) bytes) (places _ _ _ _))
   fine (preflight v k) = behind (vaultGate l journal v k false) _ (vault-gate v k false) (consents _ _ _ _ _ (admits _ _ _ _ _))
   fine (commit v k signers) =
@@ -282,6 +289,7 @@ module _ (l : Ledger) (journal : List ℕ) (sane : isSane l ≡ true) where
   fine (clientPreflight v k client) =
       behind (vaultGate l journal v k false) _ (vault-gate v k false)
       (either (isClient client) _ _ (consents-counted _ _ _ _ _ _ _ (admits _ _ _ _ _)) (refuses NoClient (fails NoClient refl)))
+  fine equivocating = listed (wholeGate l journal) _ whole-gate (done _)
 
   -- whatever the request
   pub never-one : (q : Request) → numberOf (stepOf l journal q .outcome) ≡ 1 → ⊥

@@ -103,7 +103,7 @@ unsigned-along (e ∷ fs) w r i v k c t n =
     (unsigned-still w r i v k c t n q done (after w e) change)
 
 -- the settings are those at the start
-correct-along : (n b faulty version : ℕ) (lawful : Lawful (record { n = n; b = b; faulty = faulty; version = version })) (es : List Event) (v : ℕ)
+pub correct-along : (n b faulty version : ℕ) (lawful : Lawful (record { n = n; b = b; faulty = faulty; version = version })) (es : List Event) (v : ℕ)
     → Correct (record { n = n; b = b; faulty = faulty; version = version }) v → Correct (afterAll (start n b faulty version) es .ledger .settings) v
 unfolding start newLedger
 correct-along n b faulty version lawful es v c =

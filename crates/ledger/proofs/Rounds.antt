@@ -41,6 +41,7 @@ use Rattle.ledger.specs.Worlds.{
   clientPreflight,
   commit,
   dependencies,
+  equivocating,
   faultyVote,
   generations,
   preflight,
@@ -78,6 +79,7 @@ is-snapshot snapshot e = refl
 is-snapshot (release v k rival) e = absurd (true≢false (sym e))
 is-snapshot (dependencies v k) e = absurd (true≢false (sym e))
 is-snapshot (clientPreflight v k client) e = absurd (true≢false (sym e))
+is-snapshot equivocating e = absurd (true≢false (sym e))
 
 turned : (w : World) (q : Request) (done : Bool) (w′ : World) → Change w q done w′ → Turned w (isSnapshot q) done w′
 unfolding booking counted voted withVault

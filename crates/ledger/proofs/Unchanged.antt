@@ -48,6 +48,7 @@ use Rattle.ledger.specs.Steps.{
   clientPreflightDecision,
   commitDecision,
   dependenciesDecision,
+  equivocatorsDecision,
   faultyVoteDecision,
   generationsDecision,
   journalAfter,
@@ -61,8 +62,8 @@ use Rattle.ledger.specs.Steps.{
   vaultGate,
 }
 use Rattle.vaults.specs.Vaults.{consented, vaultPreflight}
-use Rattle.ledger.specs.Worlds.{Request, clientPreflight, commit, decisionOf, dependencies, faultyVote, generations, leftBy, preflight, propose}
-use Rattle.ledger.specs.Worlds.{release, show, snapshot, stepOf}
+use Rattle.ledger.specs.Worlds.{Request, clientPreflight, commit, decisionOf, dependencies, equivocating, faultyVote, generations, leftBy, preflight}
+use Rattle.ledger.specs.Worlds.{propose, release, show, snapshot, stepOf}
 use Rattle.ledger.specs.declared.Change.{Change}
 use Rattle.ledger.specs.declared.Change.the-variants.{Book, Count, Nothing}
 use Rattle.vaults.specs.declared.Consent.{Consent}
@@ -170,11 +171,12 @@ module _ (l : Ledger) (journal : List ℕ) where
   Silent snapshot = Quiet (snapshotDecision l)
   Silent (release v k rival) = Quiet (releaseDecision l journal v k rival)
   Silent (dependencies v k) = Quiet (dependenciesDecision l journal v k)
+  Silent equivocating = Quiet (equivocatorsDecision l journal)
   Silent (clientPreflight v k client) = Unit {0}
 
   quiets : (q : Request) → Silent q
   unfolding proposeDecision proposal settling preflightDecision preflighting commitDecision committing faultyVoteDecision showDecision generationsDecision
-      snapshotDecision snapshotting releaseDecision releasing dependenciesDecision
+      snapshotDecision snapshotting releaseDecision releasing dependenciesDecision equivocatorsDecision
   quiets (propose bytes) = behind (saneGate l) _ (behind (examined (versionOf l) bytes) _ (placed _ _ _ _))
   quiets (preflight v k) = behind (vaultGate l journal v k false) _ (consents _ _ _ _ _)
   quiets (commit v k signers) = behind (vaultGate l journal v k false) _ (behind (certificate _ _ _) _ (received _ _ _ _))
@@ -185,6 +187,7 @@ module _ (l : Ledger) (journal : List ℕ) where
   quiets (release v k rival) = behind (vaultGate l journal v k false) _ (behind (supersession _ _ _ _ _ _) _ (done _ _))
   quiets (dependencies v k) = quiet _ refl
   quiets (clientPreflight v k client) = tt
+  quiets equivocating = quiet _ refl
 
   -- what is left of the ledger and of the journal
   nothing-applied : (v k : ℕ) (c : Change) → c ≡ Nothing → applied l c v k ≡ l
@@ -214,6 +217,7 @@ module _ (l : Ledger) (journal : List ℕ) where
   unchanged snapshot why e = (nothing-applied 0 0 _ (quiets snapshot .refused why e), refl)
   unchanged (release v k rival) why e = (nothing-applied v k _ (quiets (release v k rival) .refused why e), refl)
   unchanged (dependencies v k) why e = (nothing-applied v k _ (quiets (dependencies v k) .refused why e), refl)
+  unchanged equivocating why e = (nothing-applied 0 0 _ (quiets equivocating .refused why e), refl)
   unchanged (clientPreflight v k client) why e =
       let n = client-notes v k client .refused why e in
       (ap (λ (x : Change). applied l x v k) n ∙ noting-applied v k client (isCounted (refusalNumber why)), refl)

@@ -2,6 +2,8 @@ pub mod Decisions
 pub mod Demand2
 pub mod Demand3
 pub mod Dependencies
+pub mod Equivocation
+pub mod Equivocators
 pub mod Given
 pub mod Graph
 pub mod Growth

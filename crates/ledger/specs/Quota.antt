@@ -25,6 +25,7 @@ use Rattle.ledger.specs.Worlds.{
   commit,
   decisionOf,
   dependencies,
+  equivocating,
   faultyVote,
   generations,
   preflight,
@@ -63,6 +64,7 @@ asks v c w e (generations k) past = past
 asks v c w e snapshot past = past
 asks v c w e (release u k rival) past = past
 asks v c w e (dependencies u k) past = past
+asks v c w e equivocating past = past
 asks v c w e (clientPreflight u k d) past = cond (eqb u v && (eqb d c && counts (replyTo w e .outcome))) (askOf u k w e ∷ past) past
 
 -- the counted requests of a client at a vault along a list of steps, the newest first, after those before it
@@ -112,6 +114,7 @@ isClientPreflight (generations k) = false
 isClientPreflight snapshot = false
 isClientPreflight (release v k rival) = false
 isClientPreflight (dependencies v k) = false
+isClientPreflight equivocating = false
 isClientPreflight (clientPreflight v k client) = true
 
 abbrev pub withHistories : Ledger → List ℕ → Ledger

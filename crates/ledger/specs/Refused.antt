@@ -9,7 +9,7 @@ use Rattle.outcome.specs.Figures.{refusalNumber}
 use Rattle.outcome.specs.declared.Refusal.{Refusal}
 use Rattle.ledger.specs.Decisions.{historyWith}
 use Rattle.ledger.specs.State.{counted, historyAt}
-use Rattle.ledger.specs.Worlds.{Request, clientPreflight, commit, dependencies, faultyVote, generations, preflight, propose, release, show, snapshot}
+use Rattle.ledger.specs.Worlds.{Request, clientPreflight, commit, dependencies, equivocating, faultyVote, generations, preflight, propose, release, show, snapshot}
 use Rattle.ledger.specs.declared.Ledger.{Ledger}
 
 -- by the number of the answer: "A request turned back with 3, 4, 5 or 22 counts for no desk; every other one counts, 23 included." 1 comes before every other
@@ -28,5 +28,6 @@ refusedLedger l (generations job) why = l
 refusedLedger l snapshot why = l
 refusedLedger l (release v job rival) why = l
 refusedLedger l (dependencies v job) why = l
+refusedLedger l equivocating why = l
 refusedLedger l (clientPreflight v job client) why =
     cond (isCounted (refusalNumber why)) (counted l v (historyWith client (historyAt l v client) false)) l

@@ -4,6 +4,7 @@ mod ages;
 mod checks;
 mod clients;
 mod dependencies;
+mod equivocation;
 mod releases;
 mod run;
 mod settings;
@@ -21,6 +22,9 @@ fn main() {
     dependencies::after_run();
     dependencies::four_missing();
     dependencies::no_set();
+    equivocation::after_releases();
+    equivocation::excused();
+    equivocation::five();
     versions::versions();
     clients::clients();
 }

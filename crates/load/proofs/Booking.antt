@@ -52,6 +52,7 @@ use Rattle.ledger.specs.Steps.{
   clientPreflightDecision,
   commitDecision,
   dependenciesDecision,
+  equivocatorsDecision,
   faultyVoteDecision,
   gateOf,
   generationsDecision,
@@ -65,8 +66,8 @@ use Rattle.ledger.specs.Steps.{
   vaultGate,
 }
 use Rattle.vaults.specs.Vaults.{holding, unsigning, vaultPreflight}
-use Rattle.ledger.specs.Worlds.{Request, clientPreflight, commit, decisionOf, dependencies, faultyVote, generations, leftBy, preflight, propose, release}
-use Rattle.ledger.specs.Worlds.{show, snapshot, stepOf}
+use Rattle.ledger.specs.Worlds.{Request, clientPreflight, commit, decisionOf, dependencies, equivocating, faultyVote, generations, leftBy, preflight}
+use Rattle.ledger.specs.Worlds.{propose, release, show, snapshot, stepOf}
 use Rattle.ledger.specs.declared.Change.{Change}
 use Rattle.ledger.specs.declared.Change.the-variants.{Book, Count, Grant, Hold, Nothing, Record, Release, See, Sign}
 use Rattle.vaults.specs.declared.Column.the-variants.{Acknowledgements}
@@ -122,10 +123,12 @@ Other snapshot = Unit {0}
 Other (release v j rival) = Unit {0}
 Other (dependencies v j) = Unit {0}
 Other (clientPreflight v j client) = Unit {0}
+Other equivocating = Unit {0}
 
 other-calm : (l : Ledger) (journal : List ℕ) (q : Request) → Other q → Calm (decisionOf l journal q)
 unfolding preflightDecision preflighting consent commitDecision committing receiving faultyVoteDecision showDecision generationsDecision ageing
     snapshotDecision snapshotting releaseDecision releasing dependenciesDecision clientPreflightDecision clientPreflighting countedConsent
+    equivocatorsDecision
 other-calm l journal (propose bytes) h = absurd h
 other-calm l journal (preflight v j) h =
     let a = vaultPreflight (vaultAt l v) (admissionAt (vaultAt l v) (versionOf l) journal (l .booked) j) j in
@@ -156,6 +159,7 @@ other-calm l journal (clientPreflight v j client) h =
     gated-calm (vaultGate l journal v j false) (clientPreflighting (vaultAt l v) (versionOf l) journal (l .booked) client history (signersOf l j) v j)
     (if-calm (isClient client) (countedConsent (vaultAt l v) admission client history (signersOf l j) v j) (refusing NoClient)
     (counting-calm (a .consent) (a .vault) client history (signersOf l j) v) refl)
+other-calm l journal equivocating h = refl
 
 record Same (l m : Ledger) : Type 0 where
   settings : m .settings ≡ l .settings
@@ -198,6 +202,7 @@ other-left l journal snapshot h = refl
 other-left l journal (release v j rival) h = refl
 other-left l journal (dependencies v j) h = refl
 other-left l journal (clientPreflight v j client) h = refl
+other-left l journal equivocating h = refl
 
 module _ (first : ℕ) (s : Settings) (k : ℕ) (l : Ledger) (journal : List ℕ) (h : Standing first s k l journal) where
   pub other-standing : (q : Request) → Other q → Standing first s k (stepOf l journal q .ledger) (leftBy l journal q)

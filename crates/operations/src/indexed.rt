@@ -5,12 +5,17 @@ ghost use lib.ListN.{length};
 ghost use Rattle.generations.specs.Generations.{ageIn};
 ghost use Rattle.journal.specs.Journal.{Booked, jobAt};
 ghost use Rattle.ledger.specs.Decisions.{ageing, clientPreflighting, preflighting, proposal, releasing, requiring};
+ghost use Rattle.codec.specs.Codec.{placeOf};
+ghost use Rattle.decisions.specs.Partners.{recordedIn};
+ghost use Rattle.ledger.specs.Equivocation.{equivocators};
 ghost use Rattle.ledger.specs.Holders.{heldSomewhere, isHeld};
 use federation::Settings;
 use ledger::Decision;
 use ledger::Listing;
 use outcome::Verdict;
+use sets::JobSet;
 use vaults::Vault;
+use vaults::Votes;
 
 pub(crate) fn propose(version: u16, journal: &[u8], booked: usize, bytes: &[u8]) -> Decision
     requires { ⌜ booked ≤ 128 ⌝ }
@@ -220,4 +225,27 @@ pub(crate) fn generations(
         &mut memo,
         job,
     )
+}
+
+pub(crate) fn equivocating(
+    settings: Settings,
+    votes: [Votes; 128],
+    journal: &[u8],
+    booked: usize,
+) -> JobSet
+    requires { ⌜ (booked ≤ 128) × (placeOf (settings .version) booked ≤ length (now journal)) ⌝ }
+    ensures { λ r. ⌜ r ≡ equivocators settings (recordedIn votes) (jobAt (settings .version) (now (journal .entry)) booked) booked ⌝ }
+{
+    let mut numbers = [0u16; index::NUMBERS];
+    let mut sets = [0u64; index::SETS];
+    let mut records = [0u16; index::RECORDS];
+    index::build(
+        &mut numbers,
+        &mut sets,
+        &mut records,
+        settings.version,
+        journal,
+        booked,
+    );
+    decisions::equivocating(settings, votes, &numbers, &sets, journal, booked)
 }

@@ -11,6 +11,7 @@ ghost use Rattle.ledger.specs.Steps.{
   clientPreflightOf,
   commitOf,
   dependenciesOf,
+  equivocatorsOf,
   faultyVoteOf,
   generationsOf,
   journalAfter,
@@ -257,5 +258,20 @@ pub fn client_preflight(ledger: Ledger, journal: &[u8], vault: u8, job: u8, clie
             gates::carry(ledger, decision, vault, job)
         }
         Verdict::Fail(why) => gates::turn_back(ledger, why),
+    }
+}
+
+// Kind 13: the vaults that signed for two rivals of which nothing outside the pair excuses either, document 02's two-faced ones. Nothing changes.
+pub fn equivocating(ledger: Ledger, journal: &[u8]) -> Listing
+    ensures { λ r. ⌜ r ≡ equivocatorsOf ledger (now (journal .entry)) ⌝ }
+{
+    let gate = gates::whole_gate(ledger, journal);
+    match gate {
+        Verdict::Pass => {
+            let settings = ledger.settings;
+            let votes = ledger.votes;
+            decisions::list(indexed::equivocating(settings, votes, journal, ledger.booked))
+        }
+        Verdict::Fail(why) => decisions::unlist(why),
     }
 }

@@ -10,17 +10,18 @@ use Rattle.codec.specs.Codec.{recordSize}
 use Rattle.runfile.specs.Run.{longest}
 use Rattle.runfile.specs.Steps.{bodySize, commandIn, endOf, kindAt, kindOf}
 use Rattle.runfile.specs.declared.Kind.{Kind}
-use Rattle.runfile.specs.declared.Kind.the-variants.{ClientPreflight, Commit, Dependencies, Draw, FaultyAcknowledge, FaultySign, Generations, Preflight}
-use Rattle.runfile.specs.declared.Kind.the-variants.{Propose, Release, Show, Snapshot, Unknown}
+use Rattle.runfile.specs.declared.Kind.the-variants.{ClientPreflight, Commit, Dependencies, Draw, Equivocating, FaultyAcknowledge, FaultySign, Generations}
+use Rattle.runfile.specs.declared.Kind.the-variants.{Preflight, Propose, Release, Show, Snapshot, Unknown}
 use Rattle.reading.specs.Reading.{Read, formOf, formed, historyOf, isWide, jobOf, operationOf, rowOf, unread, vaultOf}
 use Rattle.reading.specs.declared.Operation.{Operation}
 use Rattle.reading.specs.declared.Step.{Step}
 
 -- a byte that the table does not have
 pub unknown-row : (version b : ℕ) (r : Operation) → (b ≡ 1 → ⊥) → (b ≡ 2 → ⊥) → (b ≡ 3 → ⊥) → (b ≡ 4 → ⊥) → (b ≡ 5 → ⊥) → (b ≡ 6 → ⊥) → (b ≡ 7 → ⊥)
-    → (b ≡ 8 → ⊥) → (b ≡ 9 → ⊥) → (b ≡ 10 → ⊥) → (b ≡ 11 → ⊥) → (b ≡ 12 → ⊥) → r ≡ rowOf version Unknown → r ≡ operationOf version b
+    → (b ≡ 8 → ⊥) → (b ≡ 9 → ⊥) → (b ≡ 10 → ⊥) → (b ≡ 11 → ⊥) → (b ≡ 12 → ⊥) → (b ≡ 13 → ⊥) → r ≡ rowOf version Unknown
+    → r ≡ operationOf version b
 unfolding operationOf kindOf
-unknown-row version b r a c d e f g h i j k m p q =
+unknown-row version b r a c d e f g h i j k m p n q =
     q
     ∙ simp (
       ne-eqb b 1 a,
@@ -35,6 +36,7 @@ unknown-row version b r a c d e f g h i j k m p q =
       ne-eqb b 10 k,
       ne-eqb b 11 m,
       ne-eqb b 12 p,
+      ne-eqb b 13 n,
     )
 
 -- ---- the table of kinds
@@ -70,6 +72,7 @@ module _ (version : ℕ) (input : List ℕ) (pos number : ℕ) where
   row Release = search (size-least version, arith)
   row Dependencies = search (size-least version, arith)
   row ClientPreflight = search (size-least version, arith)
+  row Equivocating = search (size-least version, arith)
   row Unknown = search (size-least version, arith)
 
   -- a step of a kind whose body is all there

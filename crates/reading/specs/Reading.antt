@@ -7,12 +7,12 @@ use lib.ListN.{getD, length}
 use Rattle.codec.specs.Codec.{recordSize}
 use Rattle.quota.specs.Quota.{historyPlace}
 use Rattle.runfile.specs.Run.{longest}
-use Rattle.ledger.specs.Worlds.{Request, clientPreflight, commit, dependencies, faultyVote, generations, jobIn}
+use Rattle.ledger.specs.Worlds.{Request, clientPreflight, commit, dependencies, equivocating, faultyVote, generations, jobIn}
 use Rattle.ledger.specs.Worlds.{preflight, propose, release, show, snapshot, vaultIn}
 use Rattle.runfile.specs.Steps.{Command, bodySize, commandIn, draw, kindAt, kindOf, nextAt, request, unreadable}
 use Rattle.runfile.specs.declared.Kind.{Kind}
-use Rattle.runfile.specs.declared.Kind.the-variants.{ClientPreflight, Commit, Dependencies, Draw, FaultyAcknowledge, FaultySign, Generations, Preflight}
-use Rattle.runfile.specs.declared.Kind.the-variants.{Propose, Release, Show, Snapshot, Unknown}
+use Rattle.runfile.specs.declared.Kind.the-variants.{ClientPreflight, Commit, Dependencies, Draw, Equivocating, FaultyAcknowledge, FaultySign, Generations}
+use Rattle.runfile.specs.declared.Kind.the-variants.{Preflight, Propose, Release, Show, Snapshot, Unknown}
 use Rattle.reading.specs.declared.Form.{Form}
 use Rattle.reading.specs.declared.Form.the-variants.{Bare, OfClient, OfJob, OfVault, Unreadable}
 use Rattle.reading.specs.declared.Operation.{Operation}
@@ -41,6 +41,7 @@ placeIn snapshot = 0
 placeIn (release v job rival) = 0
 placeIn (dependencies v job) = 0
 placeIn (clientPreflight v job client) = historyPlace v client
+placeIn equivocating = 0
 
 abbrev pub historyOf : Command → ℕ
 historyOf (request q) = placeIn q
@@ -61,9 +62,10 @@ formOf Snapshot = Bare
 formOf Release = OfVault
 formOf Dependencies = OfVault
 formOf ClientPreflight = OfClient
+formOf Equivocating = Bare
 formOf Unknown = Unreadable
 
--- generations ask which vaults hold the job, missing dependencies which jobs they hold: all vaults are looked at
+-- generations ask which vaults hold the job, missing dependencies which jobs they hold, kind 13 what they signed: all vaults are looked at
 abbrev pub isWide : Kind → Bool
 isWide Propose = false
 isWide Preflight = false
@@ -77,6 +79,7 @@ isWide Snapshot = false
 isWide Release = false
 isWide Dependencies = true
 isWide ClientPreflight = false
+isWide Equivocating = true
 isWide Unknown = false
 
 abbrev pub rowOf : ℕ → Kind → Operation

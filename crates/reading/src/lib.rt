@@ -105,6 +105,7 @@ fn operation_of(version: u16, byte: u8) -> Operation
         10 => row(Kind::Release, 3, Form::OfVault, false),
         11 => row(Kind::Dependencies, 2, Form::OfVault, true),
         12 => row(Kind::ClientPreflight, 3, Form::OfClient, false),
+        13 => row(Kind::Equivocating, 0, Form::Bare, true),
         _ => row(Kind::Unknown, 0, Form::Unreadable, false),
     }
 }

@@ -12,20 +12,22 @@ use Rattle.outcome.specs.declared.Refusal.the-variants.{Unreadable}
 use Rattle.outcome.specs.declared.Verdict.{Verdict}
 use Rattle.outcome.specs.declared.Verdict.the-variants.{Fail, Pass}
 use Rattle.sets.specs.Jobs.{noJobs}
+use Rattle.sets.specs.declared.job_set.JobSet.{JobSet}
 use Rattle.codec.specs.Codec.{recordSize}
-use Rattle.journal.specs.Journal.{isBooked}
+use Rattle.journal.specs.Journal.{isBooked, isWhole, jobAt}
+use Rattle.decisions.proofs.Partners.{listed-by}
 use Rattle.draw.specs.Draw.{drawOf}
 use Rattle.ledger.proofs.Gates.{booked-entered, entered, in-place, reflect-sane}
 use Rattle.ledger.proofs.Places.{proposed}
 use Rattle.ledger.proofs.Writes.{unwritten}
-use Rattle.ledger.specs.Decisions.{ageing, answering, clientPreflighting, committing, gated, gatedListing, isBook, isNothing, preflighting, refusing}
-use Rattle.ledger.specs.Decisions.{releasing, requiring, snapshotting, statusOf, voting}
+use Rattle.ledger.specs.Decisions.{ageing, answering, clientPreflighting, committing, gated, gatedListing, isBook, isNothing, listing, preflighting}
+use Rattle.ledger.specs.Decisions.{refusing, releasing, requiring, snapshotting, statusOf, voting}
 use Rattle.ledger.specs.Holders.{heldSomewhere}
 use Rattle.ledger.specs.Given.{Placed}
 use Rattle.ledger.specs.Meaning.{Proposed, Sane, failed, full, insane, known, new}
 use Rattle.ledger.specs.State.{applied, historyAt, signersOf, vaultAt, versionOf, votesAt, votesIn}
-use Rattle.ledger.specs.Steps.{bookedGate, clientPreflightDecision, commitDecision, dependenciesDecision, dependenciesOf, faultyVoteDecision, gateOf}
-use Rattle.ledger.specs.Steps.{generationsDecision, journalAfter}
+use Rattle.ledger.specs.Steps.{bookedGate, clientPreflightDecision, commitDecision, dependenciesDecision, dependenciesOf, equivocatorsDecision}
+use Rattle.ledger.specs.Steps.{equivocatorsOf, faultyVoteDecision, gateOf, generationsDecision, journalAfter, wholeGate}
 use Rattle.ledger.specs.Steps.{journalWith, preflightDecision, proposeDecision, releaseDecision, saneGate, showDecision, snapshotDecision, vaultGate}
 use Rattle.ledger.specs.Worlds.{decisionOf}
 use Rattle.ledger.specs.declared.Change.{Change}
@@ -37,12 +39,14 @@ use Rattle.ledger.specs.declared.Listing.{Listing}
 use Rattle.vaults.specs.declared.Vault.{Vault}
 use Rattle.runfile.specs.Steps.{Command, commandIn, draw, journalBy, listedBy, replyOf, request, unreadable, wordAt}
 use Rattle.runfile.specs.declared.Kind.{Kind}
-use Rattle.runfile.specs.declared.Kind.the-variants.{ClientPreflight, Commit, Dependencies, Draw, FaultyAcknowledge, FaultySign, Generations, Preflight}
-use Rattle.runfile.specs.declared.Kind.the-variants.{Propose, Release, Show, Snapshot, Unknown}
+use Rattle.runfile.specs.declared.Kind.the-variants.{ClientPreflight, Commit, Dependencies, Draw, Equivocating, FaultyAcknowledge, FaultySign, Generations}
+use Rattle.runfile.specs.declared.Kind.the-variants.{Preflight, Propose, Release, Show, Snapshot, Unknown}
 use Rattle.quota.specs.Quota.{historyPlace}
 use Rattle.steps.proofs.Quiet.{Bookless}
-use Rattle.steps.specs.Decided.{bookedOr, decidedBy, required, surveyed}
+use Rattle.steps.specs.Decided.{bookedOr, decidedBy, naming, required, surveyed}
 use Rattle.reading.specs.Reading.{historyOf, isWide, jobOf, vaultOf}
+use Rattle.steps.specs.Kept.{Found}
+use Rattle.steps.specs.declared.Remembered.{Remembered}
 use Rattle.steps.specs.declared.Books.{Books}
 use Rattle.steps.specs.declared.View.{View}
 
@@ -78,8 +82,8 @@ viewAt l v job place = record {
   turn = vaultAt l (l .next % 16);
 }
 
-abbrev pub booksOf : Ledger → Books
-booksOf l = record { settings = l .settings; booked = l .booked; arrivals = l .arrivals; vaults = l .vaults }
+abbrev pub booksOf : Ledger → JobSet → Books
+booksOf l named = record { settings = l .settings; booked = l .booked; arrivals = l .arrivals; vaults = l .vaults; named = named }
 
 -- ---- behind a gate
 quiet-behind : (g : Verdict) (d : Decision) → d .change ≡ Nothing → gated g d .change ≡ Nothing
@@ -119,21 +123,22 @@ same-listed : (g : Verdict) (r q : Listing) → (g ≡ Pass → r ≡ q) → gat
 same-listed Pass r q h = h refl
 same-listed (Fail why) r q h = refl
 
--- two kinds look at all vaults
-by-wide : (P : Kind → Type 0) → P Generations → P Dependencies → (k : Kind) → isWide k ≡ true → P k
-by-wide P g d Propose w = absurd (true≢false (sym w))
-by-wide P g d Preflight w = absurd (true≢false (sym w))
-by-wide P g d Commit w = absurd (true≢false (sym w))
-by-wide P g d FaultySign w = absurd (true≢false (sym w))
-by-wide P g d FaultyAcknowledge w = absurd (true≢false (sym w))
-by-wide P g d Show w = absurd (true≢false (sym w))
-by-wide P g d Draw w = absurd (true≢false (sym w))
-by-wide P g d Generations w = g
-by-wide P g d Snapshot w = absurd (true≢false (sym w))
-by-wide P g d Release w = absurd (true≢false (sym w))
-by-wide P g d Dependencies w = d
-by-wide P g d ClientPreflight w = absurd (true≢false (sym w))
-by-wide P g d Unknown w = absurd (true≢false (sym w))
+-- three kinds look at all vaults
+by-wide : (P : Kind → Type 0) → P Generations → P Dependencies → P Equivocating → (k : Kind) → isWide k ≡ true → P k
+by-wide P g d e Propose w = absurd (true≢false (sym w))
+by-wide P g d e Preflight w = absurd (true≢false (sym w))
+by-wide P g d e Commit w = absurd (true≢false (sym w))
+by-wide P g d e FaultySign w = absurd (true≢false (sym w))
+by-wide P g d e FaultyAcknowledge w = absurd (true≢false (sym w))
+by-wide P g d e Show w = absurd (true≢false (sym w))
+by-wide P g d e Draw w = absurd (true≢false (sym w))
+by-wide P g d e Generations w = g
+by-wide P g d e Snapshot w = absurd (true≢false (sym w))
+by-wide P g d e Release w = absurd (true≢false (sym w))
+by-wide P g d e Dependencies w = d
+by-wide P g d e ClientPreflight w = absurd (true≢false (sym w))
+by-wide P g d e Equivocating w = e
+by-wide P g d e Unknown w = absurd (true≢false (sym w))
 
 module _ (l : Ledger) (s : Sane l) (journal : List ℕ) where
   vault-gate : (v job : ℕ) (faulty : Bool) → gateOf (l .settings) v faulty (isBooked (versionOf l) journal (l .booked) job) ≡ vaultGate l journal v job faulty
@@ -143,6 +148,10 @@ module _ (l : Ledger) (s : Sane l) (journal : List ℕ) where
   pub booked-gate : (job : ℕ) → bookedOr (isBooked (versionOf l) journal (l .booked) job) ≡ bookedGate l journal job
   unfolding bookedGate bookedOr
   booked-gate job = simp (reflect-sane l .complete s)
+
+  whole-gate : bookedOr (isWhole (versionOf l) journal (l .booked)) ≡ wholeGate l journal
+  unfolding wholeGate bookedOr
+  whole-gate = simp (reflect-sane l .complete s)
 
   -- behind an open gate the vault and the job modulo the arrays' lengths are themselves
   at-vault : (v job : ℕ) (faulty : Bool) (P : ℕ → ℕ → Decision)
@@ -215,12 +224,13 @@ module _ (l : Ledger) (s : Sane l) (journal : List ℕ) where
         at-vault first second false
         (λ v job. clientPreflighting (vaultAt l v) (versionOf l) journal (l .booked) third history (signersOf l job) first second)
         ∙ rw p
+    decided-is Equivocating n = absurd (true≢false n)
     decided-is Unknown n = refl
 
     -- ---- a kind that looks at all vaults changes nothing
     pub wide-quiet : (k : Kind) → isWide k ≡ true → decision k .change ≡ Nothing
-    unfolding generationsDecision dependenciesDecision
-    wide-quiet = by-wide (λ k. decision k .change ≡ Nothing) (quiet-behind (bookedGate l journal first) _ (ageing-quiet _ _)) refl
+    unfolding generationsDecision dependenciesDecision equivocatorsDecision
+    wide-quiet = by-wide (λ k. decision k .change ≡ Nothing) (quiet-behind (bookedGate l journal first) _ (ageing-quiet _ _)) refl refl
 
     -- what a command answers and lists, by the ledger's definitions
     abbrev pub answer : Kind → Listing
@@ -230,9 +240,9 @@ module _ (l : Ledger) (s : Sane l) (journal : List ℕ) where
     requiredAt : ℕ → Listing
     requiredAt v = requiring (vaultAt l v) (heldSomewhere (l .settings) (l .vaults)) (versionOf l) journal (l .booked) second
 
-    required-is : required (booksOf l) journal first second ≡ dependenciesOf l journal first second
+    required-is : (named : JobSet) → required (booksOf l named) journal first second ≡ dependenciesOf l journal first second
     unfolding dependenciesOf requiredAt
-    required-is =
+    required-is named =
         ap (λ (g : Verdict). gatedListing g (requiredAt (first % 16))) (vault-gate first second false)
         ∙ same-listed (vaultGate l journal first second false) _ _ placed
       where
@@ -242,11 +252,20 @@ module _ (l : Ledger) (s : Sane l) (journal : List ℕ) where
             let a : first % 16 ≡ first = omega (arith, p .vault) in
             ap requiredAt a
 
-    pub wide-answer : (k : Kind) → isWide k ≡ true
-        → surveyed (booksOf l) (l .order) journal k (vaultOf (command k)) (jobOf (command k)) ≡ answer k
-    unfolding generationsDecision dependenciesDecision
-    wide-answer =
-        by-wide (λ k. surveyed (booksOf l) (l .order) journal k (vaultOf (command k)) (jobOf (command k)) ≡ answer k) (rw (booked-gate first)) required-is
+    -- kind 13: the vaults that were found are those that the rule names
+    naming-is : (named : Remembered) → Found (l .settings) (l .votes) journal (l .booked) Equivocating named → naming (booksOf l (named .vaults)) journal ≡ equivocatorsOf l journal
+    unfolding equivocatorsOf
+    naming-is named h =
+        ap (λ (g : Verdict). gatedListing g (listing (named .vaults))) whole-gate
+        ∙ ap (gatedListing (wholeGate l journal)) (listed-by l (jobAt (versionOf l) journal (l .booked)) (named .vaults) _ (h .right .are (h .known refl)) refl)
+
+    abbrev Answers : Kind → Type 0
+    Answers k = (named : Remembered) → Found (l .settings) (l .votes) journal (l .booked) k named
+        → surveyed (booksOf l (named .vaults)) (l .order) journal k (vaultOf (command k)) (jobOf (command k)) ≡ answer k
+
+    pub wide-answer : (k : Kind) → isWide k ≡ true → Answers k
+    unfolding generationsDecision dependenciesDecision equivocatorsDecision
+    wide-answer = by-wide Answers (λ named h. rw (booked-gate first)) (λ named h. required-is (named .vaults)) naming-is
 
     -- any other kind lists nothing
     pub narrow-lists : (k : Kind) → isWide k ≡ false → noJobs ≡ listedBy l journal (command k)
@@ -262,6 +281,7 @@ module _ (l : Ledger) (s : Sane l) (journal : List ℕ) where
     narrow-lists Release n = refl
     narrow-lists Dependencies n = absurd (true≢false n)
     narrow-lists ClientPreflight n = refl
+    narrow-lists Equivocating n = absurd (true≢false n)
     narrow-lists Unknown n = refl
 
     -- ---- only a proposal writes the journal
@@ -288,6 +308,7 @@ module _ (l : Ledger) (s : Sane l) (journal : List ℕ) where
     bookless-left Release b = untouched (decision Release) b
     bookless-left Dependencies b = untouched (decision Dependencies) b
     bookless-left ClientPreflight b = untouched (decision ClientPreflight) b
+    bookless-left Equivocating b = untouched (decision Equivocating) b
     bookless-left Unknown b = untouched (decision Unknown) b
 
     pub left-by : (k : Kind) → (k ≡ Propose) ⊎ Bookless (decision k) → LeftBy k
@@ -340,4 +361,5 @@ module _ (l : Ledger) (s : Sane l) (journal : List ℕ) where
     there Release e = gone-in first second false _ e
     there Dependencies e = quiet _ (wide-quiet Dependencies refl) e
     there ClientPreflight e = gone-in first second false _ e
+    there Equivocating e = quiet _ (wide-quiet Equivocating refl) e
     there Unknown e = quiet _ refl e

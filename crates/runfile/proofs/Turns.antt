@@ -24,6 +24,7 @@ use Rattle.runfile.specs.declared.Kind.the-variants.{
   Commit,
   Dependencies,
   Draw,
+  Equivocating,
   FaultyAcknowledge,
   FaultySign,
   Generations,
@@ -95,6 +96,7 @@ reads-on version Snapshot pos size n h = omega arith
 reads-on version Release pos size n h = omega arith
 reads-on version Dependencies pos size n h = omega arith
 reads-on version ClientPreflight pos size n h = omega arith
+reads-on version Equivocating pos size n h = omega arith
 reads-on version Unknown pos size n h = omega arith
 
 pub runs-out : (n : ℕ) (input : List ℕ) (r : Run) → length input ≤ r .pos + n → ended input (runNext n input r) ≡ true

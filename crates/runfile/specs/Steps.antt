@@ -12,9 +12,9 @@ use Rattle.sets.specs.declared.job_set.JobSet.{JobSet}
 use Rattle.draw.specs.Draw.{drawOf}
 use Rattle.codec.specs.Codec.{recordSize}
 use Rattle.vaults.specs.declared.Column.the-variants.{Acknowledgements, Signatures}
-use Rattle.ledger.specs.Worlds.{Request, clientPreflight, commit, dependencies, faultyVote, generations, leftBy, preflight, propose, release, show, snapshot}
-use Rattle.ledger.specs.Worlds.{stepOf}
-use Rattle.ledger.specs.Steps.{dependenciesOf}
+use Rattle.ledger.specs.Steps.{dependenciesOf, equivocatorsOf}
+use Rattle.ledger.specs.Worlds.{Request, clientPreflight, commit, dependencies, equivocating, faultyVote, generations, leftBy, preflight, propose, release}
+use Rattle.ledger.specs.Worlds.{show, snapshot, stepOf}
 use Rattle.ledger.specs.declared.Ledger.{Ledger}
 use Rattle.ledger.specs.declared.Reply.{Reply}
 use Rattle.runfile.specs.declared.Kind.{Kind}
@@ -23,6 +23,7 @@ use Rattle.runfile.specs.declared.Kind.the-variants.{
   Commit,
   Dependencies,
   Draw,
+  Equivocating,
   FaultyAcknowledge,
   FaultySign,
   Generations,
@@ -36,7 +37,7 @@ use Rattle.runfile.specs.declared.Kind.the-variants.{
 
 -- "1 propose (record); 2 preflight (vault, job); 3 commit (vault, job, signers); 4 faulty signature (vault, job); 5 faulty acknowledgement
 -- (vault, job); 6 show (job); 7 draw (u); 8 generations (job)"; and document 02's 9, a snapshot, "without a body", 10, a release "(vault, job, rival)", 11, a
--- job's missing dependencies "(vault, job)", and 12, a preflight from a client "(vault, job, desk in one byte)"
+-- job's missing dependencies "(vault, job)", 12, a preflight from a client "(vault, job, desk in one byte)", and 13, the vaults that equivocate, "without a body"
 unfoldable pub kindOf : ℕ → Kind
 kindOf b =
     cond (eqb b 1) Propose
@@ -50,7 +51,8 @@ kindOf b =
     (cond (eqb b 9) Snapshot
     (cond (eqb b 10) Release
     (cond (eqb b 11) Dependencies
-    (cond (eqb b 12) ClientPreflight Unknown)))))))))))
+    (cond (eqb b 12) ClientPreflight
+    (cond (eqb b 13) Equivocating Unknown))))))))))))
 
 -- how long the body is, in a file of the version
 abbrev pub bodySize : ℕ → Kind → ℕ
@@ -66,6 +68,7 @@ bodySize version Snapshot = 0
 bodySize version Release = 3
 bodySize version Dependencies = 2
 bodySize version ClientPreflight = 3
+bodySize version Equivocating = 0
 bodySize version Unknown = 0
 
 -- 16 bits, the low byte first
@@ -92,6 +95,7 @@ commandIn version Snapshot input at = request snapshot
 commandIn version Release input at = request (release (getD input at 0) (getD input (at + 1) 0) (getD input (at + 2) 0))
 commandIn version Dependencies input at = request (dependencies (getD input at 0) (getD input (at + 1) 0))
 commandIn version ClientPreflight input at = request (clientPreflight (getD input at 0) (getD input (at + 1) 0) (getD input (at + 2) 0))
+commandIn version Equivocating input at = request equivocating
 commandIn version Unknown input at = unreadable
 
 -- the kind of the step at pos, where its body is all there: "2: kind unknown or body cut short"
@@ -117,6 +121,7 @@ endOf version Snapshot pos size = pos + bodySize version Snapshot + 1
 endOf version Release pos size = pos + bodySize version Release + 1
 endOf version Dependencies pos size = pos + bodySize version Dependencies + 1
 endOf version ClientPreflight pos size = pos + bodySize version ClientPreflight + 1
+endOf version Equivocating pos size = pos + bodySize version Equivocating + 1
 endOf version Unknown pos size = size
 
 abbrev pub nextAt : ℕ → List ℕ → ℕ → ℕ
@@ -139,7 +144,7 @@ journalBy l journal unreadable = journal
 
 -- ---- what a command lists
 
--- the numbers that a request lists: of kind 11 the jobs that are missing
+-- the numbers that a request lists: of kind 11 the jobs that are missing, of kind 13 the vaults that equivocate
 abbrev pub listedIn : Ledger → List ℕ → Request → JobSet
 listedIn l journal (propose bytes) = noJobs
 listedIn l journal (preflight v job) = noJobs
@@ -151,6 +156,7 @@ listedIn l journal snapshot = noJobs
 listedIn l journal (release v job rival) = noJobs
 listedIn l journal (dependencies v job) = dependenciesOf l journal v job .members
 listedIn l journal (clientPreflight v job client) = noJobs
+listedIn l journal equivocating = equivocatorsOf l journal .members
 
 abbrev pub listedBy : Ledger → List ℕ → Command → JobSet
 listedBy l journal (request q) = listedIn l journal q

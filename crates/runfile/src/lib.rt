@@ -15,5 +15,6 @@ pub enum Kind {
     Release,
     Dependencies,
     ClientPreflight,
+    Equivocating,
     Unknown,
 }

@@ -116,6 +116,14 @@ pub fn client_preflight(l: Ledger, journal: &[u8], vault: u8, job: u8, client: u
     )
 }
 
+// Its line, and the vaults that it lists.
+pub fn equivocating(l: Ledger, journal: &[u8]) {
+    let listing = operations::equivocating(l, journal);
+    let outcome = listing.outcome;
+    line(b"equivocating", outcome);
+    listed(listing.members);
+}
+
 pub fn sign(l: Ledger, journal: &[u8], vault: u8, job: u8) -> Ledger
     ensures { λ r. ⌜ r ≡ faultyVoteOf l (now (journal .entry)) Signatures vault job .ledger ⌝ }
 {

@@ -27,8 +27,8 @@ use Rattle.ledger.specs.declared.Decision.{Decision}
 use Rattle.vaults.specs.declared.Vault.{Vault}
 use Rattle.runfile.specs.Steps.{commandIn}
 use Rattle.runfile.specs.declared.Kind.{Kind}
-use Rattle.runfile.specs.declared.Kind.the-variants.{ClientPreflight, Commit, Dependencies, Draw, FaultyAcknowledge, FaultySign, Generations, Preflight}
-use Rattle.runfile.specs.declared.Kind.the-variants.{Propose, Release, Show, Snapshot, Unknown}
+use Rattle.runfile.specs.declared.Kind.the-variants.{ClientPreflight, Commit, Dependencies, Draw, Equivocating, FaultyAcknowledge, FaultySign, Generations}
+use Rattle.runfile.specs.declared.Kind.the-variants.{Preflight, Propose, Release, Show, Snapshot, Unknown}
 use Rattle.steps.specs.Decided.{decidedBy}
 use Rattle.steps.specs.declared.View.{View}
 
@@ -101,6 +101,7 @@ module _ (w : View) (journal input : List ℕ) (at : ℕ) where
   books Release = inr (search quiet)
   books Dependencies = inr (search quiet)
   books ClientPreflight = inr (search quiet)
+  books Equivocating = inr (search quiet)
   books Unknown = inr (search quiet)
 
   unbooked : (d : Decision) → Bookless d → Writable (d .change) (w .booked) version journal bytes

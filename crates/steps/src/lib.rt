@@ -1,11 +1,15 @@
 // One step of a run file that was read: it is decided from what it looks at, its text is written and its record stored. These are parts of
 // the run, which keeps the journal and its index, and knows what they require.
 mod deciding;
+mod naming;
 mod storing;
 mod turning;
 
 use federation::Settings;
 use ledger::Change;
+pub use naming::named;
+pub use naming::still;
+pub use naming::unknown;
 use sets::JobSet;
 pub use turning::carry_out;
 pub use turning::survey;
@@ -25,12 +29,19 @@ pub struct View {
     pub turn: Vault,
 }
 
-// What a step looks at that looks at all vaults.
+// What a step looks at that looks at all vaults; of kind 13 the vaults that it names.
 pub struct Books {
     pub settings: Settings,
     pub booked: usize,
     pub arrivals: usize,
     pub vaults: [Vault; 16],
+    pub named: JobSet,
+}
+
+// The vaults that equivocate, where they are known.
+pub struct Remembered {
+    pub known: bool,
+    pub vaults: JobSet,
 }
 
 // What a step changes in the ledger, and where its text ends.

@@ -9,6 +9,7 @@ mod conflicts;
 mod damage;
 mod dependencies;
 mod edges;
+mod equivocation;
 mod orphans;
 mod records;
 mod releases;

@@ -3,6 +3,7 @@
 use super::build::Builder;
 use super::clients::{busy_client, odd_request};
 use super::dependencies::{odd_question, scattered};
+use super::equivocation::ask;
 use super::records::{new_accession, new_migration, some_tapes};
 use super::releases::odd_release;
 use crate::settings::MOST_VAULTS;
@@ -19,7 +20,7 @@ pub fn traffic(builder: &mut Builder) {
 
 pub fn action(builder: &mut Builder) {
     let job = recent_job(builder);
-    match builder.random.below(30) {
+    match builder.random.below(31) {
         0..=2 => {
             let record = new_accession(builder);
             builder.push(record);
@@ -48,6 +49,7 @@ pub fn action(builder: &mut Builder) {
         24 => scattered(builder),
         25 => odd_request(builder, job),
         26 if builder.random.chance(40) => busy_client(builder),
+        27 => ask(builder),
         _ => look(builder, job),
     }
 }

@@ -15,5 +15,5 @@ decide-spec =
     (λ c. search by) (λ c κs. search by) (λ c. search by) (λ c κs. search by) (λ c. search by) (λ c κs. search by) (λ c. search by)
     (λ c κs. search by) (λ c. search by) (λ c κs. search by) (λ c. search by) (λ c κs. search by) (λ c. search by) (λ c κs. search by)
     (λ c. search by) (λ c κs. search by) (λ c. search by) (λ c κs. search by) (λ c κs. search by) (λ c. search by) (λ c κs. search by)
-    (λ c. search by) (λ c. search by) (λ c. search by) (λ c. search by) (λ c. search by) (λ c. search by) (λ c. search by) (λ c. search by)
-    (λ c. search by) (λ c. search by) (λ c. search by) (λ c. search by) (λ c. search by))
+    (λ c. search by) (λ c κs. search by) (λ c. search by) (λ c. search by) (λ c. search by) (λ c. search by) (λ c. search by) (λ c. search by)
+    (λ c. search by) (λ c. search by) (λ c. search by) (λ c. search by) (λ c. search by) (λ c. search by) (λ c. search by) (λ c. search by))
