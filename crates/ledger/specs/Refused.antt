@@ -9,7 +9,8 @@ use Rattle.outcome.specs.Figures.{refusalNumber}
 use Rattle.outcome.specs.declared.Refusal.{Refusal}
 use Rattle.ledger.specs.Decisions.{historyWith}
 use Rattle.ledger.specs.State.{counted, historyAt}
-use Rattle.ledger.specs.Worlds.{Request, clientPreflight, commit, dependencies, equivocating, faultyVote, generations, preflight, propose, release, show, snapshot}
+use Rattle.ledger.specs.Worlds.{Request, clientPreflight, commit, dependencies, equivocating, faultyVote, generations, preflight, propose}
+use Rattle.ledger.specs.Worlds.{release, show, snapshot}
 use Rattle.ledger.specs.declared.Ledger.{Ledger}
 
 -- by the number of the answer: "A request turned back with 3, 4, 5 or 22 counts for no desk; every other one counts, 23 included." 1 comes before every other

@@ -253,7 +253,8 @@ module _ (l : Ledger) (s : Sane l) (journal : List ℕ) where
             ap requiredAt a
 
     -- kind 13: the vaults that were found are those that the rule names
-    naming-is : (named : Remembered) → Found (l .settings) (l .votes) journal (l .booked) Equivocating named → naming (booksOf l (named .vaults)) journal ≡ equivocatorsOf l journal
+    naming-is : (named : Remembered) → Found (l .settings) (l .votes) journal (l .booked) Equivocating named
+        → naming (booksOf l (named .vaults)) journal ≡ equivocatorsOf l journal
     unfolding equivocatorsOf
     naming-is named h =
         ap (λ (g : Verdict). gatedListing g (listing (named .vaults))) whole-gate

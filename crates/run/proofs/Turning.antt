@@ -140,7 +140,8 @@ module _ {input : List ℕ} {l₀ : Ledger} {pos₀ count₀ : ℕ} {journal₀ 
       let w : isWide (s .kind) ≡ true = sym (r .wide-is) ∙ y in
       let n : decision .change ≡ Nothing = wide-quiet l (t .kept .sane) journal input (s .at) (s .kind) w in
       let quiet : isBook (decision .change) ≡ false = ap isBook n in
-      let answered : surveyed (booksOf l (named .vaults)) (l .order) journal (s .kind) (s .vault) (s .job) ≡ answer l (t .kept .sane) journal input (s .at) (s .kind) =
+      let answered : surveyed (booksOf l (named .vaults)) (l .order) journal (s .kind) (s .vault) (s .job)
+      ≡ answer l (t .kept .sane) journal input (s .at) (s .kind) =
       rw (r .asked .vault-is, r .asked .job-is) (wide-answer l (t .kept .sane) journal input (s .at) (s .kind) w named h) in
       on _ l memo′ journal numbers sets records out′ at′
       (ap (λ (x : Listing). x .outcome) answered)

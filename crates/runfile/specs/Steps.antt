@@ -37,7 +37,8 @@ use Rattle.runfile.specs.declared.Kind.the-variants.{
 
 -- "1 propose (record); 2 preflight (vault, job); 3 commit (vault, job, signers); 4 faulty signature (vault, job); 5 faulty acknowledgement
 -- (vault, job); 6 show (job); 7 draw (u); 8 generations (job)"; and document 02's 9, a snapshot, "without a body", 10, a release "(vault, job, rival)", 11, a
--- job's missing dependencies "(vault, job)", 12, a preflight from a client "(vault, job, desk in one byte)", and 13, the vaults that equivocate, "without a body"
+-- job's missing dependencies "(vault, job)", 12, a preflight from a client "(vault, job, desk in one byte)", and 13, the vaults that
+-- equivocate, "without a body"
 unfoldable pub kindOf : ℕ → Kind
 kindOf b =
     cond (eqb b 1) Propose

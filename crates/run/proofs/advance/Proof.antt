@@ -53,7 +53,8 @@ Inv-loop memo₀ journal₀ numbers₀ sets₀ records₀ input out₀ l₀ pos�
     × Same memo₀ journal₀ numbers₀ sets₀ records₀ out₀ memo journal numbers sets records out × Holds l journal named
 
 abbrev μ-loop : tie.MeasureT-loop
-μ-loop memo₀ journal₀ numbers₀ sets₀ records₀ input out₀ l₀ pos₀ count₀ at₀ named₀ memo journal numbers sets records out l pos count at named = length input - pos
+μ-loop memo₀ journal₀ numbers₀ sets₀ records₀ input out₀ l₀ pos₀ count₀ at₀ named₀ memo journal numbers sets records out l pos count at named =
+    length input - pos
 
 -- In what follows s is the place after the step was read, three places after the loop's head, and t the place after it was carried out.
 survey-requires : tie.Need-survey-requires Inv-loop μ-loop
