@@ -3,6 +3,7 @@
 //! State is changed in place, sets are bits, and what the checks ask is kept in an index as records are booked, so that no
 //! step scans the journal.
 mod draw;
+mod equivocation;
 mod federation;
 mod index;
 mod ledger;
@@ -32,6 +33,13 @@ fn take_steps<'a>(mut ledger: Ledger<'a>, mut rest: &'a [u8], out: &mut Vec<u8>)
             let (answer, jobs) = ledger.dependencies(vault, job);
             lines.put(answer);
             lines.list(jobs);
+            rest = after;
+            continue;
+        }
+        if let [kind::EQUIVOCATING, ref after @ ..] = *rest {
+            let (answer, vaults) = ledger.equivocating();
+            lines.put(answer);
+            lines.list(vaults);
             rest = after;
             continue;
         }
@@ -70,6 +78,9 @@ fn step<'a>(ledger: &mut Ledger<'a>, rest: &'a [u8]) -> Option<(Answer, &'a [u8]
         [kind::SNAPSHOT, ref rest @ ..] => (ledger.snapshot(), rest),
         [kind::RELEASE, vault, job, rival, ref rest @ ..] => {
             (ledger.release(vault, job, rival), rest)
+        }
+        [kind::CLIENT_PREFLIGHT, vault, job, client, ref rest @ ..] => {
+            (ledger.client_preflight(vault, job, client), rest)
         }
         _ => return None,
     })

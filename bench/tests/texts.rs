@@ -70,8 +70,8 @@ fn files_are_as_large_as_meant() {
     let listed = fast_text(&file("dependencies").bytes);
     assert!(listed.lines().filter(|line| line.ends_with(" 0 4")).count() > 9_000);
     for refusal in 2..=REFUSALS as u8 {
-        // Its steps are those of document 01: no release, and no missing dependencies.
-        let expected = !matches!(refusal, 2 | 13 | 19 | 20 | 21);
+        // Its steps are those of document 01: no release, no missing dependencies, no client.
+        let expected = !matches!(refusal, 2 | 13 | 19..=23);
         assert_eq!(file("mixed").refused(refusal) > 0, expected, "{refusal}");
     }
 }

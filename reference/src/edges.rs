@@ -43,6 +43,12 @@ pub fn all() -> Vec<Edge> {
         edge("missing before any commit", unheld(), &UNHELD),
         missing_makers(),
         edge("makers in the way", in_the_way(), &IN_THE_WAY),
+        edge("a busy client", busy(), &busy_answers()),
+        edge("a client beside others", beside(), &BESIDE),
+        equivocating_once(),
+        equivocating_excused(),
+        equivocating_five(),
+        edge("nothing but questions", questions(), &[(0, 0); 65_527]),
         edge("a draw of 937.5", a_half(1), &[(0, 938)]),
         edge("a draw of 812.5", a_half(3), &[(0, 812)]),
         edge("a draw of 687.5", a_half(5), &[(0, 688)]),
@@ -399,6 +405,75 @@ const SUPERSEDED: [Answer; 30] = [
     (0, 0),
 ];
 
+/// Document 02, M-113. In M-105's run vault 2 signed jobs 2 and 3, which are rivals, and released 2 for job 1, which is certified: nobody is named. Vault 3
+/// signed 1, and then 2 as well: no job outside that pair is certified, so it is named.
+fn equivocating_once() -> Edge {
+    let mut file = superseded();
+    let asked = [equivocating(), faulty_signature(3, 2), equivocating()];
+    file.extend(asked.iter().flat_map(|step| step.encode()));
+    let mut text = edge("", Vec::new(), &SUPERSEDED).text;
+    text += "31 0 0\n32 0 2\n33 0 1\n3\n";
+    Edge {
+        name: "a vault that signs the winner and the loser",
+        file,
+        text,
+    }
+}
+
+/// The same jobs. Job 1, which is a rival of 2 alone, is certified by 0, 1 and 2, and vault 3 signs only 2 and 3.
+fn equivocating_excused() -> Edge {
+    let (a, b) = ((b"VAA001L7", 1000), (b"VAA002L7", 500));
+    let mut steps = vec![
+        equivocating(),
+        propose(record(0, 7, &[], &[a, b])),
+        propose(record(1, 7, &[a], &[(b"VAB001L7", 1000)])),
+        propose(record(1, 7, &[a, b], &[(b"VAB002L7", 1500)])),
+        propose(record(1, 7, &[b], &[(b"VAB003L7", 500)])),
+    ];
+    steps.extend((0..3).map(|vault| preflight(vault, 0)));
+    steps.extend((0..3).map(|vault| commit(vault, 0, 7)));
+    steps.extend([
+        faulty_signature(3, 2),
+        faulty_signature(3, 3),
+        equivocating(),
+    ]);
+    steps.extend((0..2).map(|vault| preflight(vault, 1)));
+    steps.push(equivocating());
+    steps.extend([preflight(2, 1), equivocating()]);
+    Edge {
+        name: "a vault that a certified rival excuses",
+        file: run_file(4, 1, 8, &steps),
+        text: "1 0 0\n2 0 0\n3 0 1\n4 0 2\n5 0 3\n6 0 1\n7 0 2\n8 0 3\n9 0 1\n10 0 2\n11 0 3\n12 0 1\n13 0 1\n14 0 1\n3\n15 0 1\n16 0 2\n17 0 1\n3\n18 0 3\n19 0 0\n"
+            .to_string(),
+    }
+}
+
+/// Five of 16 vaults sign two accessions of one label.
+fn equivocating_five() -> Edge {
+    let mut steps = vec![
+        propose(record(0, 7, &[], &[(b"VAA001L7", 1)])),
+        propose(record(0, 7, &[], &[(b"VAA001L7", 2)])),
+    ];
+    let mut text = "1 0 0\n2 0 1\n".to_string();
+    for (i, vault) in [15, 9, 10, 0, 1].into_iter().enumerate() {
+        steps.extend([faulty_signature(vault, 0), faulty_signature(vault, 1)]);
+        let (step, signed) = (2 * i + 3, i + 1);
+        text += &format!("{step} 0 {signed}\n{} 0 {signed}\n", step + 1);
+    }
+    steps.extend([equivocating(), show(0)]);
+    text += "13 0 5\n0\n1\n9\n10\n15\n14 0 0\n";
+    Edge {
+        name: "five of 16 vaults named",
+        file: run_file(16, 5, 0x8603, &steps),
+        text,
+    }
+}
+
+/// As many steps as a file can have.
+fn questions() -> Vec<u8> {
+    run_file(4, 1, 8, &vec![equivocating(); 65_527])
+}
+
 /// Two accessions that share a label: the one that lost frees its other.
 fn remade() -> Vec<u8> {
     let steps = [
@@ -590,6 +665,97 @@ const IN_THE_WAY: [Answer; 21] = [
     (0, 0),
     // Held, and not signed.
     (21, 0),
+];
+
+/// Six accessions of one tape each, booked at one vault that is correct.
+fn six_accessions() -> Vec<Step> {
+    let labels: [&[u8; 8]; 6] = [
+        b"VAA000L7",
+        b"VAA001L7",
+        b"VAA002L7",
+        b"VAA003L7",
+        b"VAA004L7",
+        b"VAA005L7",
+    ];
+    let one = |label| propose(record(0, 7, &[], &[(label, 1)]));
+    labels.into_iter().map(one).collect()
+}
+
+const SIX_BOOKED: [Answer; 6] = [(0, 0), (0, 1), (0, 2), (0, 3), (0, 4), (0, 5)];
+
+/// Document 02, M-109: client 0 gets jobs 0 to 3, and job 4 only after twelve refusals; then job 5 at once, since two of the first four are past.
+fn busy() -> Vec<u8> {
+    let mut steps = six_accessions();
+    steps.extend((0..4).map(|job| client_preflight(0, job, 0)));
+    steps.extend(vec![client_preflight(0, 4, 0); 13]);
+    steps.push(client_preflight(0, 5, 0));
+    run_file(1, 0, 0, &steps)
+}
+
+fn busy_answers() -> Vec<Answer> {
+    let mut answers = SIX_BOOKED.to_vec();
+    answers.extend([(0, 1); 4]);
+    answers.extend([(23, 0); 12]);
+    answers.extend([(0, 1); 2]);
+    answers
+}
+
+/// Client 0 is over its quota: client 1 is not, a signed job is accepted, client 8 is none, and a preflight of kind 2 has no quota. Each request of client
+/// 0 counts, also those of a signed job; those that name no booked job, no such vault or no client do not, so the thirteenth is accepted.
+fn beside() -> Vec<u8> {
+    let mut steps = six_accessions();
+    steps.extend((0..4).map(|job| client_preflight(0, job, 0)));
+    steps.extend([
+        client_preflight(0, 4, 0),
+        client_preflight(0, 4, 1),
+        client_preflight(0, 4, 0),
+        client_preflight(0, 3, 0),
+        client_preflight(0, 5, 8),
+        client_preflight(0, 200, 8),
+        client_preflight(0, 200, 0),
+        client_preflight(1, 5, 0),
+        client_preflight(0, 5, 0),
+        preflight(0, 5),
+        client_preflight(0, 5, 0),
+        propose(record(0, 7, &[], &[(b"VAA006L7", 1)])),
+    ]);
+    steps.extend(vec![client_preflight(0, 6, 0); 8]);
+    run_file(1, 0, 0, &steps)
+}
+
+const BESIDE: [Answer; 30] = [
+    (0, 0),
+    (0, 1),
+    (0, 2),
+    (0, 3),
+    (0, 4),
+    (0, 5),
+    (0, 1),
+    (0, 1),
+    (0, 1),
+    (0, 1),
+    (23, 0),
+    (0, 1),
+    // Signed meanwhile, so accepted.
+    (0, 1),
+    (0, 1),
+    (22, 0),
+    (4, 0),
+    (4, 0),
+    (3, 0),
+    (23, 0),
+    (0, 1),
+    (0, 1),
+    (0, 6),
+    // Five counted since the fourth signature: seven more are turned back.
+    (23, 0),
+    (23, 0),
+    (23, 0),
+    (23, 0),
+    (23, 0),
+    (23, 0),
+    (23, 0),
+    (0, 1),
 ];
 
 /// One of 16 vaults is away: of 16 quorums 16 − b want it. No other draw is an exact half.

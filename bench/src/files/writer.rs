@@ -100,6 +100,10 @@ impl Run {
         self.step(intended, write::dependencies(vault, job));
     }
 
+    pub fn equivocating(&mut self, intended: u8) {
+        self.step(intended, write::equivocating());
+    }
+
     /// Preflights at the vaults.
     pub fn preflights(&mut self, vaults: Range<u8>, job: u8, intended: u8) {
         for vault in vaults {

@@ -16,8 +16,8 @@ use outcome::Verdict;
 use sets::JobSet;
 use vaults::Vault;
 
-// The value is how many jobs are listed.
-fn list(jobs: JobSet) -> Listing
+// The value is how many are listed.
+pub fn list(jobs: JobSet) -> Listing
     ensures { λ r. ⌜ r ≡ listing jobs ⌝ }
 {
     Listing {

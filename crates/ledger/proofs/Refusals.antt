@@ -17,6 +17,7 @@ use Rattle.outcome.specs.declared.Refusal.the-variants.{
   Full,
   InputReserved,
   Malformed,
+  NoClient,
   NoSetWorks,
   NoVault,
   NotBooked,
@@ -26,6 +27,7 @@ use Rattle.outcome.specs.declared.Refusal.the-variants.{
   NotSignedHere,
   NotSuperseded,
   OutputReserved,
+  OverQuota,
   Repeated,
   Retired,
   TooFewSigners,
@@ -39,6 +41,7 @@ use Rattle.checks.specs.Checks.{balanced, checkOf, examined, repeatedAt, unsupp
 use Rattle.codec.specs.Codec.{jobOf, recordSize}
 use Rattle.checks.specs.Meaning.{repeated, unsupported}
 use Rattle.record.specs.declared.Job.{Job}
+use Rattle.quota.specs.Quota.{isClient, isSpent}
 use Rattle.sets.specs.Bits.{hasBit, subsetOf, withMember}
 use Rattle.sets.specs.Jobs.{jobCount, jobHas, noJobs}
 use Rattle.sets.specs.declared.job_set.JobSet.{JobSet}
@@ -46,16 +49,19 @@ use Rattle.index.specs.Admission.{admission, consumedAt, notCreatedAt, remadeAt
 use Rattle.index.specs.Missing.{missingJobs}
 use Rattle.federation.specs.Federation.{thresholdOf}
 use Rattle.federation.specs.declared.Settings.{Settings}
-use Rattle.journal.specs.Journal.{isBooked, jobAt}
+use Rattle.journal.specs.Journal.{isBooked, isWhole, jobAt}
 use Rattle.ledger.specs.Meaning.{missing, remade, reserved}
 use Rattle.ledger.specs.State.{isSane, versionOf}
 use Rattle.ledger.specs.Decisions.{
   admissionAt,
   ageing,
   certificate,
+  clientPreflighting,
   committing,
   consent,
   consenting,
+  countedConsent,
+  counting,
   gated,
   gatedListing,
   ifAdmitted,
@@ -72,12 +78,16 @@ use Rattle.ledger.specs.Decisions.{
   supplying,
   supersededAt,
   supersession,
+  withinQuota,
 }
 use Rattle.ledger.specs.Steps.{
   bookedGate,
+  clientPreflightDecision,
   commitDecision,
   dependenciesDecision,
   dependenciesOf,
+  equivocatorsDecision,
+  equivocatorsOf,
   faultyVoteDecision,
   gateOf,
   generationsDecision,
@@ -88,9 +98,11 @@ use Rattle.ledger.specs.Steps.{
   showDecision,
   snapshotDecision,
   vaultGate,
+  wholeGate,
 }
 use Rattle.vaults.specs.Vaults.{consented, vaultPreflight}
-use Rattle.ledger.specs.Worlds.{Request, commit, dependencies, faultyVote, generations, preflight, propose, release, show, snapshot, stepOf}
+use Rattle.ledger.specs.Worlds.{Request, clientPreflight, commit, dependencies, equivocating, faultyVote, generations, preflight, propose, release}
+use Rattle.ledger.specs.Worlds.{show, snapshot, stepOf}
 use Rattle.vaults.specs.declared.Consent.the-variants.{Already}
 use Rattle.ledger.specs.declared.Decision.{Decision}
 use Rattle.ledger.specs.declared.Ledger.{Ledger}
@@ -178,6 +190,10 @@ supersedes state version journal booked job rival =
     (fails NotSignedHere refl))
     (fails NotBooked refl)
 
+within : (history : ℕ) (admission : Verdict) → NotOne admission → NotOne (withinQuota history admission)
+unfolding withinQuota
+within history admission n = choose (isSpent history) _ _ (fails OverQuota refl) n
+
 module _ (l : Ledger) (journal : List ℕ) (sane : isSane l ≡ true) where
   booked-or : (k : ℕ) → NotOne (cond (isBooked (versionOf l) journal (l .booked) k) Pass (Fail NotBooked))
   booked-or k = choose (isBooked (versionOf l) journal (l .booked) k) _ _ pass (fails NotBooked refl)
@@ -193,6 +209,10 @@ module _ (l : Ledger) (journal : List ℕ) (sane : isSane l ≡ true) where
       (choose (ltb v (l .settings .n)) _ _
       (choose (Bool·beq (hasBit (l .settings .faulty) v) faulty) _ _ (booked-or k) (fails WrongVault refl))
       (fails NoVault refl))
+
+  whole-gate : NotOne (wholeGate l journal)
+  unfolding wholeGate
+  whole-gate = rw sane (choose (isWhole (versionOf l) journal (l .booked)) _ _ pass (fails NotBooked refl))
 
   sane-gate : NotOne (saneGate l)
   unfolding saneGate
@@ -210,6 +230,18 @@ module _ (l : Ledger) (journal : List ℕ) (sane : isSane l ≡ true) where
       by : (b : Bool) (d : Verdict) → NotOne d
           → let answer : Signing = cond b (record { consent = Already; vault = state }) (consented d state k) in
           Fine (consenting (answer .consent) (answer .vault) signers v .outcome)
+      by true d n = done (ones signers)
+      by false Pass n = done (ones (withMember 16 signers v))
+      by false (Fail why) n = refuses why n
+
+  consents-counted : (state : Vault) (d : Verdict) (client history signers v k : ℕ) → NotOne d
+      → Fine (countedConsent state d client history signers v k .outcome)
+  unfolding countedConsent vaultPreflight
+  consents-counted state d client history signers v k n = by (jobHas (state .signed) k) (withinQuota history d) (within history d n)
+    where
+      by : (b : Bool) (d : Verdict) → NotOne d
+          → let answer : Signing = cond b (record { consent = Already; vault = state }) (consented d state k) in
+          Fine (counting (answer .consent) (answer .vault) client history signers v .outcome)
       by true d n = done (ones signers)
       by false Pass n = done (ones (withMember 16 signers v))
       by false (Fail why) n = refuses why n
@@ -242,7 +274,7 @@ module _ (l : Ledger) (journal : List ℕ) (sane : isSane l ≡ true) where
   fine : (q : Request) → Fine (stepOf l journal q .outcome)
   unfolding proposeDecision proposal settling preflightDecision preflighting admissionAt commitDecision committing faultyVoteDecision showDecision
       generationsDecision snapshotDecision snapshotting releaseDecision releasing
-      dependenciesDecision dependenciesOf
+      dependenciesDecision dependenciesOf clientPreflightDecision clientPreflighting equivocatorsDecision equivocatorsOf
   fine (propose bytes) = behind (saneGate l) _ sane-gate (behind (examined (versionOf l) bytes) _ (examines (versionOf l) bytes) (places _ _ _ _))
   fine (preflight v k) = behind (vaultGate l journal v k false) _ (vault-gate v k false) (consents _ _ _ _ _ (admits _ _ _ _ _))
   fine (commit v k signers) =
@@ -254,6 +286,10 @@ module _ (l : Ledger) (journal : List ℕ) (sane : isSane l ≡ true) where
   fine (release v k rival) =
       behind (vaultGate l journal v k false) _ (vault-gate v k false) (behind (supersession _ _ _ _ _ _) _ (supersedes _ _ _ _ _ _) (done _))
   fine (dependencies v k) = listed (vaultGate l journal v k false) _ (vault-gate v k false) (requires _ _ _)
+  fine (clientPreflight v k client) =
+      behind (vaultGate l journal v k false) _ (vault-gate v k false)
+      (either (isClient client) _ _ (consents-counted _ _ _ _ _ _ _ (admits _ _ _ _ _)) (refuses NoClient (fails NoClient refl)))
+  fine equivocating = listed (wholeGate l journal) _ whole-gate (done _)
 
   -- whatever the request
   pub never-one : (q : Request) → numberOf (stepOf l journal q .outcome) ≡ 1 → ⊥

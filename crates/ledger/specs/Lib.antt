@@ -2,6 +2,8 @@ pub mod Decisions
 pub mod Demand2
 pub mod Demand3
 pub mod Dependencies
+pub mod Equivocation
+pub mod Equivocators
 pub mod Freed
 pub mod Given
 pub mod Graph
@@ -9,7 +11,9 @@ pub mod Growth
 pub mod Holders
 pub mod Independence
 pub mod Meaning
+pub mod Quota
 pub mod Ready
+pub mod Refused
 pub mod Register
 pub mod Rounds
 pub mod State

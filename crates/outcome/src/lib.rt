@@ -46,6 +46,10 @@ pub enum Refusal {
     NotSuperseded,
     // 21: no set of jobs that correct vaults hold would let the vault sign
     NoSetWorks,
+    // 22: no client has this number
+    NoClient,
+    // 23: four of the client's previous fifteen requests here brought a new signature
+    OverQuota,
     // 24: an entry's lowest count exceeds its highest
     Reversed(u8),
     // 25: no choice of counts within their ranges balances
@@ -95,6 +99,8 @@ impl Refusal {
             Refusal::NotSignedHere => Figures(19, 0),
             Refusal::NotSuperseded => Figures(20, 0),
             Refusal::NoSetWorks => Figures(21, 0),
+            Refusal::NoClient => Figures(22, 0),
+            Refusal::OverQuota => Figures(23, 0),
             Refusal::Reversed(entry) => Figures(24, entry),
             Refusal::NoneBalances => Figures(25, 0),
             Refusal::NoContest => Figures(26, 0),

@@ -4,9 +4,9 @@ use mathlib.Core.Bool.{Bool, false, true, true≢false}
 use mathlib.Core.List.{List}
 use mathlib.Core.Logic.{_⊎_, inl, inr, ⊎-elim}
 use mathlib.Core.Path.{_∙_, _≡_, ap, refl, subst, sym}
-use Prim.Native.Nat.{_*_, _+_, _-_, _<_, _≤_, ℕ}
+use Prim.Native.Nat.{_%_, _*_, _+_, _-_, _<_, _≤_, ℕ}
 use native.Mathlib.Omega.{arith}
-use lib.ListN.{length}
+use lib.ListN.{getD, length}
 use Rattle.index.specs.Index.{Indexed, IndexedEntries}
 use Rattle.generations.specs.Memo.{Ready}
 use Rattle.ledger.proofs.Writes.{unwritten}
@@ -15,10 +15,11 @@ use Rattle.ledger.specs.Given.{Placed, Writable}
 use Rattle.ledger.specs.State.{applied, versionOf}
 use Rattle.ledger.specs.Steps.{journalWith}
 use Rattle.ledger.specs.declared.Change.{Change}
-use Rattle.ledger.specs.declared.Change.the-variants.{Book, Hold, Nothing, Record, Release, See, Sign}
+use Rattle.ledger.specs.declared.Change.the-variants.{Book, Count, Grant, Hold, Nothing, Record, Release, See, Sign}
 use Rattle.ledger.specs.declared.Decision.{Decision}
 use Rattle.ledger.specs.declared.Ledger.{Ledger}
 use Rattle.ledger.specs.declared.Listing.{Listing}
+use Rattle.vaults.specs.Votes.{noVotes}
 use Rattle.vaults.specs.declared.Vault.{Vault}
 use Rattle.runfile.proofs.Turns.{step-last, step-text}
 use Rattle.runfile.specs.Run.{headerSize, lastFrom, longest, textFrom, turn}
@@ -27,6 +28,9 @@ use Rattle.runfile.specs.declared.Kind.{Kind}
 use Rattle.runfile.specs.declared.Kind.the-variants.{Propose}
 use Rattle.steps.proofs.Quiet.{Bookless, books, writable}
 use Rattle.steps.specs.Decided.{alone, surveyed}
+use Rattle.steps.specs.Kept.{Found, Still}
+use Rattle.steps.specs.declared.Remembered.{Remembered}
+use Rattle.run.proofs.Naming.{Holds, nothing-known, still-right}
 use Rattle.reading.specs.Reading.{Asked, Read, isWide, jobOf, vaultOf}
 use Rattle.steps.specs.Stored.{Stored}
 use Rattle.steps.specs.Turned.{CarriedOut, Said, Surveyed, decisionAt, recordIn}
@@ -62,6 +66,8 @@ is-nothing (Hold state) e = cc
 is-nothing (Release state) e = cc
 is-nothing (Record column) e = cc
 is-nothing (See seen) e = cc
+is-nothing (Count history) e = cc
+is-nothing (Grant grant) e = cc
 
 -- nothing changed
 same-ledger : (l : Ledger) (c : Change) (v job : ℕ) → c ≡ Nothing → l ≡ applied l c v job
@@ -81,7 +87,7 @@ module _ {input : List ℕ} {l₀ : Ledger} {pos₀ count₀ : ℕ} {journal₀ 
   decision = commandDecision l journal command
 
   abbrev view : View
-  view = viewAt l (s .vault) (s .job)
+  view = viewAt l (s .vault) (s .job) (s .place)
 
   -- where the loop goes on
   abbrev Next : Ledger → (memo journal numbers sets records out : List ℕ) → ℕ → Type 0
@@ -127,14 +133,16 @@ module _ {input : List ℕ} {l₀ : Ledger} {pos₀ count₀ : ℕ} {journal₀ 
       }
 
   -- ---- a step that looks at all vaults
-  pub turn-wide : (memo′ out′ : List ℕ) (at′ : ℕ) → s .wide ≡ true → Surveyed (booksOf l) s at (l .order) journal out memo′ out′ at′
+  pub turn-wide : (named : Remembered) → Found (l .settings) (l .votes) journal (l .booked) (s .kind) named → (memo′ out′ : List ℕ) (at′ : ℕ) → s .wide ≡ true
+      → Surveyed (booksOf l (named .vaults)) s at (l .order) journal out memo′ out′ at′
       → at + longestText ≤ length out → length out′ ≡ length out → Next l memo′ journal numbers sets records out′ at′
-  turn-wide memo′ out′ at′ y a room same =
+  turn-wide named h memo′ out′ at′ y a room same =
       let w : isWide (s .kind) ≡ true = sym (r .wide-is) ∙ y in
       let n : decision .change ≡ Nothing = wide-quiet l (t .kept .sane) journal input (s .at) (s .kind) w in
       let quiet : isBook (decision .change) ≡ false = ap isBook n in
-      let answered : surveyed (booksOf l) (l .order) journal (s .kind) (s .vault) (s .job) ≡ answer l (t .kept .sane) journal input (s .at) (s .kind) =
-      rw (r .asked .vault-is, r .asked .job-is) (wide-answer l (t .kept .sane) journal input (s .at) (s .kind) w) in
+      let answered : surveyed (booksOf l (named .vaults)) (l .order) journal (s .kind) (s .vault) (s .job)
+      ≡ answer l (t .kept .sane) journal input (s .at) (s .kind) =
+      rw (r .asked .vault-is, r .asked .job-is) (wide-answer l (t .kept .sane) journal input (s .at) (s .kind) w named h) in
       on _ l memo′ journal numbers sets records out′ at′
       (ap (λ (x : Listing). x .outcome) answered)
       (ap (λ (x : Listing). x .members) answered)
@@ -151,7 +159,7 @@ module _ {input : List ℕ} {l₀ : Ledger} {pos₀ count₀ : ℕ} {journal₀ 
 
     found-is : found ≡ decision
     found-is =
-        rw (r .asked .vault-is, r .asked .job-is)
+        rw (r .asked .vault-is, r .asked .job-is, r .asked .place-is)
         (decided-is l (t .kept .sane) journal input (s .at) (s .kind) (sym (r .wide-is) ∙ narrow))
 
     change-is : told .change ≡ decision .change
@@ -189,6 +197,13 @@ module _ {input : List ℕ} {l₀ : Ledger} {pos₀ count₀ : ℕ} {journal₀ 
         let held : (state : Vault) → told .change ≡ Hold state → s .job < l .booked = λ state h. absurd (true≢false (sym (ap isNothing n) ∙ ap isNothing h)) in
         follows l still (subst (λ (x : Ledger). Kept x journal′ numbers′ sets′ records′ memo) (sym still) (kept-so held)) room same
 
+    pub quiet-holds : (b : Bool) → b ≡ isNothing (told .change) → b ≡ true → (kept : Remembered) → Holds l journal kept → Holds l journal′ kept
+    quiet-holds b e y kept h =
+        let n : told .change ≡ Nothing = is-nothing (told .change) (sym e ∙ y) in
+        let same : journal ≡ journal′ =
+        same-journal (told .change) (l .booked) (versionOf l) journal (recordIn (versionOf l) input s) n ∙ sym (c .stored .written) in
+        subst (λ (x : List ℕ). Holds l x kept) same h
+
     -- one that changes something
     module _ (b : Bool) (e : b ≡ isNothing (told .change)) (y : b ≡ false) where
       named : There l (t .kept .sane) journal input (s .at) (vaultOf command) (jobOf command) decision
@@ -203,6 +218,13 @@ module _ {input : List ℕ} {l₀ : Ledger} {pos₀ count₀ : ℕ} {journal₀ 
           let held : (state : Vault) → told .change ≡ Hold state → s .job < l .booked =
           λ state h. rw (r .asked .job-is) (named .below state (sym change-is ∙ h)) in
           follows l′ a (rw a (kept-so held)) room same
+
+      pub loud-holds : (l′ : Ledger) → l′ ≡ applied l (told .change) (s .vault) (s .job) → (kept r : Remembered) → Holds l journal kept
+          → Still kept (l .booked) (getD (l .votes) (s .job % 128) noVotes .signatures) (l′ .booked) (getD (l′ .votes) (s .job % 128) noVotes .signatures) r
+          → Holds l′ journal′ r
+      loud-holds l′ a kept r h still =
+          rw (a, c .stored .written)
+          (still-right l (told .change) (s .vault) (s .job) journal (recordIn (versionOf l) input s) kept r (loud-placed .job) h (rw a at still))
 
 -- ---- at the loop's head
 pub started : {input : List ℕ} {p : Progress} {memo journal numbers sets records : List ℕ} (out : List ℕ) → Going input p journal numbers sets records memo
@@ -266,6 +288,7 @@ reads-on r = omega (arith, r .onward, r .inside)
 
 pub ruleset turning = (
   started,
+  nothing-known,
   few-vaults,
   to-survey,
   to-look-up,

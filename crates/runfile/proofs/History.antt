@@ -24,7 +24,8 @@ use Rattle.ledger.specs.Meaning.{Proposed, failed, full, insane, known, new}
 use Rattle.ledger.specs.Register.{feedAll, log, newRegister}
 use Rattle.ledger.specs.State.{newLedger, versionOf}
 use Rattle.ledger.specs.Steps.{journalAfter, journalWith, proposeDecision}
-use Rattle.ledger.specs.Worlds.{Request, commit, dependencies, faultyVote, generations, preflight, propose, release, show, snapshot}
+use Rattle.ledger.specs.Worlds.{Request, clientPreflight, commit, dependencies, equivocating, faultyVote, generations, preflight, propose, release, show}
+use Rattle.ledger.specs.Worlds.{snapshot}
 use Rattle.ledger.specs.Worlds.{World, after as afterEvent, afterAll, leftBy, lend, lent, overlay, start, stepOf}
 use Rattle.ledger.specs.declared.Decision.{Decision}
 use Rattle.ledger.specs.declared.Ledger.{Ledger}
@@ -54,6 +55,8 @@ left-length l journal (generations k) = refl
 left-length l journal snapshot = refl
 left-length l journal (release v job rival) = refl
 left-length l journal (dependencies v job) = refl
+left-length l journal (clientPreflight v job client) = refl
+left-length l journal equivocating = refl
 
 -- ---- what is lent, and what is booked afterwards
 lent-whole : (m : ℕ) (journal : List ℕ) → lend (take m journal) (length journal) (drop m journal) ≡ journal

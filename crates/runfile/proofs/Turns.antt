@@ -20,9 +20,11 @@ use Rattle.runfile.specs.Run.{runText, textFrom, textNext, textOf, textU
 use Rattle.runfile.specs.Steps.{endOf, kindAt, listedBy, replyOf}
 use Rattle.runfile.specs.declared.Kind.{Kind}
 use Rattle.runfile.specs.declared.Kind.the-variants.{
+  ClientPreflight,
   Commit,
   Dependencies,
   Draw,
+  Equivocating,
   FaultyAcknowledge,
   FaultySign,
   Generations,
@@ -93,6 +95,8 @@ reads-on version Generations pos size n h = omega arith
 reads-on version Snapshot pos size n h = omega arith
 reads-on version Release pos size n h = omega arith
 reads-on version Dependencies pos size n h = omega arith
+reads-on version ClientPreflight pos size n h = omega arith
+reads-on version Equivocating pos size n h = omega arith
 reads-on version Unknown pos size n h = omega arith
 
 pub runs-out : (n : ℕ) (input : List ℕ) (r : Run) → length input ≤ r .pos + n → ended input (runNext n input r) ≡ true

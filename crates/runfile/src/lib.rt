@@ -14,5 +14,7 @@ pub enum Kind {
     Snapshot,
     Release,
     Dependencies,
+    ClientPreflight,
+    Equivocating,
     Unknown,
 }

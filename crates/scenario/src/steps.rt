@@ -1,6 +1,6 @@
 // Each kind of step, carried out and printed. Jobs are proposed as version 1 records.
 ghost use mathlib.Core.Path.{_≡_};
-ghost use Rattle.ledger.specs.Steps.{commitOf, faultyVoteOf, journalAfter, preflightOf, proposeOf, releaseOf};
+ghost use Rattle.ledger.specs.Steps.{clientPreflightOf, commitOf, faultyVoteOf, journalAfter, preflightOf, proposeOf, releaseOf};
 ghost use Rattle.vaults.specs.declared.Column.the-variants.{Acknowledgements, Signatures};
 ghost use Rattle.codec.specs.Codec.{written};
 ghost use lib.ListN.{replicate};
@@ -102,6 +102,25 @@ pub fn dependencies(l: Ledger, journal: &[u8], vault: u8, job: u8) {
     let listing = operations::dependencies(l, journal, vault, job);
     let outcome = listing.outcome;
     line(b"", outcome);
+    listed(listing.members);
+}
+
+pub fn client_preflight(l: Ledger, journal: &[u8], vault: u8, job: u8, client: u8) -> Ledger
+    ensures { λ r. ⌜ r ≡ clientPreflightOf l (now (journal .entry)) vault job client .ledger ⌝ }
+{
+    named(b"client-preflight", vault, job);
+    argument(client as u64);
+    report(
+        b"",
+        operations::client_preflight(l, journal, vault, job, client),
+    )
+}
+
+// Its line, and the vaults that it lists.
+pub fn equivocating(l: Ledger, journal: &[u8]) {
+    let listing = operations::equivocating(l, journal);
+    let outcome = listing.outcome;
+    line(b"equivocating", outcome);
     listed(listing.members);
 }
 

@@ -1,7 +1,7 @@
 -- Sets of jobs in two words: job j is bit j of the low word, or bit j - 64 of the high one. No job of 128 or more is a
 -- member of any set.
-use mathlib.Core.Bool.{Bool, false, cond, not, _||_}
-use Prim.Native.Nat.{ℕ, zero, suc, _+_, _-_, _^_, _<_}
+use mathlib.Core.Bool.{Bool, _&&_, _||_, cond, false, not}
+use Prim.Native.Nat.{_+_, _-_, _<_, _^_, suc, zero, ℕ}
 use lib.Dec.{eqb, ltb}
 use lib.Bits.{bitAnd, bitOr}
 use lib.Count.{ones}
@@ -11,6 +11,10 @@ use Rattle.sets.specs.declared.job_set.JobSet.{JobSet}
 -- the set with no member
 unfoldable pub noJobs : JobSet
 noJobs = record { low = 0; high = 0 }
+
+-- the set has no member
+unfoldable pub isEmpty : JobSet → Bool
+isEmpty s = eqb (s .low) 0 && eqb (s .high) 0
 
 -- the job is a member
 unfoldable pub jobHas : JobSet → ℕ → Bool

@@ -1,5 +1,5 @@
 -- Each arm of the decision is its command's: the vault and the job that were read are those that the command names.
-use mathlib.Core.Bool.{Bool, Bool·beq, false, true}
+use mathlib.Core.Bool.{Bool, Bool·beq, false, true, true≢false}
 use mathlib.Core.List.{List}
 use mathlib.Core.Path.{_∙_, _≡_, ap, refl, subst, sym}
 use Prim.Native.Nat.{_%_, _+_, _≤_, ℕ}
@@ -13,21 +13,22 @@ use Rattle.outcome.specs.declared.Refusal.the-variants.{NoVault, NotBooked, Wro
 use Rattle.outcome.specs.declared.Verdict.{Verdict}
 use Rattle.outcome.specs.declared.Verdict.the-variants.{Pass}
 use Rattle.sets.specs.Bits.{hasBit}
+use Rattle.sets.specs.declared.job_set.JobSet.{JobSet}
 use Rattle.codec.proofs.Sizes.{place-whole}
 use Rattle.codec.specs.Codec.{recordSize}
 use Rattle.journal.proofs.Booked.{reflect-booked}
-use Rattle.journal.specs.Journal.{capacity, insideOf, isBooked, jobAt}
+use Rattle.journal.specs.Journal.{capacity, insideOf, isBooked, isWhole, jobAt}
 use Rattle.generations.specs.Memo.{Memo}
 use Rattle.index.proofs.Tables.{records-part}
 use Rattle.index.specs.Index.{Indexed, IndexedRecords}
 use Rattle.ledger.proofs.Gates.{passed-rest, passed-test}
-use Rattle.ledger.specs.Decisions.{committing, gated, gatedListing, proposal, releasing, requiring}
+use Rattle.ledger.specs.Decisions.{clientPreflighting, committing, gated, gatedListing, listing, proposal, releasing, requiring, unlisted}
 use Rattle.ledger.specs.Given.{Aged, Known, Searchable}
 use Rattle.ledger.specs.Holders.{heldSomewhere}
 use Rattle.ledger.specs.Steps.{gateOf}
 use Rattle.vaults.specs.declared.Column.the-variants.{Acknowledgements, Signatures}
 use Rattle.vaults.specs.declared.Votes.{Votes}
-use Rattle.ledger.specs.Worlds.{commit, dependencies, faultyVote, generations, preflight, propose, release, show, snapshot}
+use Rattle.ledger.specs.Worlds.{clientPreflight, commit, dependencies, equivocating, faultyVote, generations, preflight, propose, release, show, snapshot}
 use Rattle.ledger.specs.declared.Change.the-variants.{Nothing}
 use Rattle.ledger.specs.declared.Decision.{Decision}
 use Rattle.ledger.specs.declared.Listing.{Listing}
@@ -35,9 +36,11 @@ use Rattle.vaults.specs.Vaults.{newVault}
 use Rattle.vaults.specs.declared.Vault.{Vault}
 use Rattle.runfile.specs.Steps.{Command, commandIn, draw, request, unreadable, wordAt}
 use Rattle.runfile.specs.declared.Kind.{Kind}
-use Rattle.runfile.specs.declared.Kind.the-variants.{Commit, Dependencies, Draw, FaultyAcknowledge, FaultySign, Generations, Preflight, Propose}
-use Rattle.runfile.specs.declared.Kind.the-variants.{Release, Show, Snapshot, Unknown}
-use Rattle.steps.specs.Decided.{Answered, aged, alone, bookedOr, decidedBy, gateBy, isListing, required, surveyed}
+use Rattle.runfile.specs.declared.Kind.the-variants.{ClientPreflight, Commit, Dependencies, Draw, Equivocating, FaultyAcknowledge, FaultySign, Generations}
+use Rattle.runfile.specs.declared.Kind.the-variants.{Preflight, Propose, Release, Show, Snapshot, Unknown}
+use Rattle.steps.specs.Decided.{Answered, aged, alone, bookedOr, decidedBy, gateBy, isListing, isNaming, naming, required, surveyed}
+use Rattle.steps.specs.Kept.{Found, Right, Still, namedBy, unknownYet}
+use Rattle.steps.specs.declared.Remembered.{Remembered}
 use Rattle.reading.specs.Reading.{Asked, jobOf, vaultOf}
 use Rattle.steps.specs.declared.Books.{Books}
 use Rattle.reading.specs.declared.Step.{Step}
@@ -78,6 +81,8 @@ again version Generations v job input at = request (generations job)
 again version Snapshot v job input at = request snapshot
 again version Release v job input at = request (release v job (getD input (at + 2) 0))
 again version Dependencies v job input at = request (dependencies v job)
+again version ClientPreflight v job input at = request (clientPreflight v job (getD input (at + 2) 0))
+again version Equivocating v job input at = request equivocating
 again version Unknown v job input at = unreadable
 
 module _ (version : ℕ) (input : List ℕ) (at : ℕ) where
@@ -94,6 +99,8 @@ module _ (version : ℕ) (input : List ℕ) (at : ℕ) where
   same-command Snapshot = refl
   same-command Release = refl
   same-command Dependencies = refl
+  same-command ClientPreflight = refl
+  same-command Equivocating = refl
   same-command Unknown = refl
 
 module _ (w : View) (journal input : List ℕ) (s : Step) (a : Asked (w .settings .version) input s) where
@@ -130,10 +137,16 @@ pub with-rival : (g : Verdict) (state : Vault) (version : ℕ) (journal : List �
     → r ≡ gated g (releasing state version journal booked signers job x) → r ≡ gated g (releasing state version journal booked signers job y)
 with-rival g state version journal booked signers job x y r e h = rw e at h
 
+-- with the client that was read
+pub with-client : (g : Verdict) (state : Vault) (version : ℕ) (journal : List ℕ) (booked history signers v job x y : ℕ) (r : Decision) → x ≡ y
+    → r ≡ gated g (clientPreflighting state version journal booked x history signers v job)
+    → r ≡ gated g (clientPreflighting state version journal booked y history signers v job)
+with-client g state version journal booked history signers v job x y r e h = rw e at h
+
 pub drawn : (o o′ : Outcome) → o ≡ o′ → _≡_ {A = Decision} (record { outcome = o; change = Nothing }) (record { outcome = o′; change = Nothing })
 drawn o o′ e = rw e
 
-pub ruleset arms = (searched, known-behind, told, record-whole, regated, with-record, with-signers, with-rival, drawn)
+pub ruleset arms = (searched, known-behind, told, record-whole, regated, with-record, with-signers, with-rival, with-client, drawn)
 
 -- ---- generations
 module _ (a : Books) (order journal memo : List ℕ) (job : ℕ) (b : Bool) (e : b ≡ isBooked (a .settings .version) journal (a .booked) job) (r : Listing) where
@@ -158,14 +171,48 @@ pub required-so : (a : Books) (journal : List ℕ) (v job : ℕ) (g : Verdict) (
     → r ≡ required a journal v job
 required-so a journal v job g r e h = rw e at h
 
--- ---- one or the other
+-- ---- the vaults that equivocate
+module _ (a : Books) (journal : List ℕ) (b : Bool) (e : b ≡ isWhole (a .settings .version) journal (a .booked)) (r : Listing) where
+  pub named-so : b ≡ true → r ≡ listing (a .named) → r ≡ naming a journal
+  unfolding bookedOr
+  named-so t q = simp (sym e ∙ t) q
+
+  pub unnamed : b ≡ false → r ≡ unlisted NotBooked → r ≡ naming a journal
+  unfolding bookedOr
+  unnamed f q = simp (sym e ∙ f) q
+
+module _ (s : Settings) (votes : List Votes) (journal : List ℕ) (booked : ℕ) (kind : Kind) where
+  pub already-known : (kept : Remembered) → Right s votes journal booked kept → kept .known ≡ true → Found s votes journal booked kind kept
+  already-known kept h t = record { right = h; known = λ _. t }
+
+  pub known-now : (r : JobSet) → r ≡ namedBy s votes journal booked → Found s votes journal booked kind (record { known = true; vaults = r })
+  known-now r q = record { right = record { are = λ _. q }; known = λ _. refl }
+
+  pub not-asked : (kept : Remembered) (b : Bool) → b ≡ isNaming kind → b ≡ false → Right s votes journal booked kept → Found s votes journal booked kind kept
+  not-asked kept b e f h = record { right = h; known = λ t. absurd (true≢false (sym t ∙ (sym e ∙ f))) }
+
+module _ (kept : Remembered) (booked signatures booked′ signatures′ : ℕ) where
+  pub still-known : booked ≡ booked′ → signatures ≡ signatures′ → Still kept booked signatures booked′ signatures′ kept
+  still-known a b = record { same = λ _. (refl, a, b) }
+
+  pub not-known : (r : Remembered) → r ≡ unknownYet → Still kept booked signatures booked′ signatures′ r
+  not-known r e = record { same = λ t. absurd (true≢false (sym t ∙ ap (λ (x : Remembered). x .known) e)) }
+
+pub ruleset names = (named-so, unnamed, already-known, known-now, not-asked, still-known, not-known)
+
+-- ---- one of the three
 module _ (a : Books) (order journal memo : List ℕ) (kind : Kind) (v job : ℕ) (b : Bool) (e : b ≡ isListing kind) (r : Listing) where
   pub look-required : b ≡ true → r ≡ required a journal v job → Memo (jobAt (a .settings .version) journal (a .booked)) order (a .arrivals) memo
       → length memo ≡ capacity → Answered a order journal memo (surveyed a order journal kind v job) r
   look-required t q m z = record { told = q ∙ simp (sym e ∙ t); right = m; size = z }
 
-  pub look-aged : b ≡ false → Answered a order journal memo (alone (aged a order journal job .outcome)) r
-      → Answered a order journal memo (surveyed a order journal kind v job) r
-  look-aged f h = record { told = h .told ∙ simp (sym e ∙ f); right = h .right; size = h .size }
+  module _ (f : b ≡ false) (n : Bool) (d : n ≡ isNaming kind) where
+    pub look-named : n ≡ true → r ≡ naming a journal → Memo (jobAt (a .settings .version) journal (a .booked)) order (a .arrivals) memo
+        → length memo ≡ capacity → Answered a order journal memo (surveyed a order journal kind v job) r
+    look-named t q m z = record { told = q ∙ simp (sym e ∙ f, sym d ∙ t); right = m; size = z }
 
-pub ruleset looks = (look-required, look-aged)
+    pub look-aged : n ≡ false → Answered a order journal memo (alone (aged a order journal job .outcome)) r
+        → Answered a order journal memo (surveyed a order journal kind v job) r
+    look-aged g h = record { told = h .told ∙ simp (sym e ∙ f, sym d ∙ g); right = h .right; size = h .size }
+
+pub ruleset looks = (look-required, look-named, look-aged)

@@ -1,4 +1,4 @@
--- A command decided from what it looks at: the settings, how many records are booked, a vault, and the votes on a job.
+-- A command decided from what it looks at: the settings, how many records are booked, a vault, the votes on a job, and a client's history.
 use mathlib.Core.Bool.{Bool, cond, false, true}
 use mathlib.Core.List.{List}
 use mathlib.Core.Path.{_≡_}
@@ -10,24 +10,25 @@ use Rattle.outcome.specs.declared.Verdict.{Verdict}
 use Rattle.outcome.specs.declared.Verdict.the-variants.{Fail, Pass}
 use Rattle.sets.specs.Jobs.{noJobs}
 use Rattle.federation.specs.declared.Settings.{Settings}
-use Rattle.journal.specs.Journal.{capacity, isBooked, jobAt}
+use Rattle.journal.specs.Journal.{capacity, isBooked, isWhole, jobAt}
 use Rattle.generations.specs.Generations.{ageIn}
 use Rattle.generations.specs.Memo.{Memo}
 use Rattle.draw.specs.Draw.{drawOf}
-use Rattle.ledger.specs.Decisions.{ageing, answering, committing, gated, gatedListing, preflighting, proposal, refusing, releasing, requiring}
-use Rattle.ledger.specs.Decisions.{snapshotting, statusOf, voting}
+use Rattle.ledger.specs.Decisions.{ageing, answering, clientPreflighting, committing, gated, gatedListing, listing, preflighting, proposal, refusing}
+use Rattle.ledger.specs.Decisions.{releasing, requiring, snapshotting, statusOf, voting}
 use Rattle.ledger.specs.Holders.{heldSomewhere, isHeld}
 use Rattle.ledger.specs.Steps.{gateOf}
 use Rattle.vaults.specs.Vaults.{newVault}
 use Rattle.vaults.specs.Votes.{columnOf}
-use Rattle.ledger.specs.Worlds.{Request, commit, dependencies, faultyVote, generations, preflight, propose, release, show, snapshot}
+use Rattle.ledger.specs.Worlds.{Request, clientPreflight, commit, dependencies, equivocating, faultyVote, generations, preflight, propose, release, show}
+use Rattle.ledger.specs.Worlds.{snapshot}
 use Rattle.ledger.specs.declared.Change.the-variants.{Nothing, Record}
 use Rattle.ledger.specs.declared.Decision.{Decision}
 use Rattle.ledger.specs.declared.Listing.{Listing}
 use Rattle.runfile.specs.Steps.{Command, draw, request, unreadable}
 use Rattle.runfile.specs.declared.Kind.{Kind}
-use Rattle.runfile.specs.declared.Kind.the-variants.{Commit, Dependencies, Draw, FaultyAcknowledge, FaultySign, Generations, Preflight, Propose}
-use Rattle.runfile.specs.declared.Kind.the-variants.{Release, Show, Snapshot, Unknown}
+use Rattle.runfile.specs.declared.Kind.the-variants.{ClientPreflight, Commit, Dependencies, Draw, Equivocating, FaultyAcknowledge, FaultySign, Generations}
+use Rattle.runfile.specs.declared.Kind.the-variants.{Preflight, Propose, Release, Show, Snapshot, Unknown}
 use Rattle.steps.specs.declared.Books.{Books}
 use Rattle.steps.specs.declared.View.{View}
 
@@ -39,7 +40,7 @@ bookedOr booked = cond booked Pass (Fail NotBooked)
 abbrev pub gateBy : Settings → ℕ → List ℕ → ℕ → Bool → ℕ → Verdict
 gateBy s booked journal v faulty job = gateOf s v faulty (isBooked (s .version) journal booked job)
 
--- kinds 8 and 11 look at more, and are decided apart
+-- kinds 8, 11 and 13 look at more, and are decided apart
 abbrev pub requested : View → List ℕ → Request → Decision
 requested w journal (propose bytes) = proposal (w .settings .version) journal (w .booked) bytes
 requested w journal (preflight v job) =
@@ -57,6 +58,10 @@ requested w journal (release v job rival) =
     gated (gateBy (w .settings) (w .booked) journal v false job)
     (releasing (w .state) (w .settings .version) journal (w .booked) (w .votes .signatures) job rival)
 requested w journal (dependencies v job) = refusing NotHeld
+requested w journal (clientPreflight v job client) =
+    gated (gateBy (w .settings) (w .booked) journal v false job)
+    (clientPreflighting (w .state) (w .settings .version) journal (w .booked) client (w .history) (w .votes .signatures) v job)
+requested w journal equivocating = refusing NotHeld
 
 abbrev pub decidedBy : View → List ℕ → Command → Decision
 decidedBy w journal (request q) = requested w journal q
@@ -94,10 +99,34 @@ isListing Generations = false
 isListing Snapshot = false
 isListing Release = false
 isListing Dependencies = true
+isListing ClientPreflight = false
+isListing Equivocating = false
 isListing Unknown = false
 
+-- and the one that names vaults
+abbrev pub isNaming : Kind → Bool
+isNaming Propose = false
+isNaming Preflight = false
+isNaming Commit = false
+isNaming FaultySign = false
+isNaming FaultyAcknowledge = false
+isNaming Show = false
+isNaming Draw = false
+isNaming Generations = false
+isNaming Snapshot = false
+isNaming Release = false
+isNaming Dependencies = false
+isNaming ClientPreflight = false
+isNaming Equivocating = true
+isNaming Unknown = false
+
+-- kind 13
+abbrev pub naming : Books → List ℕ → Listing
+naming a journal = gatedListing (bookedOr (isWhole (a .settings .version) journal (a .booked))) (listing (a .named))
+
 abbrev pub surveyed : Books → List ℕ → List ℕ → Kind → ℕ → ℕ → Listing
-surveyed a order journal kind v job = cond (isListing kind) (required a journal v job) (alone (aged a order journal job .outcome))
+surveyed a order journal kind v job =
+    cond (isListing kind) (required a journal v job) (cond (isNaming kind) (naming a journal) (alone (aged a order journal job .outcome)))
 
 -- such an answer was found, and the memo stays right
 pub record Answered (a : Books) (order journal memo : List ℕ) (answer r : Listing) : Type 0 where

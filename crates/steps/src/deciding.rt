@@ -5,7 +5,8 @@ ghost use Rattle.index.specs.Index.{Indexed, IndexedEntries};
 ghost use Rattle.generations.specs.Memo.{Ready};
 ghost use Rattle.journal.specs.Journal.{isBooked};
 ghost use Rattle.runfile.specs.Steps.{commandIn};
-ghost use Rattle.steps.specs.Decided.{Answered, aged, alone, bookedOr, decidedBy, gateBy, isListing, required, surveyed};
+ghost use Rattle.steps.specs.Decided.{Answered, aged, alone, bookedOr, decidedBy, gateBy, isListing, isNaming};
+ghost use Rattle.steps.specs.Decided.{naming, required, surveyed};
 ghost use Rattle.reading.specs.Reading.{Asked};
 use crate::Books;
 use crate::View;
@@ -128,6 +129,21 @@ pub(crate) fn decide(
             reading::byte_at(input, at + 2) as usize,
         ),
         Kind::Dependencies => decisions::refuse(Refusal::NotHeld),
+        Kind::ClientPreflight => decisions::client_preflight(
+            gate(view.settings, booked, journal, vault, false, j),
+            view.state,
+            numbers,
+            sets,
+            version,
+            journal,
+            booked,
+            reading::byte_at(input, at + 2),
+            view.history,
+            votes.signatures,
+            vault,
+            j,
+        ),
+        Kind::Equivocating => decisions::refuse(Refusal::NotHeld),
         Kind::Unknown => decisions::refuse(Refusal::Unreadable),
     }
 }
@@ -225,8 +241,42 @@ fn is_listing(kind: Kind) -> bool
         Kind::Snapshot => false,
         Kind::Release => false,
         Kind::Dependencies => true,
+        Kind::ClientPreflight => false,
+        Kind::Equivocating => false,
         Kind::Unknown => false,
     }
+}
+
+pub(crate) fn is_naming(kind: Kind) -> bool
+    ensures { λ r. ⌜ r ≡ isNaming kind ⌝ }
+{
+    match kind {
+        Kind::Propose => false,
+        Kind::Preflight => false,
+        Kind::Commit => false,
+        Kind::FaultySign => false,
+        Kind::FaultyAcknowledge => false,
+        Kind::Show => false,
+        Kind::Draw => false,
+        Kind::Generations => false,
+        Kind::Snapshot => false,
+        Kind::Release => false,
+        Kind::Dependencies => false,
+        Kind::ClientPreflight => false,
+        Kind::Equivocating => true,
+        Kind::Unknown => false,
+    }
+}
+
+// Kind 13.
+fn name(books: Books, journal: &[u8]) -> Listing
+    ensures { λ r. ⌜ r ≡ naming books (now (journal .entry)) ⌝ }
+{
+    let settings = books.settings;
+    if journal::is_whole(settings.version, journal, books.booked) {
+        return decisions::list(books.named);
+    }
+    decisions::unlist(Refusal::NotBooked)
 }
 
 // What a step answers and lists that looks at all vaults; it changes nothing but the memo.
@@ -248,6 +298,9 @@ pub(crate) fn look(
     let kind = step.kind;
     if is_listing(kind) {
         return require(books, numbers, sets, journal, step.vault, step.job);
+    }
+    if is_naming(kind) {
+        return name(books, journal);
     }
     age(books, order, numbers, sets, journal, memo, step.job)
 }

@@ -2,6 +2,7 @@
 
 use super::build::Builder;
 use super::dependencies::ask_around;
+use super::equivocation::sign_for_rivals;
 use super::records::*;
 use super::releases::{outvote, release_around};
 use super::traffic::{look_at_all, odd_commit, repeat};
@@ -187,6 +188,7 @@ fn contest(builder: &mut Builder, rivals: &[Bytes]) {
     if builder.random.chance(30) {
         outvote(builder, &jobs);
         release_around(builder, &jobs);
+        sign_for_rivals(builder, &jobs);
         return settle(builder, &jobs);
     }
     let first = jobs[0];
@@ -209,6 +211,7 @@ fn contest(builder: &mut Builder, rivals: &[Bytes]) {
         }
     }
     hopeful_commits(builder, &jobs, &asked);
+    sign_for_rivals(builder, &jobs);
     settle(builder, &jobs);
 }
 

@@ -24,4 +24,4 @@ figures-spec =
     (λ c. search by) (λ c. search by) (λ c. search by) (λ c. search by) (λ c. search by) (λ c. search by) (λ c. search by) (λ c. search by)
     (λ c. search by) (λ c. search by) (λ c. search by) (λ c. search by) (λ c. search by) (λ c. search by) (λ c. search by) (λ c. search by)
     (λ c. search by) (λ c. search by) (λ c. search by) (λ c. search by) (λ c. search by) (λ c. search by) (λ c. search by)
-    (λ c. search by) (λ c. search by))
+    (λ c. search by) (λ c. search by) (λ c. search by) (λ c. search by) (λ c. search by) (λ c. search by))

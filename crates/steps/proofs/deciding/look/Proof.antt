@@ -8,4 +8,5 @@ ruleset by = (looks, needs)
 pub look-spec : {M : Type 1} → statement M
 look-spec =
     tie.close
-    (tie.spec (λ c κs. search by) (λ c κs. search by) (λ c. search by) (λ c κs. search by) (λ c. search by) (λ c. search by))
+    (tie.spec (λ c κs. search by) (λ c κs. search by) (λ c. search by) (λ c κs. search by) (λ c κs. search by) (λ c. search by) (λ c κs. search by)
+    (λ c. search by) (λ c. search by))
