@@ -5,7 +5,7 @@ ghost use lib.ListN.{length};
 ghost use Rattle.generations.specs.Generations.{isAt};
 ghost use Rattle.ledger.specs.Decisions.{isBook, isNothing};
 ghost use Rattle.ledger.specs.State.{applied, arriving, hasArrived, isSane, newLedger};
-ghost use Rattle.ledger.specs.Steps.{newOf};
+ghost use Rattle.ledger.specs.Steps.{newOf, wholeGate};
 ghost use Rattle.ledger.specs.Given.{Placed};
 use federation::Settings;
 use journal::CAPACITY;
@@ -14,6 +14,7 @@ use ledger::Ledger;
 use ledger::Reply;
 use outcome::Outcome;
 use outcome::Refusal;
+use outcome::Verdict;
 use sets::JobSet;
 use vaults::Column;
 use vaults::Vault;
@@ -210,4 +211,18 @@ pub fn is_book(change: Change) -> bool
         Change::Count(_) => false,
         Change::Grant(_) => false,
     }
+}
+
+// Checks 1 and 4 of what names no job.
+pub fn whole_gate(ledger: Ledger, journal: &[u8]) -> Verdict
+    ensures { λ r. ⌜ r ≡ wholeGate ledger (now (journal .entry)) ⌝ }
+{
+    if is_sane(ledger) {
+        let settings = ledger.settings;
+        if journal::is_whole(settings.version, journal, ledger.booked) {
+            return Verdict::Pass;
+        }
+        return Verdict::Fail(Refusal::NotBooked);
+    }
+    Verdict::Fail(Refusal::Settings)
 }

@@ -265,7 +265,7 @@ pub fn client_preflight(ledger: Ledger, journal: &[u8], vault: u8, job: u8, clie
 pub fn equivocating(ledger: Ledger, journal: &[u8]) -> Listing
     ensures { λ r. ⌜ r ≡ equivocatorsOf ledger (now (journal .entry)) ⌝ }
 {
-    let gate = gates::whole_gate(ledger, journal);
+    let gate = books::whole_gate(ledger, journal);
     match gate {
         Verdict::Pass => {
             let settings = ledger.settings;

@@ -8,25 +8,9 @@ use native.Mathlib.Omega.{arith}
 use lib.Dec.{leb}
 use lib.ListN.{length}
 use borrow.Author.Tests.{le-leb, lt-leb}
-use Rattle.release_file.specs.Releases.{isUnknown, isUnread, unreadIn, unreadNext}
-use Rattle.runfile.specs.Steps.{commandIn, kindAt, nextAt, stepAt, wordAt}
+use Rattle.release_file.specs.Releases.{unreadIn, unreadNext}
+use Rattle.runfile.specs.Steps.{isUnknown, kindAt, nextAt, wordAt}
 use Rattle.runfile.specs.declared.Kind.{Kind}
-use Rattle.runfile.specs.declared.Kind.the-variants.{Commit, Dependencies, Draw, FaultyAcknowledge, FaultySign, Generations, Preflight, Propose}
-use Rattle.runfile.specs.declared.Kind.the-variants.{Release, Show, Snapshot, Unknown}
-
-unread-kind : (version : ℕ) (k : Kind) (input : List ℕ) (at : ℕ) → isUnread (commandIn version k input at) ≡ isUnknown k
-unread-kind version Propose input at = refl
-unread-kind version Preflight input at = refl
-unread-kind version Commit input at = refl
-unread-kind version FaultySign input at = refl
-unread-kind version FaultyAcknowledge input at = refl
-unread-kind version Show input at = refl
-unread-kind version Draw input at = refl
-unread-kind version Generations input at = refl
-unread-kind version Snapshot input at = refl
-unread-kind version Release input at = refl
-unread-kind version Dependencies input at = refl
-unread-kind version Unknown input at = refl
 
 pub walk-begins : (input : List ℕ) (version : ℕ) → version ≡ wordAt input 3 → unreadIn input ≡ unreadNext (length input - 0) version input 9 0
 walk-begins input version e =
@@ -41,8 +25,8 @@ module _ (version : ℕ) (input : List ℕ) (pos count : ℕ) where
   none-unread (suc n) h = simp (le-leb (length input) pos h)
 
   module _ (few : pos < length input) (steps : count + 9 ≤ pos) (k : Kind) (is : k ≡ kindAt version input pos) where
-    here : isUnread (stepAt version input pos) ≡ isUnknown k
-    here = unread-kind version (kindAt version input pos) input (pos + 1) ∙ ap isUnknown (sym is)
+    here : isUnknown (kindAt version input pos) ≡ isUnknown k
+    here = ap isUnknown (sym is)
 
     pub first-unread : isUnknown k ≡ true → unreadNext (length input - count) version input pos count ≡ count + 1
     unfolding unreadNext

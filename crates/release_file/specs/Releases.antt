@@ -1,6 +1,6 @@
 -- What `releases` prints of a run file: its release list. "A file that refusal 1 or 2 turns back or cuts short gets that line and no list: blanks are never
 -- ordered from half a file."
-use mathlib.Core.Bool.{Bool, cond, false, true}
+use mathlib.Core.Bool.{cond}
 use mathlib.Core.List.{List}
 use mathlib.Core.Path.{_≡_}
 use Prim.Native.Nat.{_+_, _≤_, suc, zero, ℕ}
@@ -16,38 +16,15 @@ use Rattle.outcome.specs.declared.Refusal.the-variants.{Settings as BadSettings
 use Rattle.release_list.specs.Listing.{listText}
 use Rattle.runfile.specs.History.{finalRun}
 use Rattle.runfile.specs.Run.{Run, headerSize, opens, versionIn}
-use Rattle.runfile.specs.Steps.{Command, draw, nextAt, request, stepAt, unreadable}
-use Rattle.runfile.specs.declared.Kind.{Kind}
-use Rattle.runfile.specs.declared.Kind.the-variants.{Commit, Dependencies, Draw, FaultyAcknowledge, FaultySign, Generations, Preflight, Propose}
-use Rattle.runfile.specs.declared.Kind.the-variants.{Release, Show, Snapshot, Unknown}
+use Rattle.runfile.specs.Steps.{isUnknown, kindAt, nextAt}
 use Rattle.text.specs.Text.{lineFor}
-
--- a step that can't be read, as a command and as a kind
-abbrev pub isUnread : Command → Bool
-isUnread (request q) = false
-isUnread (draw u) = false
-isUnread unreadable = true
-
-abbrev pub isUnknown : Kind → Bool
-isUnknown Propose = false
-isUnknown Preflight = false
-isUnknown Commit = false
-isUnknown FaultySign = false
-isUnknown FaultyAcknowledge = false
-isUnknown Show = false
-isUnknown Draw = false
-isUnknown Generations = false
-isUnknown Snapshot = false
-isUnknown Release = false
-isUnknown Dependencies = false
-isUnknown Unknown = true
 
 -- the number of the first of the next n steps that can't be read, after k others, or 0
 unfoldable pub unreadNext : ℕ → ℕ → List ℕ → ℕ → ℕ → ℕ
 unreadNext zero version input pos k = 0
 unreadNext (suc n) version input pos k =
     cond (leb (length input) pos) 0
-    (cond (isUnread (stepAt version input pos)) (k + 1) (unreadNext n version input (nextAt version input pos) (k + 1)))
+    (cond (isUnknown (kindAt version input pos)) (k + 1) (unreadNext n version input (nextAt version input pos) (k + 1)))
 
 abbrev pub unreadIn : List ℕ → ℕ
 unreadIn input = unreadNext (length input) (versionIn input) input headerSize 0

@@ -2,28 +2,8 @@
 ghost use mathlib.Core.Bool.{true};
 ghost use mathlib.Core.Path.{_≡_};
 ghost use Prim.Native.Nat.{_<_};
-ghost use Rattle.release_file.specs.Releases.{isUnknown, unreadIn};
+ghost use Rattle.release_file.specs.Releases.{unreadIn};
 ghost use Rattle.runfile.specs.Run.{opens};
-use runfile::Kind;
-
-fn is_unknown(kind: Kind) -> bool
-    ensures { λ r. ⌜ r ≡ isUnknown kind ⌝ }
-{
-    match kind {
-        Kind::Propose => false,
-        Kind::Preflight => false,
-        Kind::Commit => false,
-        Kind::FaultySign => false,
-        Kind::FaultyAcknowledge => false,
-        Kind::Show => false,
-        Kind::Draw => false,
-        Kind::Generations => false,
-        Kind::Snapshot => false,
-        Kind::Release => false,
-        Kind::Dependencies => false,
-        Kind::Unknown => true,
-    }
-}
 
 // Its number, or 0 where all can be read.
 pub(crate) fn first(input: &[u8]) -> u32
@@ -37,7 +17,7 @@ pub(crate) fn first(input: &[u8]) -> u32
         count += 1;
         let step = reading::step_at(version, input, pos, count);
         let kind = step.kind;
-        if is_unknown(kind) {
+        if reading::is_unknown(kind) {
             return count;
         }
         pos = step.end;

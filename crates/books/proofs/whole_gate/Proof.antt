@@ -1,7 +1,7 @@
 -- Each return is one way through the two tests.
 use Rattle.base.proofs.Tests.{chain}
-use Rattle.operations.proofs.gates.whole_gate.Statement.{statement}
-use Rattle.operations.proofs.gates.whole_gate.Tie as tie
+use Rattle.books.proofs.whole_gate.Statement.{statement}
+use Rattle.books.proofs.whole_gate.Tie as tie
 use Rattle.ledger.specs.Steps.{wholeGate}
 use borrow.Author.Needs.{needs}
 
