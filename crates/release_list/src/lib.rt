@@ -1,6 +1,7 @@
 // The release list: the tapes that are free to be overwritten, as text.
 mod tapes;
 
+ghost use mathlib.Core.Path.{_≡_};
 ghost use Prim.Native.Nat.{_≤_};
 ghost use lib.ListN.{length};
 ghost use Rattle.codec.specs.Codec.{placeOf};
