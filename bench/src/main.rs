@@ -1,5 +1,6 @@
-//! `bench CUSTODY_EXECUTABLE FAST_EXECUTABLE [--quick]` compares the proved program with the fast one, in process and as
-//! whole processes, and prints what it finds in Markdown. With `--quick` the files are cut short and measured briefly.
+//! `bench CUSTODY RELEASES FAST [--quick]` compares the proved program with the fast one, in process and as whole processes, and
+//! the release list with the run that it takes, and prints what it finds in Markdown. With `--quick` the files are cut short and
+//! measured briefly.
 mod clock;
 mod machine;
 mod measure;
@@ -12,7 +13,7 @@ use bench::files::{growth, measured, File};
 use measure::{interleave, sample, Effort, Pair};
 use process::Programs;
 use proved::Buffer;
-use report::Row;
+use report::{ListRow, Row};
 use scratch::Scratch;
 use std::env;
 use std::process::ExitCode;
@@ -23,15 +24,15 @@ const QUICK_STEPS: usize = 200;
 fn main() -> ExitCode {
     let (flags, names): (Vec<String>, Vec<String>) =
         env::args().skip(1).partition(|name| name.starts_with("--"));
-    let [custody, fast] = &names[..] else {
-        eprintln!("usage: bench CUSTODY_EXECUTABLE FAST_EXECUTABLE [--quick]");
+    let [custody, releases, fast] = &names[..] else {
+        eprintln!("usage: bench CUSTODY RELEASES FAST [--quick]");
         return ExitCode::FAILURE;
     };
     if flags.iter().any(|flag| flag != "--quick") {
         eprintln!("the only flag is --quick");
         return ExitCode::FAILURE;
     }
-    let programs = Programs::new(custody, fast, Scratch::new());
+    let programs = Programs::new(custody, releases, fast, Scratch::new());
     compare(&programs, !flags.is_empty());
     ExitCode::SUCCESS
 }
@@ -61,6 +62,11 @@ fn compare(programs: &Programs, quick: bool) {
         .map(|file| measure_growth(programs, shorten(file), quick))
         .collect();
     report::print_growth(&rows);
+    let rows: Vec<ListRow> = measured()
+        .into_iter()
+        .map(|file| measure_list(programs, shorten(file), quick))
+        .collect();
+    report::print_lists(&rows);
 }
 
 fn measure_file(programs: &Programs, file: File, quick: bool) -> Row {
@@ -101,4 +107,25 @@ fn run_in_process(file: &File, effort: Effort) -> (Vec<u8>, Pair) {
         file.name
     );
     (fast_out, pair)
+}
+
+/// The release list beside the run's text, both by the proved programs.
+fn measure_list(programs: &Programs, file: File, quick: bool) -> ListRow {
+    let input = &file.bytes[..];
+    let (mut text, mut list) = (Buffer::default(), Buffer::default());
+    let mut runs = (0, 0);
+    let in_process = interleave(
+        Effort::in_process(quick),
+        || sample(&mut runs.0, || drop(list.releases(input))),
+        || sample(&mut runs.1, || drop(text.text(input))),
+    );
+    let printed = list.releases(input).expect("a list").to_vec();
+    let lines = printed.iter().filter(|byte| **byte == b'\n').count();
+    let whole = programs.measure_list(&file, &printed, Effort::processes(quick));
+    ListRow {
+        file,
+        tapes: lines - 1,
+        in_process,
+        whole,
+    }
 }

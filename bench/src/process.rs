@@ -10,14 +10,16 @@ use std::time::Instant;
 
 pub struct Programs {
     custody: String,
+    releases: String,
     fast: String,
     scratch: Scratch,
 }
 
 impl Programs {
-    pub fn new(custody: &str, fast: &str, scratch: Scratch) -> Programs {
+    pub fn new(custody: &str, releases: &str, fast: &str, scratch: Scratch) -> Programs {
         Programs {
             custody: custody.to_string(),
+            releases: releases.to_string(),
             fast: fast.to_string(),
             scratch,
         }
@@ -36,6 +38,17 @@ impl Programs {
             time
         };
         interleave(effort, || timed(&self.custody), || timed(&self.fast))
+    }
+
+    /// The release list beside the run's text; holds every list to the one given.
+    pub fn measure_list(&self, file: &files::File, list: &[u8], effort: Effort) -> Pair {
+        let input = self.scratch.write(&file.bytes);
+        let listed = || {
+            let (out, time) = run(&self.releases, &input);
+            assert!(out == list, "another list for {}", file.name);
+            time
+        };
+        interleave(effort, listed, || run(&self.custody, &input).1)
     }
 }
 

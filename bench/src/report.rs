@@ -81,3 +81,30 @@ pub fn print_growth(rows: &[Row]) {
     }
     print_rounds(rows);
 }
+
+/// A release list, measured as the first of the pair, and the run's text as the second.
+pub struct ListRow {
+    pub file: File,
+    pub tapes: usize,
+    pub in_process: Pair,
+    pub whole: Pair,
+}
+
+pub fn print_lists(rows: &[ListRow]) {
+    println!("The release list beside the run's text, both by the proved programs:\n");
+    println!("| file | tapes | list µs | text µs | ratio | process: list ms | text ms | ratio |");
+    println!("|---|--:|--:|--:|--:|--:|--:|--:|");
+    for row in rows {
+        println!(
+            "| {} | {} | {} | {} | {:.2} | {} | {} | {:.2} |",
+            row.file.name,
+            row.tapes,
+            cell(row.in_process.proved, 1e3, 1),
+            cell(row.in_process.fast, 1e3, 1),
+            row.in_process.ratio(),
+            cell(row.whole.proved, 1e6, 3),
+            cell(row.whole.fast, 1e6, 3),
+            row.whole.ratio(),
+        );
+    }
+}

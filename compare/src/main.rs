@@ -1,5 +1,5 @@
-//! Compares the reference with the proved program, linked in and as an
-//! executable: `compare EXECUTABLE [COUNT [FIRST_SEED]]`.
+//! Compares the reference with the proved programs, linked in and as
+//! executables: `compare CUSTODY RELEASES [COUNT [FIRST_SEED]]`.
 
 mod case;
 mod process;
@@ -9,8 +9,8 @@ mod tally;
 use case::Case;
 use proved::Buffer;
 use reference::edges;
-use reference::register::Register;
-use reference::run::{lines, print, Line};
+use reference::releases;
+use reference::run::{print, ran, Line, Ran};
 use std::panic::catch_unwind;
 use std::process::ExitCode;
 use std::sync::atomic::{AtomicUsize, Ordering};
@@ -21,15 +21,16 @@ const PROCESS_FILES: u64 = 200;
 
 fn main() -> ExitCode {
     let arguments: Vec<String> = std::env::args().collect();
-    let Some(executable) = arguments.get(1) else {
-        eprintln!("usage: compare EXECUTABLE [COUNT [FIRST_SEED]]");
+    let [_, custody, list, ..] = &arguments[..] else {
+        eprintln!("usage: compare CUSTODY RELEASES [COUNT [FIRST_SEED]]");
         return ExitCode::from(2);
     };
+    let programs = Programs { custody, list };
     let number = |i: usize, otherwise| match arguments.get(i) {
         Some(word) => word.parse().expect("COUNT and FIRST_SEED are numbers"),
         None => otherwise,
     };
-    match compare(executable, number(2, 4000), number(3, 0)) {
+    match compare(&programs, number(3, 4000), number(4, 0)) {
         Ok(()) => ExitCode::SUCCESS,
         Err(difference) => {
             println!("{difference}");
@@ -38,11 +39,17 @@ fn main() -> ExitCode {
     }
 }
 
-fn compare(executable: &str, count: u64, first: u64) -> Result<(), String> {
+/// The proved executables: that which prints a run's text, and that which prints its release list.
+struct Programs<'a> {
+    custody: &'a str,
+    list: &'a str,
+}
+
+fn compare(programs: &Programs, count: u64, first: u64) -> Result<(), String> {
     let whole = reference::whole_run();
     room::check(&whole, reference::whole_text().as_bytes())?;
 
-    near_each_edge(executable)?;
+    near_each_edge(programs)?;
 
     let mut cases = case::seeds(first, count);
     cases.extend(case::prefixes());
@@ -53,7 +60,7 @@ fn compare(executable: &str, count: u64, first: u64) -> Result<(), String> {
     let mut cases = vec![Case::Prefix(whole.len())];
     cases.extend(case::prefixes());
     cases.extend(case::seeds(first, PROCESS_FILES));
-    over(&cases, &|case, _| as_process(executable, case))?;
+    over(&cases, &|case, _| as_process(programs, case))?;
     println!("as processes: {} files agree", cases.len());
 
     tally.print();
@@ -65,7 +72,7 @@ fn compare(executable: &str, count: u64, first: u64) -> Result<(), String> {
 }
 
 /// The reference and the proved program, both ways, against texts that are worked out by hand.
-fn near_each_edge(executable: &str) -> Result<(), String> {
+fn near_each_edge(programs: &Programs) -> Result<(), String> {
     let edges = edges::all();
     let mut out = Buffer::default();
     for edge in &edges {
@@ -76,7 +83,7 @@ fn near_each_edge(executable: &str) -> Result<(), String> {
         if out.text(&edge.file)? != edge.text.as_bytes() {
             return Err(wrong("the proved library"));
         }
-        if process::text(executable, &edge.file)? != edge.text.as_bytes() {
+        if process::text(programs.custody, &edge.file)? != edge.text.as_bytes() {
             return Err(wrong("the proved program"));
         }
     }
@@ -144,24 +151,27 @@ fn share(
 
 fn in_process(case: &Case, out: &mut Buffer) -> Result<Vec<Line>, String> {
     let file = case.file();
-    let lines = reference_lines(case, &file)?;
+    let ran = reference_run(case, &file)?;
     let found = out.text(&file).map_err(|why| report(case, &why))?;
-    agree(case, &print(&lines), found)?;
-    Ok(lines)
+    agree(case, &print(&ran.lines), found)?;
+    let found = out.releases(&file).map_err(|why| report(case, &why))?;
+    agree(case, &releases(&ran), found)?;
+    Ok(ran.lines)
 }
 
-fn as_process(executable: &str, case: &Case) -> Result<Vec<Line>, String> {
+fn as_process(programs: &Programs, case: &Case) -> Result<Vec<Line>, String> {
     let file = case.file();
-    let lines = reference_lines(case, &file)?;
-    let found = process::text(executable, &file).map_err(|why| report(case, &why))?;
-    agree(case, &print(&lines), &found)?;
-    Ok(lines)
+    let ran = reference_run(case, &file)?;
+    let found = process::text(programs.custody, &file).map_err(|why| report(case, &why))?;
+    agree(case, &print(&ran.lines), &found)?;
+    let found = process::text(programs.list, &file).map_err(|why| report(case, &why))?;
+    agree(case, &releases(&ran), &found)?;
+    Ok(ran.lines)
 }
 
-/// The reference's lines; its register may stop it, loudly.
-fn reference_lines(case: &Case, file: &[u8]) -> Result<Vec<Line>, String> {
-    catch_unwind(|| lines(file, Some(Register::default())))
-        .map_err(|_| report(case, "the reference stopped, see above"))
+/// The reference's run; its register may stop it, loudly.
+fn reference_run(case: &Case, file: &[u8]) -> Result<Ran, String> {
+    catch_unwind(|| ran(file)).map_err(|_| report(case, "the reference stopped, see above"))
 }
 
 fn report(case: &Case, what: &str) -> String {

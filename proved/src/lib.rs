@@ -1,4 +1,4 @@
-//! The proved program, called in this process.
+//! The proved programs, called in this process.
 
 use reference::run::{LONGEST_LINE, LONGEST_TEXT};
 use reference::settings::LONGEST_FILE;
@@ -10,7 +10,11 @@ const NAMED: usize = 15;
 /// which the program writes no further.
 pub const ROOM: usize = LONGEST_FILE * (LONGEST_LINE + NAMED) + LONGEST_TEXT;
 
+/// Room for any release list: of 128 jobs with four inputs each, and the line with their number.
+pub const LIST: usize = 128 * 4 * 25 + 5;
+
 extern "C" {
+    fn custody_releases(input: *const u8, input_len: usize, out: *mut [u8; LIST]) -> usize;
     fn custody_run(input: *const u8, input_len: usize, out: *mut u8, out_len: usize) -> usize;
 }
 
@@ -20,12 +24,18 @@ pub fn call(input: &[u8], out: &mut [u8]) -> usize {
     unsafe { custody_run(input.as_ptr(), input.len(), out.as_mut_ptr(), out.len()) }
 }
 
-/// A buffer with room for any text, used again for each.
-pub struct Buffer(Vec<u8>);
+/// Writes the release list of a run file and answers its length.
+pub fn list(input: &[u8], out: &mut [u8; LIST]) -> usize {
+    // SAFETY: both pointers are of what lives through the call, and have the size that is given or declared.
+    unsafe { custody_releases(input.as_ptr(), input.len(), out) }
+}
+
+/// Buffers with room for any text and any list, used again for each.
+pub struct Buffer(Vec<u8>, Box<[u8; LIST]>);
 
 impl Default for Buffer {
     fn default() -> Buffer {
-        Buffer(vec![0; ROOM])
+        Buffer(vec![0; ROOM], Box::new([0; LIST]))
     }
 }
 
@@ -35,5 +45,12 @@ impl Buffer {
         let length = call(input, &mut self.0);
         let wrong = || format!("the library says its text has {length} bytes");
         self.0.get(..length).ok_or_else(wrong)
+    }
+
+    /// The release list of a run file, or what is wrong with its length.
+    pub fn releases(&mut self, input: &[u8]) -> Result<&[u8], String> {
+        let length = list(input, &mut self.1);
+        let wrong = || format!("the library says its list has {length} bytes");
+        self.1.get(..length).ok_or_else(wrong)
     }
 }

@@ -14,6 +14,7 @@ pub mod random;
 pub mod record;
 pub mod refusal;
 pub mod register;
+pub mod releases;
 pub mod run;
 pub mod settings;
 pub mod step;
@@ -22,5 +23,6 @@ pub mod watch;
 pub mod whole;
 pub mod write;
 
-pub use run::run;
+pub use releases::releases;
+pub use run::{ran, run};
 pub use whole::{whole_run, whole_text};

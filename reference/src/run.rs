@@ -41,15 +41,27 @@ impl Line {
     }
 }
 
+/// A run that was carried out: its lines, the ledger in which it ended, unless check 1 turned it back, and its register.
+pub struct Ran {
+    pub lines: Vec<Line>,
+    pub engine: Option<Engine>,
+    pub register: Register,
+}
+
 /// The printed text of a run file, with the single register beside it.
 /// Panics if the ledger and the register ever differ.
 pub fn run(input: &[u8]) -> Vec<u8> {
-    print(&lines(input, Some(Register::default())))
+    print(&ran(input).lines)
+}
+
+/// The run with the single register beside it; panics if they ever differ.
+pub fn ran(input: &[u8]) -> Ran {
+    carry_out(input, true)
 }
 
 /// The same text without the register.
 pub fn run_alone(input: &[u8]) -> Vec<u8> {
-    print(&lines(input, None))
+    print(&carry_out(input, false).lines)
 }
 
 pub fn print(lines: &[Line]) -> Vec<u8> {
@@ -63,10 +75,14 @@ pub fn print(lines: &[Line]) -> Vec<u8> {
     text.into_bytes()
 }
 
-/// The lines of a run file.
-pub fn lines(input: &[u8], mut register: Option<Register>) -> Vec<Line> {
+fn carry_out(input: &[u8], watched: bool) -> Ran {
+    let mut register = Register::default();
     let Some(settings) = read_header(input) else {
-        return vec![Line::new(0, 0, &Err(plain(1)), &[])];
+        return Ran {
+            lines: vec![Line::new(0, 0, &Err(plain(1)), &[])],
+            engine: None,
+            register,
+        };
     };
     let mut engine = Engine::new(settings);
     let mut lines = Vec::new();
@@ -79,15 +95,19 @@ pub fn lines(input: &[u8], mut register: Option<Register>) -> Vec<Line> {
         };
         let answer = engine.take(&step);
         lines.push(Line::new(number, step.kind(), &answer, &engine.listed));
-        if let Some(register) = &mut register {
-            watch_step(number, &step, &answer, &engine, register);
+        if watched {
+            watch_step(number, &step, &answer, &engine, &mut register);
         }
         rest = &rest[length..];
     }
-    if let Some(register) = &register {
-        watch::in_full(lines.len() as u64, &engine, register);
+    if watched {
+        watch::in_full(lines.len() as u64, &engine, &register);
     }
-    lines
+    Ran {
+        lines,
+        engine: Some(engine),
+        register,
+    }
 }
 
 fn watch_step(number: u64, step: &Step, answer: &Answer, engine: &Engine, register: &mut Register) {

@@ -1,5 +1,8 @@
-// The run for programs in C or Rust to link: what the comparisons with the Rust reference call in process.
+// The run and its release list for programs in C or Rust to link: what the comparisons with the Rust reference call in process.
+ghost use Prim.Native.Nat.{_≤_};
+ghost use Rattle.release_file.specs.Releases.{releasesText};
 ghost use Rattle.run.specs.Pieces.{Filled};
+ghost use Rattle.text.specs.Text.{Put};
 
 // The first piece of the text, which is the whole of it in a buffer that has room for the longest text of one step more.
 #[no_mangle]
@@ -29,4 +32,12 @@ pub extern "C" fn custody_run(input: &[u8], out: &mut [u8]) -> usize
         return end.written;
     }
     start.written
+}
+
+// The release list, in a buffer that has room for the longest.
+#[no_mangle]
+pub extern "C" fn custody_releases(input: &[u8], out: &mut [u8; release_list::ROOM]) -> usize
+    ensures { λ r. ⌜ Put (now (out .entry)) 0 (releasesText (now (input .entry))) (now (out .exit)) r × (r ≤ 12805) ⌝ }
+{
+    release_file::releases(input, out)
 }

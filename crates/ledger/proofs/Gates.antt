@@ -72,6 +72,10 @@ whole-entered l journal e =
     let rest = passed-rest (isSane l) _ _ e in
     (reflect-sane l .sound (passed-test (isSane l) _ _ e), reflect-whole (versionOf l) journal (l .booked) .sound (passed-test _ _ _ rest))
 
+pub whole-passes : (l : Ledger) (journal : List ℕ) → Sane l → placeOf (versionOf l) (l .booked) ≤ length journal → wholeGate l journal ≡ Pass
+unfolding wholeGate
+whole-passes l journal s h = simp (reflect-sane l .complete s, reflect-whole (versionOf l) journal (l .booked) .complete h)
+
 pub entered : (l : Ledger) (journal : List ℕ) (v job : ℕ) (faulty : Bool) → vaultGate l journal v job faulty ≡ Pass
     → Entered l journal v job faulty
 unfolding vaultGate gateOf

@@ -7,14 +7,15 @@ use Prim.Native.Nat.{ℕ}
 use borrow.Author.Tests.{eq-eqb, ne-eqb}
 use Rattle.index.specs.Places.{numbersSize, setsSize}
 use Rattle.index.specs.Records.{recordsSize}
-use Rattle.journal.specs.Journal.{capacity, jobAt}
-use Rattle.ledger.specs.Freed.{Freed, freedTapes}
-use Rattle.ledger.specs.State.{versionOf}
+use Rattle.journal.specs.Journal.{capacity}
+use Rattle.ledger.specs.Freed.{Freed}
 use Rattle.ledger.specs.declared.Ledger.{Ledger}
 use Rattle.outcome.specs.declared.Outcome.the-variants.{Refused}
 use Rattle.outcome.specs.declared.Refusal.the-variants.{Settings as BadSettings, Unreadable}
 use Rattle.release_file.specs.Releases.{RanOut, freedAt, releasesText, unreadIn}
-use Rattle.release_list.specs.Listing.{listText}
+use Rattle.outcome.specs.declared.Verdict.{Verdict}
+use Rattle.release_list.specs.Listing.{Released, listText, printed, tapesFreed}
+use Rattle.release_list.specs.declared.Releases.{Releases}
 use Rattle.run.specs.Pieces.{Going, Started, blank, runOf}
 use Rattle.run.specs.declared.Progress.{Progress}
 use Rattle.runfile.specs.History.{finalRun}
@@ -31,13 +32,14 @@ begun input journal before after p o e s = (
 
 module _ {o p : List ℕ} {r : ℕ} (input : List ℕ) where
   module _ (b : Bool) (lets : b ≡ opens input) (through : b ≡ true) (first : ℕ) (is : first ≡ unreadIn input) where
-    pub list-told : first ≡ 0 → (l : Ledger) (journal : List ℕ) → RanOut input l journal
-        → Put o 0 (listText (freedTapes l (jobAt (versionOf l) journal (l .booked)))) p r → Put o 0 (releasesText input) p r
+    pub list-told : first ≡ 0 → (l : Ledger) (journal : List ℕ) → RanOut input l journal → (d : Releases) → Released l journal o p d
+        → Put o 0 (releasesText input) p (d .written)
     unfolding releasesText
-    list-told z l journal ran w =
-        let same : freedTapes l (jobAt (versionOf l) journal (l .booked)) ≡ freedAt (finalRun input) =
-        ap₂ (λ (x : Ledger) (j : List ℕ). freedTapes x (jobAt (versionOf x) j (x .booked))) (ran .ledger-is) (ran .journal-is) in
-        simp (sym lets ∙ through, eq-eqb (unreadIn input) 0 (sym is ∙ z)) (subst (λ (xs : List Freed). Put o 0 (listText xs) p r) same w)
+    list-told z l journal ran d w =
+        let same : tapesFreed l journal ≡ freedAt (finalRun input) = ap₂ tapesFreed (ran .ledger-is) (ran .journal-is) in
+        simp (sym lets ∙ through, eq-eqb (unreadIn input) 0 (sym is ∙ z))
+        (subst (λ (xs : List Freed). Put o 0 (listText xs) p (d .written)) same
+        (subst (λ (g : Verdict). Put o 0 (printed g (tapesFreed l journal)) p (d .written)) (ran .passes) (w .text)))
 
     pub cut-told : first ≢ 0 → Put o 0 (lineFor first (Refused Unreadable)) p r → Put o 0 (releasesText input) p r
     unfolding releasesText

@@ -1,20 +1,23 @@
 -- What `releases` prints of a run file: its release list. "A file that refusal 1 or 2 turns back or cuts short gets that line and no list: blanks are never
 -- ordered from half a file."
-use mathlib.Core.Bool.{cond}
+use mathlib.Core.Bool.{cond, true}
 use mathlib.Core.List.{List}
 use mathlib.Core.Path.{_≡_}
-use Prim.Native.Nat.{_+_, _≤_, suc, zero, ℕ}
+use Prim.Native.Nat.{_+_, suc, zero, ℕ}
 use lib.Dec.{eqb, leb}
 use lib.ListN.{length}
-use Rattle.codec.specs.Codec.{placeOf}
-use Rattle.journal.specs.Journal.{capacity, jobAt}
-use Rattle.ledger.specs.Freed.{Freed, freedTapes}
-use Rattle.ledger.specs.State.{versionOf}
+use Rattle.base.specs.Lists.{In}
+use Rattle.conflicts.specs.Tapes.{labels}
+use Rattle.ledger.specs.Freed.{Free, Freed, freedIn}
+use Rattle.ledger.specs.Register.{Register, feedAll, log, newRegister}
+use Rattle.ledger.specs.Steps.{wholeGate}
+use Rattle.ledger.specs.Worlds.{Event, World, afterAll}
 use Rattle.ledger.specs.declared.Ledger.{Ledger}
 use Rattle.outcome.specs.declared.Outcome.the-variants.{Refused}
 use Rattle.outcome.specs.declared.Refusal.the-variants.{Settings as BadSettings, Unreadable}
-use Rattle.release_list.specs.Listing.{listText}
-use Rattle.runfile.specs.History.{finalRun}
+use Rattle.outcome.specs.declared.Verdict.the-variants.{Pass}
+use Rattle.release_list.specs.Listing.{listText, tapesFreed}
+use Rattle.runfile.specs.History.{begun, events, finalRun, steps}
 use Rattle.runfile.specs.Run.{Run, headerSize, opens, versionIn}
 use Rattle.runfile.specs.Steps.{isUnknown, kindAt, nextAt}
 use Rattle.text.specs.Text.{lineFor}
@@ -31,7 +34,7 @@ unreadIn input = unreadNext (length input) (versionIn input) input headerSize 0
 
 -- the tapes that are free at the end of a run
 abbrev pub freedAt : Run → List Freed
-freedAt r = freedTapes (r .ledger) (jobAt (versionOf (r .ledger)) (r .journal) (r .ledger .booked))
+freedAt r = tapesFreed (r .ledger) (r .journal)
 
 unfoldable pub releasesText : List ℕ → List ℕ
 releasesText input =
@@ -39,9 +42,25 @@ releasesText input =
     (cond (eqb (unreadIn input) 0) (listText (freedAt (finalRun input))) (lineFor (unreadIn input) (Refused Unreadable)))
     (lineFor 0 (Refused BadSettings))
 
--- the ledger and the journal in which a run ends, and that all booked records lie inside
+-- the ledger and the journal in which a run ends; checks 1 and 4 pass there
 pub record RanOut (input : List ℕ) (l : Ledger) (journal : List ℕ) : Type 0 where
   pub ledger-is : l ≡ finalRun input .ledger
   pub journal-is : journal ≡ finalRun input .journal
-  pub few : l .booked ≤ capacity
-  pub inside : placeOf (versionOf l) (l .booked) ≤ length journal
+  pub passes : wholeGate l journal ≡ Pass
+
+-- ---- the list of a run is that of the world to which its steps lead, and of no other, so that all is true of it that is proved of that
+pub record Lists (input : List ℕ) : Type 0 where
+  abbrev pub world : World
+  world = afterAll (begun input) (events (steps input))
+
+  abbrev pub register : Register
+  register = feedAll (newRegister (versionIn input)) (log (begun input) (events (steps input)))
+
+  pub same : freedAt (finalRun input) ≡ freedIn world
+  pub free : Free world register
+  -- whatever steps follow, what is listed stays listed, and no tape with its label ever stands again
+  pub for-good : (more : List Event) (x : Freed) → In x (freedAt (finalRun input)) → In x (freedIn (afterAll world more))
+      × (In (x .tape .label) (labels (feedAll register (log world more) .standing)) → ⊥)
+
+abbrev pub ListsFreed : Type 0
+ListsFreed = (input : List ℕ) → opens input ≡ true → Lists input

@@ -8,11 +8,8 @@ ghost use Rattle.text.specs.Text.{Put};
 use outcome::Outcome;
 use outcome::Refusal;
 
-// The list of 128 jobs with four inputs each, and the line with their number.
-pub const ROOM: usize = 12805;
-
 // A file that refusal 1 or 2 turns back or cuts short gets that line and no list.
-pub fn releases(input: &[u8], out: &mut [u8; 12805]) -> usize
+pub fn releases(input: &[u8], out: &mut [u8; release_list::ROOM]) -> usize
     ensures { λ r. ⌜ Put (now (out .entry)) 0 (releasesText (now (input .entry))) (now (out .exit)) r × (r ≤ 12805) ⌝ }
 {
     if run::opens(input) {
@@ -20,7 +17,7 @@ pub fn releases(input: &[u8], out: &mut [u8; 12805]) -> usize
         if first == 0 {
             let mut journal = [0u8; run::JOURNAL];
             let ledger = running::run_out(input, &mut journal);
-            return release_list::write_list(out, ledger, &journal);
+            return release_list::list(ledger, &journal, out).written;
         }
         return text::write_line(out, 0, first, Outcome::Refused(Refusal::Unreadable));
     }

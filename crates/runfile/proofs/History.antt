@@ -59,7 +59,7 @@ left-length l journal (clientPreflight v job client) = refl
 left-length l journal equivocating = refl
 
 -- ---- what is lent, and what is booked afterwards
-lent-whole : (m : ℕ) (journal : List ℕ) → lend (take m journal) (length journal) (drop m journal) ≡ journal
+pub lent-whole : (m : ℕ) (journal : List ℕ) → lend (take m journal) (length journal) (drop m journal) ≡ journal
 unfolding lend
 lent-whole m journal = ap (take (length journal)) (take-append-drop m journal) ∙ take-length journal
 
@@ -139,7 +139,7 @@ unfolding itemsNext runNext textNext
 follows zero input r = record { world = refl; text = refl }
 follows (suc n) input r = next n input r (follows n input (turn input r))
 
-opens-lawful : (input : List ℕ) → opens input ≡ true → Lawful (opened input .settings)
+pub opens-lawful : (input : List ℕ) → opens input ≡ true → Lawful (opened input .settings)
 unfolding opensUpTo
 opens-lawful input o = reflect-lawful (opened input .settings) .sound (and-true (isHeader input) _ (and-true (leb (length input) longest) _ o .1) .1)
 

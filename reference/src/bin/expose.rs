@@ -1,9 +1,9 @@
 //! Used by faults.sh to tell a faulty copy of this crate from the sound one.
 //!
-//! `expose prints PACK` prints a fingerprint of the text of each run file in
-//! a pack that `generate pack` wrote. `expose seek PACK PRINTS` prints the
-//! first seed whose text has another fingerprint, or where the register stops
-//! the run, or `none`.
+//! `expose prints PACK` prints fingerprints of the text and of the release
+//! list of each run file in a pack that `generate pack` wrote. `expose seek
+//! PACK PRINTS` prints the first seed whose text or list has another
+//! fingerprint, or where the register stops the run, or `none`.
 
 use std::fs;
 use std::panic::catch_unwind;
@@ -15,7 +15,8 @@ fn main() {
     match words[..] {
         ["prints", pack] => {
             for file in unpack(pack) {
-                println!("{}", fingerprint(&reference::run(&file)));
+                let (text, list) = fingerprints(&file);
+                println!("{text} {list}");
             }
         }
         ["seek", pack, prints] => seek(pack, prints),
@@ -59,12 +60,13 @@ fn seek(pack: &str, prints: &str) {
     println!("{}", found.join(", "));
 }
 
-/// How the file exposes this program: by its text, or by the register that
-/// stops the run, or by both; or a panic elsewhere.
+/// How the file exposes this program: by its text or its list, or by the
+/// register that stops the run, or by both; or a panic elsewhere.
 fn exposed(file: &[u8], sound: &str) -> Option<&'static str> {
-    let beside = catch_unwind(|| reference::run(file));
-    let payload = match beside {
-        Ok(text) => return (fingerprint(&text) != sound).then_some("text"),
+    let (sound, sound_list) = sound.split_once(' ').expect("two fingerprints");
+    let payload = match catch_unwind(|| fingerprints(file)) {
+        Ok((text, _)) if text != sound => return Some("text"),
+        Ok((_, list)) => return (list != sound_list).then_some("list"),
         Err(payload) => payload,
     };
     let message = payload.downcast_ref::<String>();
@@ -75,6 +77,13 @@ fn exposed(file: &[u8], sound: &str) -> Option<&'static str> {
         Ok(text) if fingerprint(&text) == sound => Some("register"),
         _ => Some("text and register"),
     }
+}
+
+/// Of the text and of the release list.
+fn fingerprints(file: &[u8]) -> (String, String) {
+    let ran = reference::ran(file);
+    let text = reference::run::print(&ran.lines);
+    (fingerprint(&text), fingerprint(&reference::releases(&ran)))
 }
 
 /// FNV-1a.

@@ -5,6 +5,7 @@ use Prim.Native.Nat.{_-_, _<_, _≤_, ℕ}
 use lib.ListN.{length}
 use native.Mathlib.Omega.{arith}
 use borrow.Author.Needs.{needs}
+use Rattle.ledger.proofs.Gates.{whole-passes}
 use Rattle.release_file.proofs.Answers.{begun}
 use Rattle.release_file.proofs.running.run_out.Statement.{statement}
 use Rattle.release_file.proofs.running.run_out.Tie as tie
@@ -45,8 +46,7 @@ ran-out {input} {p} {journal₀} {journal} t h =
     record {
       ledger-is = ap (λ (r : Run). r .ledger) e;
       journal-is = ap (λ (r : Run). r .journal) e;
-      few = t .going .kept .sane .booked;
-      inside = t .going .kept .indexed .inside;
+      passes = whole-passes (p .ledger) journal (t .going .kept .sane) (t .going .kept .indexed .inside);
     }
 
 ruleset by = (reads-on, same-end, ran-out, needs)
