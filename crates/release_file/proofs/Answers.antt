@@ -30,7 +30,7 @@ begun input journal before after p o e s = (
   ap (λ (j : List ℕ). lastFrom input (runOf p j)) e ∙ ap (lastFrom input) (s .first o),
 )
 
-module _ {o p : List ℕ} {r : ℕ} (input : List ℕ) where
+module _ {o p : List ℕ} (input : List ℕ) where
   module _ (b : Bool) (lets : b ≡ opens input) (through : b ≡ true) (first : ℕ) (is : first ≡ unreadIn input) where
     pub list-told : first ≡ 0 → (l : Ledger) (journal : List ℕ) → RanOut input l journal → (d : Releases) → Released l journal o p d
         → Put o 0 (releasesText input) p (d .written)
@@ -41,11 +41,11 @@ module _ {o p : List ℕ} {r : ℕ} (input : List ℕ) where
         (subst (λ (xs : List Freed). Put o 0 (listText xs) p (d .written)) same
         (subst (λ (g : Verdict). Put o 0 (printed g (tapesFreed l journal)) p (d .written)) (ran .passes) (w .text)))
 
-    pub cut-told : first ≢ 0 → Put o 0 (lineFor first (Refused Unreadable)) p r → Put o 0 (releasesText input) p r
+    pub cut-told : {r : ℕ} → first ≢ 0 → Put o 0 (lineFor first (Refused Unreadable)) p r → Put o 0 (releasesText input) p r
     unfolding releasesText
-    cut-told n w =
+    cut-told {r} n w =
         simp (sym lets ∙ through, ne-eqb (unreadIn input) 0 (λ e. n (is ∙ e))) (subst (λ (k : ℕ). Put o 0 (lineFor k (Refused Unreadable)) p r) is w)
 
-  pub back-told : (b : Bool) → b ≡ opens input → b ≡ false → Put o 0 (lineFor 0 (Refused BadSettings)) p r → Put o 0 (releasesText input) p r
+  pub back-told : {r : ℕ} (b : Bool) → b ≡ opens input → b ≡ false → Put o 0 (lineFor 0 (Refused BadSettings)) p r → Put o 0 (releasesText input) p r
   unfolding releasesText
-  back-told b is n w = simp (sym is ∙ n) w
+  back-told {r} b is n w = simp (sym is ∙ n) w

@@ -1,5 +1,5 @@
 -- The run lends its whole journal, so the jobs that are read of it are the booked ones; the rest is `free-for-good` of the list of the run's steps.
-use mathlib.Core.List.{List}
+use mathlib.Core.List.{List, []}
 use mathlib.Core.Path.{_∙_, _≡_, ap, subst, sym}
 use Prim.Native.Nat.{_≤_, ℕ}
 use native.Mathlib.Omega.{arith}
@@ -13,14 +13,14 @@ use Rattle.ledger.proofs.Lending.{jobs-read}
 use Rattle.ledger.specs.Demand3.{bookedJob}
 use Rattle.ledger.specs.Freed.{Freed, freedIn, freedTapes}
 use Rattle.ledger.specs.Register.{newRegister}
-use Rattle.ledger.specs.State.{versionOf}
-use Rattle.ledger.specs.Worlds.{World, afterAll}
+use Rattle.ledger.specs.State.{newLedger, versionOf}
+use Rattle.ledger.specs.Worlds.{World}
 use Rattle.ledger.specs.declared.Ledger.{Ledger}
 use Rattle.record.specs.declared.Job.{Job}
-use Rattle.release_file.specs.Releases.{ListsFreed, freedAt}
+use Rattle.release_file.specs.Releases.{ListsFreed}
 use Rattle.runfile.proofs.History.{lent-whole, opens-lawful, run-keeps}
-use Rattle.runfile.specs.History.{begun, events, finalRun, steps, worldOf, worldWith}
-use Rattle.runfile.specs.Run.{Run, versionIn}
+use Rattle.runfile.specs.History.{begun, events, finalRun, steps, worldWith}
+use Rattle.runfile.specs.Run.{opened, versionIn}
 use Rattle.runfile.specs.Steps.{wordAt}
 
 -- the booked bytes are the first of the journal
@@ -38,6 +38,7 @@ module _ (l : Ledger) (journal : List ℕ) (whole : length (take (placeOf (versi
       ∙ jobs-read (versionOf l) (l .booked) (length journal) (take end journal) (drop end journal) whole (subst (λ (j : List ℕ). end ≤ length j) (sym e) inside)
 
 pub lists-freed : ListsFreed
+unfolding opened newLedger
 lists-freed input o =
     let r = finalRun input in
     let there = run-keeps input o .world in

@@ -49,18 +49,18 @@ pub record RanOut (input : List ℕ) (l : Ledger) (journal : List ℕ) : Type 0 
   pub passes : wholeGate l journal ≡ Pass
 
 -- ---- the list of a run is that of the world to which its steps lead, and of no other, so that all is true of it that is proved of that
+abbrev pub worldAfter : List ℕ → World
+worldAfter input = afterAll (begun input) (events (steps input))
+
+abbrev pub registerAfter : List ℕ → Register
+registerAfter input = feedAll (newRegister (versionIn input)) (log (begun input) (events (steps input)))
+
 pub record Lists (input : List ℕ) : Type 0 where
-  abbrev pub world : World
-  world = afterAll (begun input) (events (steps input))
-
-  abbrev pub register : Register
-  register = feedAll (newRegister (versionIn input)) (log (begun input) (events (steps input)))
-
-  pub same : freedAt (finalRun input) ≡ freedIn world
-  pub free : Free world register
+  pub same : freedAt (finalRun input) ≡ freedIn (worldAfter input)
+  pub free : Free (worldAfter input) (registerAfter input)
   -- whatever steps follow, what is listed stays listed, and no tape with its label ever stands again
-  pub for-good : (more : List Event) (x : Freed) → In x (freedAt (finalRun input)) → In x (freedIn (afterAll world more))
-      × (In (x .tape .label) (labels (feedAll register (log world more) .standing)) → ⊥)
+  pub for-good : (more : List Event) (x : Freed) → In x (freedAt (finalRun input)) → In x (freedIn (afterAll (worldAfter input) more))
+      × (In (x .tape .label) (labels (feedAll (registerAfter input) (log (worldAfter input) more) .standing)) → ⊥)
 
 abbrev pub ListsFreed : Type 0
 ListsFreed = (input : List ℕ) → opens input ≡ true → Lists input

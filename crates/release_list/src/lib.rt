@@ -35,7 +35,10 @@ fn write_list(out: &mut [u8], ledger: Ledger, journal: &[u8]) -> Cursor
     let end = tapes::list_jobs(out, ledger, journal);
     let at = text::write_some(out, end.at, end.count);
     let at = text::write_byte(out, at, b'\n');
-    Cursor { at, count: end.count }
+    Cursor {
+        at,
+        count: end.count,
+    }
 }
 
 // The list of any ledger and any journal: checks 1 and 4, then a line for each input tape of each finished job, and a line with their number.

@@ -73,8 +73,20 @@ loop-holds c =
       buffer = search needs;
     }
 
+loop-again : tie.Need-loop-again Inv-loop μ-loop
+loop-again c = record {
+  going = search by;
+  ends = search by;
+  same-size = search by;
+  memo-size = search by;
+  numbers-size = search by;
+  sets-size = search by;
+  records-size = search by;
+  buffer = search by;
+}
+
 pub run-out-spec : {M : Type 1} → statement M
 run-out-spec =
     tie.close
     (tie.spec Inv-loop μ-loop (λ c. search by) (λ c κs. search by) loop-holds (λ c. search by) (λ c. search by) (λ c. search by) (λ c. search by)
-    (λ c. search by) (λ c κs. search by) (λ c. search by) (λ c. search by) (λ c. search by) (λ c. search by))
+    (λ c. search by) (λ c κs. search by) (λ c. search by) loop-again (λ c. search by) (λ c. search by))
