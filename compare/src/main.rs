@@ -94,8 +94,11 @@ fn near_each_edge(programs: &Programs) -> Result<(), String> {
     Ok(())
 }
 
-/// Compares on one case; the reference's lines if both agree.
-type Comparison<'a> = dyn Fn(&Case, &mut Buffer) -> Result<Vec<Line>, String> + Sync + 'a;
+/// The reference's lines and its release list.
+type Printed = (Vec<Line>, Vec<u8>);
+
+/// Compares on one case; what the reference prints if both agree.
+type Comparison<'a> = dyn Fn(&Case, &mut Buffer) -> Result<Printed, String> + Sync + 'a;
 
 /// Where in the list the cases differ, and how.
 type Difference = (usize, String);
@@ -138,35 +141,38 @@ fn share(
         if i > first_wrong.load(Ordering::Relaxed) {
             break;
         }
-        let lines = comparison(&cases[i], &mut out).map_err(|difference| {
+        let (lines, list) = comparison(&cases[i], &mut out).map_err(|difference| {
             first_wrong.fetch_min(i, Ordering::Relaxed);
             (i, difference)
         })?;
         if let Case::Seed(_) = cases[i] {
             tally.count(&lines);
+            tally.count_list(&list);
         }
     }
     Ok(tally)
 }
 
-fn in_process(case: &Case, out: &mut Buffer) -> Result<Vec<Line>, String> {
+fn in_process(case: &Case, out: &mut Buffer) -> Result<Printed, String> {
     let file = case.file();
     let ran = reference_run(case, &file)?;
     let found = out.text(&file).map_err(|why| report(case, &why))?;
     agree(case, &print(&ran.lines), found)?;
+    let list = releases(&ran);
     let found = out.releases(&file).map_err(|why| report(case, &why))?;
-    agree(case, &releases(&ran), found)?;
-    Ok(ran.lines)
+    agree(case, &list, found)?;
+    Ok((ran.lines, list))
 }
 
-fn as_process(programs: &Programs, case: &Case) -> Result<Vec<Line>, String> {
+fn as_process(programs: &Programs, case: &Case) -> Result<Printed, String> {
     let file = case.file();
     let ran = reference_run(case, &file)?;
     let found = process::text(programs.custody, &file).map_err(|why| report(case, &why))?;
     agree(case, &print(&ran.lines), &found)?;
+    let list = releases(&ran);
     let found = process::text(programs.list, &file).map_err(|why| report(case, &why))?;
-    agree(case, &releases(&ran), &found)?;
-    Ok(ran.lines)
+    agree(case, &list, &found)?;
+    Ok((ran.lines, list))
 }
 
 /// The reference's run; its register may stop it, loudly.

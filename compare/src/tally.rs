@@ -55,6 +55,7 @@ pub struct Tally {
     accepted: Counts,
     shows: Counts,
     largest_generation: u64,
+    tapes: u64,
 }
 
 impl Default for Tally {
@@ -68,6 +69,7 @@ impl Default for Tally {
             // Open, certified, finished.
             shows: Counts::new("show gave", 0..=2),
             largest_generation: 0,
+            tapes: 0,
         }
     }
 }
@@ -79,6 +81,11 @@ impl Tally {
         for line in lines {
             self.count_line(line);
         }
+    }
+
+    /// A release list; the last line is no tape, and of half a file the only one.
+    pub fn count_list(&mut self, list: &[u8]) {
+        self.tapes += list.iter().filter(|byte| **byte == b'\n').count() as u64 - 1;
     }
 
     fn count_line(&mut self, line: &Line) {
@@ -102,6 +109,7 @@ impl Tally {
         self.accepted.add(&other.accepted);
         self.shows.add(&other.shows);
         self.largest_generation = self.largest_generation.max(other.largest_generation);
+        self.tapes += other.tapes;
     }
 
     fn counts(&self) -> [&Counts; 3] {
@@ -114,13 +122,16 @@ impl Tally {
             counts.print();
         }
         println!("largest generation: {}", self.largest_generation);
+        println!("tapes on release lists: {}", self.tapes);
     }
 
     /// What should have occurred and did not.
     pub fn missing(&self) -> Vec<String> {
+        let tapes = (self.tapes == 0).then(|| "a tape on a release list".to_string());
         self.counts()
             .into_iter()
             .flat_map(Counts::missing)
+            .chain(tapes)
             .collect()
     }
 }
@@ -143,7 +154,9 @@ mod tests {
         assert_eq!(tally.refusals.times[&99], 1);
         assert_eq!(tally.accepted.times[&200], 1);
         assert_eq!(tally.shows.times[&9], 1);
-        let expected = REFUSALS as usize + KINDS.len() - 1 + 3;
+        let expected = REFUSALS as usize + KINDS.len() - 1 + 3 + 1;
         assert_eq!(tally.missing().len(), expected);
+        tally.count_list(b"VAA001L5 5 1\n1\n");
+        assert_eq!(tally.missing().len(), expected - 1);
     }
 }
