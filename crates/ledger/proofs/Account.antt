@@ -316,7 +316,13 @@ books-enter r bytes b =
           let c = o .made in
           record {
             creator = o .creator;
-            made = record { earlier = c .earlier; later = c .later; split = c .split; before = c .before; makes = rw (e (o .creator) (creator-in o)) (c .makes) };
+            made = record {
+              earlier = c .earlier;
+              later = c .later;
+              split = c .split;
+              before = c .before;
+              makes = rw (e (o .creator) (creator-in o)) (c .makes);
+            };
             only = λ i p q. o .only i p (rw (e i p) at q);
           };
       once = b .once;

@@ -199,7 +199,8 @@ module _ {w : World} {r : Register} (i : Inv w r) where
         (in-map (λ (t : Entry). t .label) (inputTapes (tabled (r .table) (x .job))) (x .tape) p)) (h .input);
     once = booked-jobs (λ job. Distinct (labelsOf l job (freedFrom l job 0 (l .booked))))
         (freed-once l (tabled (r .table))
-        (λ k f. distinct-left (labels (inputTapes (tabled (r .table) k))) (labels (outputTapes (tabled (r .table) k))) (labels-once k (finished-taken k (reflect-finished l k .sound f))))
+        (λ k f. distinct-left (labels (inputTapes (tabled (r .table) k))) (labels (outputTapes (tabled (r .table) k)))
+        (labels-once k (finished-taken k (reflect-finished l k .sound f))))
         (λ j k x f g ne. certified-apart (i .safe) (tally i) j k (finished-certified i j (reflect-finished l j .sound f))
         (finished-certified i k (reflect-finished l k .sound g)) ne .inputs x) (l .booked) 0);
     copied = λ k t f. booked-jobs (λ job. In t (outputTapes (job k)) → In t (r .standing) ⊎ Retired job r k t)

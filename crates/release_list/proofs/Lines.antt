@@ -100,7 +100,8 @@ entry-skipped o c k j e u q f = rw (sym q ∙ f) (listed-none o c)
 
 module _ {o p : List ℕ} {c d : Cursor} (k : ℕ) (j : Job) (e : ℕ) (a : Listed o c (ofJob k (usedFrom j 0 e)) p d) where
   pub inputs-on : {q : List ℕ} {f : Cursor} → Listed p d (ofJob k (usedFrom j e 1)) q f → Listed o c (ofJob k (usedFrom j 0 (e + 1))) q f
-  inputs-on {q} {f} b = subst (λ (xs : List Freed). Listed o c xs q f) (sym (job-on k j e)) (listed-on (ofJob k (usedFrom j 0 e)) (ofJob k (usedFrom j e 1)) a b)
+  inputs-on {q} {f} b =
+      subst (λ (xs : List Freed). Listed o c xs q f) (sym (job-on k j e)) (listed-on (ofJob k (usedFrom j 0 e)) (ofJob k (usedFrom j e 1)) a b)
 
   pub inputs-room : (d .at ≤ c .at + 25 * e) × (d .count ≤ c .count + e)
   inputs-room = let few = job-few k j 0 e in (omega (arith, few, a .short), omega (arith, few, a .counted))
@@ -145,7 +146,8 @@ record-job version journal part booked k j p e =
     e ∙ ap (λ (x : List ℕ). jobOf (take (recordSize version) x)) p
     ∙ by-cases (λ b. jobOf (take (recordSize version) (cond b (take (recordSize version) (drop (placeOf version k) journal)) []))
     ≡ jobOf (cond b (take (recordSize version) (drop (placeOf version k) journal)) [])) (isBooked version journal booked k)
-    (λ q. ap jobOf (take-take (recordSize version) (recordSize version) (drop (placeOf version k) journal) (le-refl (recordSize version)))) (λ q. ap jobOf (take-nil (recordSize version)))
+    (λ q. ap jobOf (take-take (recordSize version) (recordSize version) (drop (placeOf version k) journal) (le-refl (recordSize version))))
+    (λ q. ap jobOf (take-nil (recordSize version)))
 
 pub job-listed : {o p : List ℕ} {c d : Cursor} (s : Settings) (votes : Votes) (journal part : List ℕ) (booked k : ℕ) (j : Job) (b : Bool)
     → b ≡ leb (thresholdOf s) (ones (votes .acknowledgements)) → b ≡ true → part ≡ recordAt (s .version) journal booked k → j ≡ frontJob (s .version) part

@@ -84,8 +84,10 @@ fn list_job(
     booked: usize,
     k: usize,
 ) -> Cursor
-    requires { ⌜ (k < 128) × Booked (settings .version) (now journal) booked k × (cursor .count < 999000) × (cursor .at + 4 * longestTape ≤ length (now out)) ⌝ }
-    ensures { λ r. ⌜ Listed (now (out .entry)) cursor (freedWith settings votes (jobAt (settings .version) (now (journal .entry)) booked k) k) (now (out .exit)) r ⌝ }
+    requires { ⌜ (k < 128) × Booked (settings .version) (now journal) booked k × (cursor .count < 999000)
+        × (cursor .at + 4 * longestTape ≤ length (now out)) ⌝ }
+    ensures { λ r. ⌜ Listed (now (out .entry)) cursor (freedWith settings votes (jobAt (settings .version) (now (journal .entry)) booked k) k)
+        (now (out .exit)) r ⌝ }
 {
     if is_finished(settings, votes.acknowledgements) {
         let version = settings.version;

@@ -39,7 +39,8 @@ same-end : {input : List ℕ} {p q : Progress} {journal before journal′ number
 same-end a e = sym (a .ends) ∙ e
 
 -- nothing is left to read
-ran-out : {input : List ℕ} {p : Progress} {journal₀ journal memo numbers sets records out : List ℕ} → Turn input p journal₀ journal memo numbers sets records out
+ran-out : {input : List ℕ} {p : Progress} {journal₀ journal memo numbers sets records out : List ℕ}
+    → Turn input p journal₀ journal memo numbers sets records out
     → length input ≤ p .pos → RanOut input (p .ledger) journal
 ran-out {input} {p} {journal₀} {journal} t h =
     let e = sym (none-after input (runOf p journal) h) ∙ t .ends in

@@ -32,7 +32,9 @@ returns c =
     let l = c .before .before .before .before .loop in
     let t = c .before .before .before .loop-test .taken in
     let kind = c .before .before .step-at .ensures .kind-is in
-    (sym (l .inv .1 .1 .1 ∙ first-unread _ _ (l .pos) (l .count) t (l .inv .0) _ kind (sym (c .before .is-unknown .ensures) ∙ c .if1 .taken)), omega (arith, l .inv .0, l .inv .1 .0, l .inv .1 .1 .0))
+    let unknown = sym (c .before .is-unknown .ensures) ∙ c .if1 .taken in
+    let bounded = omega (arith, l .inv .0, l .inv .1 .0, l .inv .1 .1 .0) in
+    (sym (l .inv .1 .1 .1 ∙ first-unread _ _ (l .pos) (l .count) t (l .inv .0) _ kind unknown), bounded)
 
 loop-less : tie.Need-loop-less Inv-loop μ-loop
 loop-less c =

@@ -44,7 +44,8 @@ loop-again c =
     let l = c .before .before .before .before .before .before .before .loop in
     let a = c .before .before .before .before .before .before .before .before .before .before .args in
     let listed = c .before .before .list-job .ensures in
-    (search needs, (jobs-on (a .t2) (jobAt (versionOf (a .t2)) (now (a .journal)) (a .t2 .booked)) (l .k) (l .inv .1 .0) listed, (search needs, l .inv .1 .1 .1)))
+    let all = jobs-on (a .t2) (jobAt (versionOf (a .t2)) (now (a .journal)) (a .t2 .booked)) (l .k) (l .inv .1 .0) listed in
+    (search needs, (all, (search needs, l .inv .1 .1 .1)))
 
 returns : tie.Need-returns Inv-loop μ-loop
 returns c =
