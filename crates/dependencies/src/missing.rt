@@ -63,7 +63,7 @@ fn supply(
     requires { ⌜ (job < booked) × IndexedEntries version (now journal) booked (now numbers) (now sets) ⌝ }
     ensures { λ r. ⌜ r ≡ supplying state elsewhere version (now (journal .entry)) booked job ⌝ }
 {
-    let jobs = index::missing(
+    let jobs = queries::missing(
         numbers,
         sets,
         version,
@@ -75,7 +75,7 @@ fn supply(
     );
     let held = state.held.union(jobs);
     let others = state.signed.without(job);
-    let admission = index::admission(numbers, sets, version, journal, booked, held, others, job);
+    let admission = queries::admission(numbers, sets, version, journal, booked, held, others, job);
     if_admitted(admission, jobs)
 }
 

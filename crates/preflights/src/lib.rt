@@ -28,7 +28,7 @@ fn admission_at(
     ensures { λ r. ⌜ r ≡ admissionAt state version (now (journal .entry)) booked job ⌝ }
 {
     let others = state.signed.without(job);
-    index::admission(
+    queries::admission(
         numbers,
         sets,
         version,
