@@ -65,7 +65,7 @@ pub fn propose(
         return decisions::refuse(Refusal::Malformed);
     }
     let job = codec::read(version, bytes);
-    let verdict = checks::check(job);
+    let verdict = examination::check(job);
     match verdict {
         Verdict::Pass => settle(records, version, journal, booked, bytes, job),
         Verdict::Fail(why) => decisions::refuse(why),
