@@ -2,10 +2,10 @@
 use borrow.Author.Needs.{needs}
 use native.Mathlib.Omega.{arith}
 use Rattle.record.proofs.Eight.{length-mapped}
 use Rattle.codec.proofs.RoundTrip.{entries-fit, same-job}
 use Rattle.codec.proofs.Sizes.{size-most}
-use Rattle.codec.proofs.reread.Statement.{statement}
-use Rattle.codec.proofs.reread.Tie as tie
+use Rattle.round_trips.proofs.reread.Statement.{statement}
+use Rattle.round_trips.proofs.reread.Tie as tie
 use mathlib.Core.Path.{_≡_, _∙_}
 use lib.ListN.{length}
 

@@ -1,8 +1,8 @@
 -- The arrays have the length of the version's records.
 use borrow.Author.Needs.{needs}
-use Rattle.codec.proofs.rewrite_second.Statement.{statement}
+use Rattle.round_trips.proofs.rewrite_second.Statement.{statement}
 use Rattle.codec.specs.Codec.{recordSize, saysTrimmed}
-use Rattle.codec.proofs.rewrite_second.Tie as tie
+use Rattle.round_trips.proofs.rewrite_second.Tie as tie
 
 pub rewrite-second-spec : {M : Type 1} → statement M
 unfolding recordSize saysTrimmed

@@ -3,10 +3,10 @@ use mathlib.Core.Path.{_≡_}
 use native.Mathlib.Omega.{arith}
 use lib.ListN.{length}
 use borrow.Author.Needs.{needs}
 use Rattle.codec.proofs.Jobs.{front-eight}
 use Rattle.codec.proofs.RoundTrip.{same-bytes}
-use Rattle.codec.proofs.again.Statement.{statement}
-use Rattle.codec.proofs.again.Tie as tie
+use Rattle.round_trips.proofs.again.Statement.{statement}
+use Rattle.round_trips.proofs.again.Tie as tie
 
 returns : tie.Need-returns
 returns c =
