@@ -1,15 +1,15 @@
 // What a step decides, from the pieces that it names: the verdict of the checks before, a vault, the votes on a job. The ledger's
 // operations and the run share these functions, and those of the crates above for the kinds that need more.
+mod listings;
+
 ghost use mathlib.Core.Path.{_≡_};
 ghost use Rattle.ledger.specs.Decisions.{
   refusing,
   answering,
   voting,
   gated,
-  listing,
   snapshotting,
   statusOf,
-  unlisted,
 };
 ghost use Rattle.ledger.specs.Steps.{gateOf};
 ghost use Rattle.vaults.specs.Votes.{columnOf};
@@ -17,7 +17,8 @@ ghost use Rattle.ledger.specs.declared.Change.the-variants.{Record};
 use federation::Settings;
 use ledger::Change;
 use ledger::Decision;
-use ledger::Listing;
+pub use listings::list;
+pub use listings::unlist;
 use outcome::Outcome;
 use outcome::Refusal;
 use outcome::Verdict;
@@ -40,25 +41,6 @@ pub fn answer(value: u32) -> Decision
     Decision {
         outcome: Outcome::Done(value),
         change: Change::Nothing,
-    }
-}
-
-// The value is how many are listed.
-pub fn list(jobs: JobSet) -> Listing
-    ensures { λ r. ⌜ r ≡ listing jobs ⌝ }
-{
-    Listing {
-        outcome: Outcome::Done(jobs.count()),
-        members: jobs,
-    }
-}
-
-pub fn unlist(why: Refusal) -> Listing
-    ensures { λ r. ⌜ r ≡ unlisted why ⌝ }
-{
-    Listing {
-        outcome: Outcome::Refused(why),
-        members: JobSet::empty(),
     }
 }
 

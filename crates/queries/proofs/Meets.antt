@@ -43,7 +43,9 @@ module _ (job : ℕ → Job) (n : ℕ) (numbers sets : List ℕ) (t : Entered jo
     (used : isUsed (job k) e ≡ true) (s : JobSet) (w : InWords s) where
   pub listers-meet : (kind : ℕ) → kind < 2 → jobsMeet (setOf numbers sets (8 * k + e) kind) s ≡ listedBy job n (4 * kind) s (labelOf (job k) e)
   unfolding listedBy listsAt
-  listers-meet kind l = set-meets _ s n (λ j. labelIn (4 * kind) (job j) (labelOf (job k) e)) few w (λ j. label-has job n numbers sets t few k e lk le used kind j l)
+  listers-meet kind l =
+      set-meets _ s n (λ j. labelIn (4 * kind) (job j) (labelOf (job k) e)) few w
+      (λ j. label-has job n numbers sets t few k e lk le used kind j l)
 
   pub makers-meet : jobsMeet (setOf numbers sets (places + 8 * k + e) 2) s ≡ madeBy job n s (labelOf (job k) e) (framesOf (job k) e)
   unfolding madeBy makesAt

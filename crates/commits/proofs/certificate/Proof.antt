@@ -1,3 +1,4 @@
+-- Each return is one way through checks 15 and 16.
 use Rattle.commits.proofs.certificate.Statement.{statement}
 use Rattle.commits.proofs.certificate.Tie as tie
 use Rattle.ledger.specs.Decisions.{certificate}

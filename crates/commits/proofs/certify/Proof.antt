@@ -1,3 +1,4 @@
+-- By the certificate's verdict.
 use Rattle.commits.proofs.certify.Statement.{statement}
 use Rattle.commits.proofs.certify.Tie as tie
 use Rattle.ledger.specs.Decisions.{committing}

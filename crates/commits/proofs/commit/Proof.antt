@@ -1,3 +1,4 @@
+-- An open gate lets the commit through to the certificate, a shut one refuses.
 use Rattle.commits.proofs.commit.Statement.{statement}
 use Rattle.commits.proofs.commit.Tie as tie
 use borrow.Author.Needs.{needs}

@@ -1,3 +1,4 @@
+-- By whether the job is held already.
 use Rattle.commits.proofs.receive.Statement.{statement}
 use Rattle.commits.proofs.receive.Tie as tie
 use Rattle.ledger.specs.Decisions.{receiving}

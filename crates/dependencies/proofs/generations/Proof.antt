@@ -1,3 +1,4 @@
+-- By check 18. A refusal leaves the memo as it was, which was right.
 use Rattle.dependencies.proofs.generations.Statement.{statement}
 use Rattle.dependencies.proofs.generations.Tie as tie
 use Rattle.ledger.specs.Decisions.{ageing}

@@ -1,3 +1,4 @@
+-- By whether the vault is faulty.
 use Rattle.dependencies.proofs.holds.Statement.{statement}
 use Rattle.dependencies.proofs.holds.Tie as tie
 use borrow.Author.Needs.{needs}

@@ -1,3 +1,4 @@
+-- The vault's answer to the verdict, decided.
 use Rattle.preflights.proofs.consent.Statement.{statement}
 use Rattle.preflights.proofs.consent.Tie as tie
 use Rattle.ledger.specs.Decisions.{consent}

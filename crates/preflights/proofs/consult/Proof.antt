@@ -1,3 +1,4 @@
+-- A job that is signed is answered before checks 11 to 14 are looked at, as the vault's own preflight would.
 use Rattle.preflights.proofs.consult.Statement.{statement}
 use Rattle.preflights.proofs.consult.Tie as tie
 use Rattle.ledger.specs.Decisions.{consent, preflighting}

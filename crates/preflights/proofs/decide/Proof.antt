@@ -1,3 +1,4 @@
+-- By the vault's answer.
 use Rattle.preflights.proofs.decide.Statement.{statement}
 use Rattle.preflights.proofs.decide.Tie as tie
 use borrow.Author.Needs.{needs}

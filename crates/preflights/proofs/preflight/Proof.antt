@@ -1,3 +1,4 @@
+-- An open gate lets the preflight through to the vault, a shut one refuses.
 use Rattle.preflights.proofs.preflight.Statement.{statement}
 use Rattle.preflights.proofs.preflight.Tie as tie
 use borrow.Author.Needs.{needs}

@@ -1,3 +1,4 @@
+-- Each return is one way through the two tests, of an equal and of room.
 use Rattle.base.proofs.Tests.{chain}
 use Rattle.proposals.proofs.place.Statement.{statement}
 use Rattle.proposals.proofs.place.Tie as tie

@@ -1,3 +1,4 @@
+-- The equal is sought among the records that lie inside, of which the index is.
 use Prim.Native.Nat.{_≤_, ℕ}
 use Rattle.index.specs.Index.{IndexedRecords}
 use Rattle.journal.specs.Journal.{equalIn, insideOf}

@@ -1,3 +1,4 @@
+-- Each return is one way through the three tests of check 20.
 use Rattle.releases.proofs.is_superseded.Statement.{statement}
 use Rattle.releases.proofs.is_superseded.Tie as tie
 use Rattle.ledger.specs.Decisions.{supersededAt}

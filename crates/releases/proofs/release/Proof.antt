@@ -1,3 +1,4 @@
+-- An open gate lets the release through to the checks, a shut one refuses.
 use Rattle.releases.proofs.release.Statement.{statement}
 use Rattle.releases.proofs.release.Tie as tie
 use borrow.Author.Needs.{needs}

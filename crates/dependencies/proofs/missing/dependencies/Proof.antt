@@ -1,3 +1,4 @@
+-- An open gate lets the question through, a shut one lists nothing.
 use Rattle.dependencies.proofs.missing.dependencies.Statement.{statement}
 use Rattle.dependencies.proofs.missing.dependencies.Tie as tie
 use borrow.Author.Needs.{needs}

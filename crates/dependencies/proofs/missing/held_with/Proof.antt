@@ -1,3 +1,4 @@
+-- By whether the vault is faulty.
 use Rattle.dependencies.proofs.missing.held_with.Statement.{statement}
 use Rattle.dependencies.proofs.missing.held_with.Tie as tie
 use borrow.Author.Needs.{needs}

@@ -1,3 +1,4 @@
+-- By the verdict of checks 11 to 14.
 use Rattle.dependencies.proofs.missing.if_admitted.Statement.{statement}
 use Rattle.dependencies.proofs.missing.if_admitted.Tie as tie
 use borrow.Author.Needs.{needs}

@@ -1,3 +1,4 @@
+-- A signed job needs nothing; of any other the missing jobs are sought among what correct vaults hold.
 use Rattle.dependencies.proofs.missing.require.Statement.{statement}
 use Rattle.dependencies.proofs.missing.require.Tie as tie
 use Rattle.ledger.specs.Decisions.{requiring}

@@ -1,3 +1,4 @@
+-- The missing jobs join the held ones, and checks 11 to 14 are asked with both.
 use Rattle.dependencies.proofs.missing.supply.Statement.{statement}
 use Rattle.dependencies.proofs.missing.supply.Tie as tie
 use Rattle.ledger.specs.Decisions.{admissionAt, receivingAll, supplying}

@@ -1,5 +1,6 @@
-use Rattle.decisions.proofs.unlist.Statement.{statement}
-use Rattle.decisions.proofs.unlist.Tie as tie
+-- Nothing is listed: the set is the empty one.
+use Rattle.decisions.proofs.listings.unlist.Statement.{statement}
+use Rattle.decisions.proofs.listings.unlist.Tie as tie
 use borrow.Author.Needs.{needs}
 
 returns : tie.Need-returns

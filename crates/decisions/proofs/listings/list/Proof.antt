@@ -1,5 +1,6 @@
-use Rattle.decisions.proofs.list.Statement.{statement}
-use Rattle.decisions.proofs.list.Tie as tie
+-- The value counts what is listed.
+use Rattle.decisions.proofs.listings.list.Statement.{statement}
+use Rattle.decisions.proofs.listings.list.Tie as tie
 use borrow.Author.Needs.{needs}
 
 returns : tie.Need-returns
