@@ -96,7 +96,7 @@ pub(crate) fn release(
         journal,
         booked,
     );
-    releases::release(
+    supersession::release(
         Verdict::Pass,
         state,
         &numbers,

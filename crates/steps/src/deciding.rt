@@ -116,7 +116,7 @@ pub(crate) fn decide(
         },
         Kind::Generations => decisions::refuse(Refusal::NotHeld),
         Kind::Snapshot => decisions::snapshot(view.settings, view.next, view.seen, view.turn.held),
-        Kind::Release => releases::release(
+        Kind::Release => supersession::release(
             gate(view.settings, booked, journal, vault, false, j),
             view.state,
             numbers,

@@ -1,6 +1,6 @@
 -- By the verdict of checks 4, 19 and 20.
-use Rattle.releases.proofs.give_up.Statement.{statement}
-use Rattle.releases.proofs.give_up.Tie as tie
+use Rattle.supersession.proofs.give_up.Statement.{statement}
+use Rattle.supersession.proofs.give_up.Tie as tie
 use Rattle.ledger.specs.Decisions.{releasing}
 use borrow.Author.Needs.{needs}
 

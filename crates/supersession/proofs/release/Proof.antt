@@ -1,6 +1,6 @@
 -- An open gate lets the release through to the checks, a shut one refuses.
-use Rattle.releases.proofs.release.Statement.{statement}
-use Rattle.releases.proofs.release.Tie as tie
+use Rattle.supersession.proofs.release.Statement.{statement}
+use Rattle.supersession.proofs.release.Tie as tie
 use borrow.Author.Needs.{needs}
 
 give-up-requires : tie.Need-give-up-requires

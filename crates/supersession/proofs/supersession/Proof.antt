@@ -1,6 +1,6 @@
 -- Each return is one way through check 4 of the rival, 19 and 20.
-use Rattle.releases.proofs.supersession.Statement.{statement}
-use Rattle.releases.proofs.supersession.Tie as tie
+use Rattle.supersession.proofs.supersession.Statement.{statement}
+use Rattle.supersession.proofs.supersession.Tie as tie
 use Rattle.journal.proofs.Booked.{reflect-booked}
 use Rattle.ledger.specs.Decisions.{supersession}
 use borrow.Author.Needs.{needs}

@@ -1,6 +1,6 @@
 -- Each return is one way through the three tests of check 20.
-use Rattle.releases.proofs.is_superseded.Statement.{statement}
-use Rattle.releases.proofs.is_superseded.Tie as tie
+use Rattle.supersession.proofs.is_superseded.Statement.{statement}
+use Rattle.supersession.proofs.is_superseded.Tie as tie
 use Rattle.ledger.specs.Decisions.{supersededAt}
 use borrow.Author.Needs.{needs}
 use borrow.Author.Tests.{eq-eqb, ne-eqb}
