@@ -3,7 +3,7 @@ ghost use mathlib.Core.Path.{_≡_};
 ghost use Prim.Native.Nat.{_+_, _*_, _≤_, _<_, _^_};
 ghost use lib.ListN.{length, getD, take};
 ghost use lib.Seq.{sets};
-ghost use Rattle.codec.specs.Codec.{leAt, leBytes, entryAt, entryBytes, jobOf, frontJob, bodyOf, fitsRecord, written, saidOf};
+ghost use Rattle.codec.specs.Codec.{leAt, leBytes, entryAt, entryBytes, jobOf, frontJob, bodyOf, fitsRecord, written};
 ghost use Rattle.codec.specs.Codec.{saysTrimmed, recordSize, placeOf, wholeIn};
 ghost use Rattle.record.specs.Entries.{noEntry};
 use record::Entry;
@@ -226,33 +226,4 @@ pub fn write(version: u16, job: Job, out: &mut [u8]) -> bool
         return true;
     }
     true
-}
-
-// The job's record, read again: it says the same job, but for frames trimmed where the version has no place for them.
-pub fn reread(version: u16, job: Job) -> Job
-    ensures { λ r. ⌜ r ≡ saidOf version job ⌝ }
-{
-    let mut bytes = [0u8; LONGEST];
-    write(version, job, &mut bytes);
-    read(version, &bytes)
-}
-
-fn again(version: u16, bytes: &[u8], out: &mut [u8])
-    requires { ⌜ (length (now bytes) ≡ recordSize version) × (length (now out) ≡ recordSize version) ⌝ }
-    ensures { λ _. ⌜ now (out .exit) ≡ now (bytes .entry) ⌝ }
-{
-    write(version, read(version, bytes), out);
-}
-
-// The record of the job that the bytes say: it is the same bytes, in version 1 and in version 2.
-pub fn rewrite_first(bytes: &[u8; 100], out: &mut [u8; 100])
-    ensures { λ _. ⌜ now (out .exit) ≡ now (bytes .entry) ⌝ }
-{
-    again(1, bytes, out);
-}
-
-pub fn rewrite_second(bytes: &[u8; 104], out: &mut [u8; 104])
-    ensures { λ _. ⌜ now (out .exit) ≡ now (bytes .entry) ⌝ }
-{
-    again(2, bytes, out);
 }

@@ -73,7 +73,7 @@ pub(crate) fn check(e: Estimate) -> Verdict
 {
     let job = lowest_job(e);
     if all_bounded(e, job) {
-        return without_balance(checks::check(job));
+        return without_balance(examination::check(job));
     }
     Verdict::Fail(Refusal::Malformed)
 }

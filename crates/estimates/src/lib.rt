@@ -2,9 +2,7 @@
 ghost use mathlib.Core.Path.{_≡_};
 ghost use Rattle.ranges.specs.Tighten.{firstFailing, checksOf, tightenOf};
 
-mod ends;
 mod form;
-mod spans;
 
 use outcome::Outcome;
 use outcome::Verdict;
@@ -42,7 +40,7 @@ pub fn tighten(e: Estimate) -> Tightened
             }
         }
         Verdict::Pass => {
-            let ranges = ends::tightest(e);
+            let ranges = tightening::tightest(e);
             Tightened {
                 outcome: Outcome::Done(0),
                 ranges,

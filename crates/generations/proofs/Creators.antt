@@ -21,8 +21,8 @@ use Rattle.record.specs.Entries.{isUsed}
 use Rattle.record.specs.declared.Job.{Job}
 use Rattle.journal.specs.Journal.{isBooked, jobAt, recordAt}
 use Rattle.index.proofs.Books.{entered-booked}
-use Rattle.index.proofs.Meets.{tables, tape-has}
-use Rattle.index.specs.Checks.{Tables, setOf}
+use Rattle.index.proofs.Numbers.{tables, tape-has}
+use Rattle.index.specs.Sets.{Tables, setOf}
 use Rattle.index.specs.Places.{Entered, places, slotJob}
 use Rattle.generations.proofs.Ages.{lt-or-le, none-from}
 use Rattle.generations.specs.Generations.{along, createdAt, creatorOf, generationAt}

@@ -15,22 +15,17 @@ use Rattle.codec.specs.Codec.{jobOf, placeOf, recordSize}
 use Rattle.record.specs.Entries.{framesOf, isUsed, labelOf}
 use Rattle.record.specs.declared.Job.{Job}
 use Rattle.journal.proofs.Putting.{put-length, slot-before}
-use Rattle.journal.specs.Journal.{capacity, jobAt, putAt, recordAt}
-use Rattle.outcome.specs.declared.Verdict.{Verdict}
-use Rattle.sets.specs.Jobs.{InWords}
-use Rattle.sets.specs.declared.job_set.JobSet.{JobSet}
-use Rattle.index.proofs.Admits.{by-index}
+use Rattle.journal.specs.Journal.{capacity, jobAt, putAt}
 use Rattle.index.proofs.Begins.{entered-new, label-alike, number-alike, used-alike}
 use Rattle.index.proofs.Books.{entered-booked}
 use Rattle.index.proofs.Enters.{marked-next, marked-same, numbered-next, numbered-same, place-frames, place-label, place-used}
 use Rattle.index.proofs.Files.{filed-new, filed-next}
-use Rattle.index.specs.Admission.{admission}
-use Rattle.index.specs.Checks.{Tables, admissionBy}
 use Rattle.index.specs.Entering.{Entries, numbersOf, numbersWith, setsOf, setsWith}
 use Rattle.index.specs.Index.{Blank, HasRecord, Indexed, IndexedEntries, IndexedRecords}
 use Rattle.index.specs.Places.{Entered, Numbered, Sought, UsedEntry, bucketOf, buckets, framesAt, isMatch}
 use Rattle.index.specs.Places.{labelAt, numberAt, numbersSize, places, setsSize, slotJob, usedAt}
 use Rattle.index.specs.Records.{Filed, recordsOf, recordsSize, recordsWith, sumOf}
+use Rattle.index.specs.Sets.{Tables}
 
 -- ---- what the tables of any jobs have
 module _ (job : ℕ → Job) where
@@ -159,16 +154,6 @@ module _ (version : ℕ) (journal : List ℕ) (n : ℕ) (numbers sets : List ℕ
 pub indexed-filed : (version : ℕ) (journal : List ℕ) (n : ℕ) (records : List ℕ) → IndexedRecords version journal n records → Filed
     (slotJob version journal) n records
 indexed-filed version journal n records t = rw (t .records-are) (tables-filed (slotJob version journal) n (t .few))
-
--- checks 11 to 14 of a booked job by the counts of its record
-pub admission-booked : (version : ℕ) (journal : List ℕ) (n : ℕ) (numbers sets : List ℕ) → IndexedEntries version journal n numbers sets
-    → (held others : JobSet) → InWords held → InWords others → (job inputs outputs : ℕ) (part : List ℕ) (r : Verdict) → job < n
-    → part ≡ recordAt version journal n job → inputs ≡ jobOf part .inputs → outputs ≡ jobOf part .outputs
-    → r ≡ admissionBy numbers sets inputs outputs held others job
-    → r ≡ admission (jobAt version journal n) n held others (jobAt version journal n job)
-unfolding jobAt
-admission-booked version journal n numbers sets t held others hw ow job inputs outputs part r l ep ei eo er =
-    er ∙ rw (ei, eo, ep) (by-index (jobAt version journal n) n numbers sets (indexed-booked version journal n numbers sets t) (t .few) job l held others hw ow)
 
 -- none, and one more
 pub indexed-none : (version : ℕ) (journal numbers sets records : List ℕ) → Blank numbers sets records → Indexed version journal 0 numbers sets records

@@ -24,7 +24,7 @@ use Rattle.sets.specs.Bits.{subsetOf}
 use Rattle.sets.specs.Jobs.{jobHas, jobWithout}
 use Rattle.ledger.proofs.Gates.{enters}
 use Rattle.ledger.proofs.Paper.{admission-signs, signs-admission}
-use Rattle.index.specs.Admission.{admission}
+use Rattle.queries.specs.Admission.{admission}
 use Rattle.federation.specs.Federation.{thresholdOf}
 use Rattle.ledger.specs.Graph.{Algorithm1}
 use Rattle.journal.specs.Journal.{jobAt}

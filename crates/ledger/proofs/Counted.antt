@@ -10,7 +10,7 @@ use Rattle.outcome.specs.declared.Verdict.{Verdict}
 use Rattle.outcome.specs.declared.Verdict.the-variants.{Fail, Pass}
 use Rattle.sets.specs.Bits.{hasBit}
 use Rattle.sets.specs.Jobs.{jobWithout}
-use Rattle.index.specs.Admission.{admission, consumedAt, notCreatedAt, remadeAt}
+use Rattle.queries.specs.Admission.{admission, consumedAt, notCreatedAt, remadeAt}
 use Rattle.journal.specs.Journal.{isBooked, jobAt}
 use Rattle.ledger.specs.Decisions.{admissionAt}
 use Rattle.ledger.specs.State.{isSane, versionOf}

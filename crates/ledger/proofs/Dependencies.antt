@@ -16,8 +16,8 @@ use Rattle.outcome.specs.declared.Refusal.the-variants.{NoSetWorks}
 use Rattle.outcome.specs.declared.Verdict.{Verdict}
 use Rattle.outcome.specs.declared.Verdict.the-variants.{Fail, Pass}
 use Rattle.conflicts.specs.Tapes.{outputTapes}
-use Rattle.index.specs.Admission.{admission}
-use Rattle.index.specs.Missing.{missingJobs}
+use Rattle.queries.specs.Admission.{admission}
+use Rattle.queries.specs.Missing.{missingJobs}
 use Rattle.journal.specs.Journal.{jobAt}
 use Rattle.record.specs.declared.Entry.{Entry}
 use Rattle.record.specs.declared.Job.{Job}

@@ -34,7 +34,7 @@ use Rattle.record.specs.Labels.{charAt, isAlphanumeric, isBetween, isLabel, med
 use Rattle.conflicts.specs.Tapes.{sameTape, usedFrom}
 use Rattle.sets.specs.Bits.{hasBit, subsetOf, withBit, withMember, withoutBit}
 use Rattle.sets.specs.Jobs.{jobHas, jobWith, jobWithout}
-use Rattle.index.specs.Admission.{admission, consumedAt, listedBy, listsAt, madeBefore, madeBy, makesAt, notCreatedAt, remadeAt}
+use Rattle.queries.specs.Admission.{admission, consumedAt, listedBy, listsAt, madeBefore, madeBy, makesAt, notCreatedAt, remadeAt}
 use Rattle.federation.specs.Federation.{isFederation, isKnown, isLawfulUpTo, thresholdOf}
 use Rattle.generations.specs.Generations.{ageIn, createdAt, creatorOf, generationAt, generationFrom, generationsBefore, highest}
 use Rattle.ledger.specs.Holders.{holdsAt, isHeld}

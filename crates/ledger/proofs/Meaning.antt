@@ -24,7 +24,7 @@ use Rattle.record.specs.declared.Entry.{Entry}
 use Rattle.record.specs.declared.Job.{Job}
 use Rattle.sets.specs.Jobs.{jobHas}
 use Rattle.sets.specs.declared.job_set.JobSet.{JobSet}
-use Rattle.index.specs.Admission.{admission, consumedAt, listedBy, listsAt, madeBefore, madeBy, makesAt, notCreatedAt, remadeAt}
+use Rattle.queries.specs.Admission.{admission, consumedAt, listedBy, listsAt, madeBefore, madeBy, makesAt, notCreatedAt, remadeAt}
 use Rattle.journal.proofs.Booked.{reflect-booked}
 use Rattle.journal.specs.Journal.{Booked, isBooked, jobAt}
 use Rattle.ledger.specs.Decisions.{supersededAt, supersession}

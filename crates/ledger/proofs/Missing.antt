@@ -16,8 +16,8 @@ use Rattle.base.specs.Search.{Some, anyBelow}
 use Rattle.conflicts.proofs.Tapes.{made-tape, tape-made}
 use Rattle.conflicts.specs.Conflicts.{makesTape}
 use Rattle.conflicts.specs.Tapes.{inputTapes, outputTapes}
-use Rattle.index.specs.Admission.{madeBy, notCreatedAt}
-use Rattle.index.specs.Missing.{isMissing, missingJobs, suppliesAt}
+use Rattle.queries.specs.Admission.{madeBy, notCreatedAt}
+use Rattle.queries.specs.Missing.{isMissing, missingJobs, suppliesAt}
 use Rattle.record.specs.Entries.{framesOf, isUsed, labelOf}
 use Rattle.record.specs.declared.Entry.{Entry}
 use Rattle.record.specs.declared.Job.{Job}

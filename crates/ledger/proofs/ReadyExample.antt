@@ -37,7 +37,7 @@ use Rattle.record.specs.Labels.{charAt, isAlphanumeric, isBetween, isLabel, med
 use Rattle.conflicts.specs.Tapes.{usedFrom}
 use Rattle.sets.specs.Bits.{hasBit, subsetOf, withBit, withMember, withoutBit}
 use Rattle.sets.specs.Jobs.{jobCount, jobHas, jobUnion, jobWith, jobWithout, noJobs}
-use Rattle.index.specs.Admission.{admission, consumedAt, listedBy, listsAt, madeBefore, madeBy, makesAt, notCreatedAt, remadeAt}
+use Rattle.queries.specs.Admission.{admission, consumedAt, listedBy, listsAt, madeBefore, madeBy, makesAt, notCreatedAt, remadeAt}
 use Rattle.federation.specs.Federation.{isFederation, isKnown, isLawfulUpTo, thresholdOf}
 use Rattle.journal.specs.Journal.{equalAt, equalIn, hasRoom, insideOf, isBooked, jobAt, putAt, recordAt, slotAt}
 use Rattle.generations.specs.Generations.{isAt}

@@ -45,8 +45,8 @@ use Rattle.quota.specs.Quota.{isClient, isSpent}
 use Rattle.sets.specs.Bits.{hasBit, subsetOf, withMember}
 use Rattle.sets.specs.Jobs.{jobCount, jobHas, noJobs}
 use Rattle.sets.specs.declared.job_set.JobSet.{JobSet}
-use Rattle.index.specs.Admission.{admission, consumedAt, notCreatedAt, remadeAt}
-use Rattle.index.specs.Missing.{missingJobs}
+use Rattle.queries.specs.Admission.{admission, consumedAt, notCreatedAt, remadeAt}
+use Rattle.queries.specs.Missing.{missingJobs}
 use Rattle.federation.specs.Federation.{thresholdOf}
 use Rattle.federation.specs.declared.Settings.{Settings}
 use Rattle.journal.specs.Journal.{isBooked, isWhole, jobAt}

@@ -27,7 +27,7 @@ use Rattle.checks.specs.Checks.{
 use Rattle.codec.specs.Codec.{entriesAt, entryAt, jobOf, leAt, placeOf, recordSize, saysTrimmed, wholeIn}
 use Rattle.conflicts.specs.Conflicts.{isLabelAt, isTapeAt, labelIn, makesTape}
 use Rattle.federation.specs.Federation.{isFederation, isKnown, isLawfulUpTo}
-use Rattle.index.specs.Admission.{admission, consumedAt, listedBy, listsAt, madeBefore, madeBy, makesAt, notCreatedAt, remadeAt}
+use Rattle.queries.specs.Admission.{admission, consumedAt, listedBy, listsAt, madeBefore, madeBy, makesAt, notCreatedAt, remadeAt}
 use Rattle.journal.specs.Journal.{equalAt, equalIn, hasRoom, insideOf, isBooked, jobAt, putAt, recordAt, slotAt}
 use Rattle.quota.specs.Asks.{AllOver, Ask}
 use Rattle.quota.specs.Quota.{historyPlace, isClient, isSpent, remembered}

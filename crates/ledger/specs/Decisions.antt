@@ -30,8 +30,8 @@ use Rattle.federation.specs.Federation.{thresholdOf}
 use Rattle.federation.specs.declared.Settings.{Settings}
 use Rattle.checks.specs.Checks.{examined}
 use Rattle.conflicts.specs.Conflicts.{conflicting}
-use Rattle.index.specs.Admission.{admission}
-use Rattle.index.specs.Missing.{missingJobs}
+use Rattle.queries.specs.Admission.{admission}
+use Rattle.queries.specs.Missing.{missingJobs}
 use Rattle.journal.specs.Journal.{equalIn, hasRoom, insideOf, isBooked, jobAt}
 use Rattle.ledger.specs.declared.Change.{Change}
 use Rattle.ledger.specs.declared.Change.the-variants.{Book, Count, Grant, Hold, Nothing, Record, Release, See, Sign}

@@ -6,7 +6,7 @@ ghost use Rattle.generations.specs.Generations.{ageIn};
 ghost use Rattle.journal.specs.Journal.{Booked, jobAt};
 ghost use Rattle.ledger.specs.Decisions.{ageing, clientPreflighting, preflighting, proposal, releasing, requiring};
 ghost use Rattle.codec.specs.Codec.{placeOf};
-ghost use Rattle.decisions.specs.Partners.{recordedIn};
+ghost use Rattle.equivocation.specs.Partners.{recordedIn};
 ghost use Rattle.ledger.specs.Equivocation.{equivocators};
 ghost use Rattle.ledger.specs.Holders.{heldSomewhere, isHeld};
 use federation::Settings;
@@ -33,7 +33,7 @@ pub(crate) fn propose(version: u16, journal: &[u8], booked: usize, bytes: &[u8])
         journal,
         inside,
     );
-    decisions::propose(&records, version, journal, booked, bytes)
+    proposals::propose(&records, version, journal, booked, bytes)
 }
 
 pub(crate) fn preflight(
@@ -59,7 +59,7 @@ pub(crate) fn preflight(
         journal,
         booked,
     );
-    decisions::preflight(
+    preflights::preflight(
         Verdict::Pass,
         state,
         &numbers,
@@ -96,7 +96,7 @@ pub(crate) fn release(
         journal,
         booked,
     );
-    decisions::release(
+    supersession::release(
         Verdict::Pass,
         state,
         &numbers,
@@ -133,7 +133,7 @@ pub(crate) fn dependencies(
         journal,
         booked,
     );
-    decisions::dependencies(
+    dependencies::dependencies(
         Verdict::Pass,
         settings,
         vaults,
@@ -172,7 +172,7 @@ pub(crate) fn client_preflight(
         journal,
         booked,
     );
-    decisions::client_preflight(
+    preflights::client_preflight(
         Verdict::Pass,
         state,
         &numbers,
@@ -213,7 +213,7 @@ pub(crate) fn generations(
         journal,
         booked,
     );
-    decisions::generations(
+    dependencies::generations(
         settings,
         vaults,
         order,
@@ -247,5 +247,5 @@ pub(crate) fn equivocating(
         journal,
         booked,
     );
-    decisions::equivocating(settings, votes, &numbers, &sets, journal, booked)
+    equivocation::equivocating(settings, votes, &numbers, &sets, journal, booked)
 }

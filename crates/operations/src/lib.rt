@@ -92,7 +92,7 @@ pub fn commit(ledger: Ledger, journal: &[u8], vault: u8, job: u8, signers: u16) 
             let settings = ledger.settings;
             let state = ledger.vaults[v];
             let votes = ledger.votes[j];
-            let decision = decisions::commit(gate, settings, state, votes, vault, j, signers);
+            let decision = commits::commit(gate, settings, state, votes, vault, j, signers);
             gates::carry(ledger, decision, vault, job)
         }
         Verdict::Fail(why) => gates::turn_back(ledger, why),

@@ -106,7 +106,7 @@ fn report(verdict: Verdict) {
 }
 
 fn examined(bytes: &[u8; 100]) -> Verdict {
-    checks::examine(1, bytes)
+    examination::examine(1, bytes)
 }
 
 fn nudge(bytes: &mut [u8; 100], at: usize, step: u8) {
@@ -318,7 +318,7 @@ fn first(bytes: &[u8], n: usize, name: &[u8]) {
     io::write_all(STDOUT_FILENO, name);
     io::write_all(STDOUT_FILENO, b" 100 0 ");
     if n <= bytes.len() {
-        report(checks::examine(1, &bytes[0..n]));
+        report(examination::examine(1, &bytes[0..n]));
     }
 }
 
@@ -358,7 +358,7 @@ fn cut_line(name: &[u8], job: Job, n: usize) {
     io::print_decimal(STDOUT_FILENO, n as u64);
     io::write_all(STDOUT_FILENO, b" ");
     if n <= 104 {
-        report(checks::examine(2, &bytes[0..n]));
+        report(examination::examine(2, &bytes[0..n]));
     }
 }
 

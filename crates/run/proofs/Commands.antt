@@ -15,7 +15,7 @@ use Rattle.sets.specs.Jobs.{noJobs}
 use Rattle.sets.specs.declared.job_set.JobSet.{JobSet}
 use Rattle.codec.specs.Codec.{recordSize}
 use Rattle.journal.specs.Journal.{isBooked, isWhole, jobAt}
-use Rattle.decisions.proofs.Partners.{listed-by}
+use Rattle.equivocation.proofs.Partners.{listed-by}
 use Rattle.draw.specs.Draw.{drawOf}
 use Rattle.ledger.proofs.Gates.{booked-entered, entered, in-place, reflect-sane}
 use Rattle.ledger.proofs.Places.{proposed}

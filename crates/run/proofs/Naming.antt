@@ -10,7 +10,7 @@ use lib.ListN.{getD}
 use lib.Seq.{getD-set-other}
 use borrow.Author.Tests.{eqb-false, eqb-true}
 use Rattle.base.proofs.Reflect.{by-test}
-use Rattle.decisions.specs.Partners.{recordedIn}
+use Rattle.equivocation.specs.Partners.{recordedIn}
 use Rattle.federation.specs.declared.Settings.{Settings}
 use Rattle.journal.specs.Journal.{jobAt}
 use Rattle.ledger.specs.Equivocation.{equivocators}

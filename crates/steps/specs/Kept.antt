@@ -7,7 +7,7 @@ use Rattle.sets.specs.Jobs.{noJobs}
 use Rattle.sets.specs.declared.job_set.JobSet.{JobSet}
 use Rattle.federation.specs.declared.Settings.{Settings}
 use Rattle.journal.specs.Journal.{jobAt}
-use Rattle.decisions.specs.Partners.{recordedIn}
+use Rattle.equivocation.specs.Partners.{recordedIn}
 use Rattle.ledger.specs.Equivocation.{equivocators}
 use Rattle.vaults.specs.declared.Votes.{Votes}
 use Rattle.runfile.specs.declared.Kind.{Kind}

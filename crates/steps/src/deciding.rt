@@ -69,14 +69,14 @@ pub(crate) fn decide(
     let version = view.settings.version;
     let booked = view.booked;
     match kind {
-        Kind::Propose => decisions::propose(
+        Kind::Propose => proposals::propose(
             records,
             version,
             journal,
             booked,
             reading::record_at(version, input, at),
         ),
-        Kind::Preflight => decisions::preflight(
+        Kind::Preflight => preflights::preflight(
             gate(view.settings, booked, journal, vault, false, j),
             view.state,
             numbers,
@@ -88,7 +88,7 @@ pub(crate) fn decide(
             vault,
             j,
         ),
-        Kind::Commit => decisions::commit(
+        Kind::Commit => commits::commit(
             gate(view.settings, booked, journal, vault, false, j),
             view.settings,
             view.state,
@@ -116,7 +116,7 @@ pub(crate) fn decide(
         },
         Kind::Generations => decisions::refuse(Refusal::NotHeld),
         Kind::Snapshot => decisions::snapshot(view.settings, view.next, view.seen, view.turn.held),
-        Kind::Release => decisions::release(
+        Kind::Release => supersession::release(
             gate(view.settings, booked, journal, vault, false, j),
             view.state,
             numbers,
@@ -129,7 +129,7 @@ pub(crate) fn decide(
             reading::byte_at(input, at + 2) as usize,
         ),
         Kind::Dependencies => decisions::refuse(Refusal::NotHeld),
-        Kind::ClientPreflight => decisions::client_preflight(
+        Kind::ClientPreflight => preflights::client_preflight(
             gate(view.settings, booked, journal, vault, false, j),
             view.state,
             numbers,
@@ -177,7 +177,7 @@ fn age(
     let settings = books.settings;
     if journal::is_booked(settings.version, journal, books.booked, j) {
         let vaults = books.vaults;
-        let decision = decisions::generations(
+        let decision = dependencies::generations(
             settings,
             vaults,
             order,
@@ -212,7 +212,7 @@ fn require(
     let vaults = books.vaults;
     let at = (vault % 16) as usize;
     let state = vaults[at];
-    decisions::dependencies(
+    dependencies::dependencies(
         gate(settings, books.booked, journal, vault, false, j),
         settings,
         vaults,

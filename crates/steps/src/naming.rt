@@ -36,7 +36,7 @@ pub fn named(
         if kept.known {
             return kept;
         }
-        let vaults = decisions::equivocating(settings, votes, numbers, sets, journal, booked);
+        let vaults = equivocation::equivocating(settings, votes, numbers, sets, journal, booked);
         return Remembered {
             known: true,
             vaults,

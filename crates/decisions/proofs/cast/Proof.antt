@@ -1,3 +1,4 @@
+-- An open gate lets the vote through, which joins its column; a shut one refuses.
 use Rattle.decisions.proofs.cast.Statement.{statement}
 use Rattle.decisions.proofs.cast.Tie as tie
 use borrow.Author.Needs.{needs}

@@ -1,3 +1,4 @@
+-- Each return is one way through checks 3, 5 and 4.
 use Rattle.decisions.proofs.gate.Statement.{statement}
 use Rattle.decisions.proofs.gate.Tie as tie
 use Rattle.ledger.specs.Steps.{gateOf}

@@ -1,3 +1,4 @@
+-- An open gate answers the status, a shut one refuses.
 use Rattle.decisions.proofs.show.Statement.{statement}
 use Rattle.decisions.proofs.show.Tie as tie
 use borrow.Author.Needs.{needs}

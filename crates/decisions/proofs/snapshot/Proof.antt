@@ -1,3 +1,4 @@
+-- What is seen after the visit is stored, and counted for the value.
 use Rattle.decisions.proofs.snapshot.Statement.{statement}
 use Rattle.decisions.proofs.snapshot.Tie as tie
 use Rattle.ledger.specs.Decisions.{snapshotting}

@@ -1,3 +1,4 @@
+-- Each return is one way through the two comparisons with the threshold, that of finished first.
 use Rattle.decisions.proofs.status.Statement.{statement}
 use Rattle.decisions.proofs.status.Tie as tie
 use Rattle.ledger.specs.Decisions.{statusOf}

@@ -1,3 +1,4 @@
+-- The value counts the votes with the vault's own.
 use Rattle.decisions.proofs.vote.Statement.{statement}
 use Rattle.decisions.proofs.vote.Tie as tie
 use borrow.Author.Needs.{needs}

@@ -1,6 +1,6 @@
 -- Through the open gate the vaults are those that the rule names; through the shut one nothing is listed.
 use borrow.Author.Needs.{needs}
-use Rattle.decisions.proofs.Partners.{listed-by}
+use Rattle.equivocation.proofs.Partners.{listed-by}
 use Rattle.ledger.proofs.Gates.{ways}
 use Rattle.ledger.specs.Steps.{equivocatorsOf}
 use Rattle.operations.proofs.equivocating.Statement.{statement}

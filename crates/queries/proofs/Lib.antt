@@ -1,0 +1,5 @@
+pub mod Admits
+pub mod Meets
+pub mod Opposes
+pub mod Shares
+pub mod Supplies

@@ -1,0 +1,4 @@
+pub mod Admission
+pub mod Checks
+pub mod Missing
+pub mod Rivals
