@@ -9,7 +9,6 @@ pub mod Demand3
 pub mod Dependencies
 pub mod Effects
 pub mod Equivocation
-pub mod Example
 pub mod Freed
 pub mod Gates
 pub mod Growth
@@ -20,18 +19,15 @@ pub mod Lending
 pub mod Meaning
 pub mod Missing
 pub mod NoQuota
-pub mod OneLabel
 pub mod Paper
 pub mod Places
 pub mod Quota
 pub mod Ready
-pub mod ReadyExample
 pub mod Refusals
 pub mod Releases
 pub mod Rivals
 pub mod Rounds
 pub mod Safety
-pub mod Twelve
 pub mod Unchanged
 pub mod Unnamed
 pub mod Views

@@ -30,11 +30,11 @@ use Rattle.conflicts.specs.Tapes.{sameTape, usedFrom}
 use Rattle.record.specs.Drives.{isDrive, supports}
 use Rattle.record.specs.Entries.{framesOf, isUsed, labelOf, usedFrames}
 use Rattle.record.specs.Labels.{charAt, isAlphanumeric, isBetween, isLabel, mediumOf}
-use Rattle.ledger.proofs.Example.{accession, blank, first-tape}
+use Rattle.instances.proofs.Example.{accession, blank, first-tape}
 use Rattle.ledger.proofs.Independence.{commuting}
 use Rattle.ledger.specs.Independence.{Clash, EitherWay, PaperFails}
 use Rattle.ledger.specs.Register.{Fed, entering, feedAll, feedCommit, feedProposal, isAdmissible, newRegister, stopped, taking}
 use Rattle.ledger.specs.Worlds.{Request, commit, propose}
 
 -- VAC001L5 and VAB001L7, with 500 and 900 frames
 abbrev third-tape : List ℕ

@@ -36,12 +36,12 @@ use Rattle.record.specs.Entries.{framesOf, isUsed, labelOf, usedFrames}
 use Rattle.record.specs.Labels.{charAt, isAlphanumeric, isBetween, isLabel, mediumOf}
 use Rattle.sets.specs.Bits.{hasBit, withBit, withMember, withoutBit}
 use Rattle.sets.specs.Jobs.{jobHas, jobWith, jobWithout}
-use Rattle.ledger.proofs.Example.{blank}
+use Rattle.instances.proofs.Example.{blank}
 use Rattle.ledger.specs.Decisions.{admissionAt, clientPreflighting, countedConsent, placing, proposal, settling, withinQuota}
 use Rattle.ledger.specs.Quota.{Twelve, asked}
 use Rattle.ledger.specs.State.{applied, booking, counted, historyAt, isSane, newLedger, voted, votesIn, withVault}
 use Rattle.ledger.specs.Steps.{clientPreflightDecision, gateOf, journalAfter, proposeDecision, saneGate, vaultGate}
 use Rattle.ledger.specs.Worlds.{Event, Request, after, clientPreflight, lend, overlay, propose, start}
 use Rattle.vaults.specs.Vaults.{signing, vaultPreflight}
 
 -- the accession of a tape of its own, VAA00 with a digit, L5 and one frame

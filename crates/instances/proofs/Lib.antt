@@ -1,0 +1,4 @@
+pub mod Example
+pub mod OneLabel
+pub mod ReadyExample
+pub mod Twelve
