@@ -5,6 +5,7 @@ ghost use mathlib.Core.Path.{_≡_};
 ghost use Prim.Native.Nat.{_+_, _<_, _≤_};
 ghost use lib.ListN.{length};
 ghost use Rattle.text.specs.Text.{Put, lineFor, lineOf, longestLine};
+pub use digits::write_number;
 use outcome::Outcome;
 
 // No line has more bytes.

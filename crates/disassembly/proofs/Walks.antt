@@ -1,0 +1,103 @@
+-- The steps of a file one after another, and the header's line.
+use mathlib.Core.Bool.{Bool, _&&_, cond, false, true}
+use mathlib.Core.List.{List, [], _++_, _∷_}
+use mathlib.Core.Path.{_∙_, _≡_, ap, refl, sym}
+use Prim.Native.Nat.{_+_, _-_, _<_, _≤_, suc, zero, ℕ}
+use native.Mathlib.Omega.{arith}
+use lib.Dec.{leb}
+use lib.ListN.{drop, length, take}
+use borrow.Author.Tests.{le-leb, lt-leb}
+use Rattle.rows.specs.Table.{row}
+use Rattle.rows.specs.Writing.{textBy}
+use Rattle.runfile.specs.Run.{longest, opens, opensUpTo, versionIn}
+use Rattle.runfile.specs.declared.Kind.{Kind}
+use Rattle.text.proofs.Writing.{then}
+use Rattle.text.specs.Text.{Put}
+use Rattle.reading.specs.Reading.{Read}
+use Rattle.reading.specs.declared.Step.{Step}
+use Rattle.notation.proofs.Views.{opened-of}
+use Rattle.notation.specs.Lines.{lineOf}
+use Rattle.notation.specs.Files.{headerLine, isKnown, sayable, wholeFrom}
+use Rattle.disassembly.specs.Rows.{LineAt, Stands}
+use Rattle.disassembly.specs.declared.Line.{Line}
+
+pub record Walking (version : ℕ) (input : List ℕ) (left pos : ℕ) : Type 0 where
+  pub same : wholeFrom left version input pos ≡ wholeFrom (length input) version input 9
+  pub inside : pos ≤ length input
+
+module _ {version : ℕ} {input : List ℕ} where
+  pub walk-begun : 9 ≤ length input → Walking version input (length input) 9
+  walk-begun h = record { same = refl; inside = h }
+
+  module _ {left pos : ℕ} (now : Walking version input left pos) where
+    pub walk-none : (b : Bool) → left ≤ 0 → b ≡ leb (length input) pos → b ≡ wholeFrom (length input) version input 9
+    unfolding wholeFrom
+    walk-none b h e = let z : left ≡ 0 = omega arith in e ∙ sym (rw z) ∙ now .same
+
+    module _ (some : 0 < left) where
+      lead : wholeFrom left version input pos ≡ wholeFrom (suc (left - 1)) version input pos
+      lead = ap (λ (k : ℕ). wholeFrom k version input pos) (omega arith)
+
+      pub walk-over : length input ≤ pos → true ≡ wholeFrom (length input) version input 9
+      unfolding wholeFrom
+      walk-over h = sym (lead ∙ rw (le-leb (length input) pos h)) ∙ now .same
+
+      module _ (here : pos < length input) (s : Step) (read : Read version input pos 0 s) (b : Bool) (is : b ≡ isKnown (s .kind)) where
+        known : b ≡ isKnown (Rattle.runfile.specs.Steps.kindAt version input pos)
+        known = is ∙ ap isKnown (read .kind-is)
+
+        pub walk-turn : b ≡ true → Walking version input (left - 1) (s .end)
+        unfolding wholeFrom
+        walk-turn t = record {
+          same = sym (lead ∙ rw (lt-leb (length input) pos here, sym known ∙ t, sym (read .end-is))) ∙ now .same;
+          inside = read .inside;
+        }
+
+        pub walk-stop : b ≡ false → false ≡ wholeFrom (length input) version input 9
+        unfolding wholeFrom
+        walk-stop f = sym (lead ∙ rw (lt-leb (length input) pos here, sym known ∙ f)) ∙ now .same
+
+pub ruleset walks = (walk-begun, walk-none, walk-over, walk-turn, walk-stop)
+
+-- ---- a file that can be said
+module _ (input : List ℕ) (a : Bool) (e : a ≡ opens input) where
+  pub say-whole : (b : Bool) (v : ℕ) → a ≡ true → v ≡ versionIn input → b ≡ wholeFrom (length input) v input 9 → b ≡ sayable input
+  unfolding sayable
+  say-whole b v t q w = rw (sym e ∙ t) (rw q at w)
+
+  pub say-not : a ≡ false → false ≡ sayable input
+  unfolding sayable
+  say-not f = rw (sym e ∙ f)
+
+  pub open-long : a ≡ true → 9 ≤ length input
+  open-long t = opened-of input (sym e ∙ t) .long
+
+  pub open-few : a ≡ true → length input ≤ longest
+  open-few t = opened-of input (sym e ∙ t) .few
+
+pub ruleset sayings = (say-whole, say-not, open-long, open-few)
+
+-- ---- the header
+pub header-put : {o p q f s b : List ℕ} {r e n : ℕ} (input : List ℕ) (k v : ℕ) → v ≡ versionIn input → k ≡ v - 1 → Stands (row k) b n → f ≡ take n b
+    → s ≡ take 6 (drop 3 input) → Put o 0 (textBy f s) p e → Put p e (10 ∷ []) q r → Put o 0 (headerLine input ++ (10 ∷ [])) q r
+unfolding headerLine
+header-put input k v i j d e g w x = then (rw (e ∙ d .row-is, g, j, i) at w) x
+
+-- ---- a step's line
+module _ (version : ℕ) (input : List ℕ) (pos : ℕ) (r : Line) where
+  pub line-long : (before after : List ℕ) → longest < length input → r ≡ record { end = length input; written = 0 } → LineAt version input pos before after r
+  line-long before after h e = rw e (record { onward = λ l. l; next = λ l. absurd (omega arith); wrote = λ l. absurd (omega arith) })
+
+  pub line-over : (before after : List ℕ) → length input ≤ pos → r ≡ record { end = length input; written = 0 } → LineAt version input pos before after r
+  line-over before after h e = rw e (record { onward = λ l. l; next = λ l m. absurd (omega arith); wrote = λ l m. absurd (omega arith) })
+
+  pub line-here : {before after p : List ℕ} {w : ℕ} (s : Step) → Read version input pos 0 s → p ≡ take (s .end - pos) (drop pos input)
+      → Put before 0 (lineOf version p ++ (10 ∷ [])) after w → r ≡ record { end = s .end; written = w } → LineAt version input pos before after r
+  line-here s d e w q =
+      rw q (record {
+        onward = λ l. d .onward;
+        next = λ l m. d .end-is;
+        wrote = λ l m. rw (e ∙ ap (λ (k : ℕ). take (k - pos) (drop pos input)) (d .end-is)) at w;
+      })
+
+pub ruleset lines-at = (line-long, line-over, line-here)

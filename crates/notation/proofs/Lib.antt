@@ -1,0 +1,6 @@
+pub mod FileIn
+pub mod RoundTrips
+pub mod Shapes
+pub mod Sound
+pub mod Steps
+pub mod Views
