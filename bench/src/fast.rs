@@ -3,6 +3,7 @@
 //! State is changed in place, sets are bits, and what the checks ask is kept in an index as records are booked, so that no
 //! step scans the journal.
 mod draw;
+mod equivocation;
 mod federation;
 mod index;
 mod ledger;
@@ -28,6 +29,20 @@ pub fn run(input: &[u8], out: &mut Vec<u8>) {
 fn take_steps<'a>(mut ledger: Ledger<'a>, mut rest: &'a [u8], out: &mut Vec<u8>) {
     let mut lines = Lines::new(out, rest.len());
     while !rest.is_empty() {
+        if let [kind::DEPENDENCIES, vault, job, ref after @ ..] = *rest {
+            let (answer, jobs) = ledger.dependencies(vault, job);
+            lines.put(answer);
+            lines.list(jobs);
+            rest = after;
+            continue;
+        }
+        if let [kind::EQUIVOCATING, ref after @ ..] = *rest {
+            let (answer, vaults) = ledger.equivocating();
+            lines.put(answer);
+            lines.list(vaults);
+            rest = after;
+            continue;
+        }
         match step(&mut ledger, rest) {
             Some((answer, after)) => {
                 lines.put(answer);
@@ -63,6 +78,9 @@ fn step<'a>(ledger: &mut Ledger<'a>, rest: &'a [u8]) -> Option<(Answer, &'a [u8]
         [kind::SNAPSHOT, ref rest @ ..] => (ledger.snapshot(), rest),
         [kind::RELEASE, vault, job, rival, ref rest @ ..] => {
             (ledger.release(vault, job, rival), rest)
+        }
+        [kind::CLIENT_PREFLIGHT, vault, job, client, ref rest @ ..] => {
+            (ledger.client_preflight(vault, job, client), rest)
         }
         _ => return None,
     })

@@ -1,5 +1,7 @@
 //! The run files that are measured. Each is lawful, and as long as document 01 allows where length is the point.
 mod deep_chain;
+mod dependencies;
+mod equivocation;
 mod growing;
 mod late;
 mod mixed;
@@ -63,6 +65,8 @@ pub fn measured() -> Vec<File> {
         shared_labels::file(),
         mixed::file(),
         trimming::file(),
+        dependencies::file(),
+        equivocation::file(),
         Run::new(16, 5, 0).named("header_only"),
     ]
 }

@@ -19,7 +19,7 @@ impl Texts {
         fast::run(input, &mut self.fast);
         let text = String::from_utf8_lossy(&self.fast);
         assert_eq!(text, String::from_utf8_lossy(proved));
-        for line in text.lines() {
+        for line in text.lines().filter(|line| line.contains(' ')) {
             let refusal = line.split(' ').nth(1).expect("three figures");
             self.refusals.insert(refusal.parse().expect("a figure"));
         }

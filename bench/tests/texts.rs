@@ -21,6 +21,7 @@ fn refusals(text: &str) -> Vec<u8> {
             .and_then(|figure| figure.parse().ok())
     };
     text.lines()
+        .filter(|line| line.contains(' '))
         .map(|line| refusal(line).expect("a figure"))
         .collect()
 }
@@ -66,9 +67,11 @@ fn files_are_as_large_as_meant() {
         assert!(file("preflights_mixed").refused(refusal) > 3_000);
     }
     assert!(file("repeats").steps() - BOOK_RECORDS > 500);
+    let listed = fast_text(&file("dependencies").bytes);
+    assert!(listed.lines().filter(|line| line.ends_with(" 0 4")).count() > 9_000);
     for refusal in 2..=REFUSALS as u8 {
-        // Its steps are those of document 01: no release.
-        let expected = !matches!(refusal, 2 | 13 | 19 | 20);
+        // Its steps are those of document 01: no release, no missing dependencies, no client.
+        let expected = !matches!(refusal, 2 | 13 | 19..=23);
         assert_eq!(file("mixed").refused(refusal) > 0, expected, "{refusal}");
     }
 }

@@ -1,13 +1,13 @@
 //! The proved library with too little room for its text.
 
-use reference::run::LONGEST_LINE;
+use reference::run::LONGEST_TEXT;
 
 const UNTOUCHED: u8 = 0xA5;
 
 /// What is written must be the text's beginning, and nothing behind the room
-/// may be touched; with a line's room to spare the text must be whole.
+/// may be touched; with room for one more text the whole must be there.
 pub fn check(input: &[u8], expected: &[u8]) -> Result<(), String> {
-    let enough = expected.len() + LONGEST_LINE;
+    let enough = expected.len() + LONGEST_TEXT;
     for room in 0..=enough {
         let mut out = vec![UNTOUCHED; enough + 1];
         let length = proved::call(input, &mut out[..room]);

@@ -136,6 +136,7 @@ mod tests {
             refusal,
             value,
             kind,
+            listed: Vec::new(),
         };
         let mut tally = Tally::default();
         tally.count(&[line(99, 1, 0), line(0, 200, 0), line(0, kind::SHOW, 9)]);

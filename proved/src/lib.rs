@@ -1,10 +1,14 @@
 //! The proved program, called in this process.
 
-use reference::run::LONGEST_LINE;
+use reference::run::{LONGEST_LINE, LONGEST_TEXT};
 use reference::settings::LONGEST_FILE;
 
-/// Room for any text, since no step has less than a byte, and for the one line more without which the program writes no further.
-pub const ROOM: usize = LONGEST_FILE * LONGEST_LINE + LONGEST_LINE;
+/// The vaults that a step of one byte lists: at most b, 5, of two digits and the end.
+const NAMED: usize = 15;
+
+/// Room for any text, since no step has less than a byte and one that lists up to four jobs has three, and for the one text more without
+/// which the program writes no further.
+pub const ROOM: usize = LONGEST_FILE * (LONGEST_LINE + NAMED) + LONGEST_TEXT;
 
 extern "C" {
     fn custody_run(input: *const u8, input_len: usize, out: *mut u8, out_len: usize) -> usize;

@@ -39,6 +39,16 @@ pub fn all() -> Vec<Edge> {
         edge("nothing but visits", visits(), &[(0, 0); 65_527]),
         edge("a superseded signature", superseded(), &SUPERSEDED),
         edge("rivals by an output", remade(), &REMADE),
+        missing_after_whole_run(),
+        edge("missing before any commit", unheld(), &UNHELD),
+        missing_makers(),
+        edge("makers in the way", in_the_way(), &IN_THE_WAY),
+        edge("a busy client", busy(), &busy_answers()),
+        edge("a client beside others", beside(), &BESIDE),
+        equivocating_once(),
+        equivocating_excused(),
+        equivocating_five(),
+        edge("nothing but questions", questions(), &[(0, 0); 65_527]),
         edge("a draw of 937.5", a_half(1), &[(0, 938)]),
         edge("a draw of 812.5", a_half(3), &[(0, 812)]),
         edge("a draw of 687.5", a_half(5), &[(0, 688)]),
@@ -395,6 +405,75 @@ const SUPERSEDED: [Answer; 30] = [
     (0, 0),
 ];
 
+/// Document 02, M-113. In M-105's run vault 2 signed jobs 2 and 3, which are rivals, and released 2 for job 1, which is certified: nobody is named. Vault 3
+/// signed 1, and then 2 as well: no job outside that pair is certified, so it is named.
+fn equivocating_once() -> Edge {
+    let mut file = superseded();
+    let asked = [equivocating(), faulty_signature(3, 2), equivocating()];
+    file.extend(asked.iter().flat_map(|step| step.encode()));
+    let mut text = edge("", Vec::new(), &SUPERSEDED).text;
+    text += "31 0 0\n32 0 2\n33 0 1\n3\n";
+    Edge {
+        name: "a vault that signs the winner and the loser",
+        file,
+        text,
+    }
+}
+
+/// The same jobs. Job 1, which is a rival of 2 alone, is certified by 0, 1 and 2, and vault 3 signs only 2 and 3.
+fn equivocating_excused() -> Edge {
+    let (a, b) = ((b"VAA001L7", 1000), (b"VAA002L7", 500));
+    let mut steps = vec![
+        equivocating(),
+        propose(record(0, 7, &[], &[a, b])),
+        propose(record(1, 7, &[a], &[(b"VAB001L7", 1000)])),
+        propose(record(1, 7, &[a, b], &[(b"VAB002L7", 1500)])),
+        propose(record(1, 7, &[b], &[(b"VAB003L7", 500)])),
+    ];
+    steps.extend((0..3).map(|vault| preflight(vault, 0)));
+    steps.extend((0..3).map(|vault| commit(vault, 0, 7)));
+    steps.extend([
+        faulty_signature(3, 2),
+        faulty_signature(3, 3),
+        equivocating(),
+    ]);
+    steps.extend((0..2).map(|vault| preflight(vault, 1)));
+    steps.push(equivocating());
+    steps.extend([preflight(2, 1), equivocating()]);
+    Edge {
+        name: "a vault that a certified rival excuses",
+        file: run_file(4, 1, 8, &steps),
+        text: "1 0 0\n2 0 0\n3 0 1\n4 0 2\n5 0 3\n6 0 1\n7 0 2\n8 0 3\n9 0 1\n10 0 2\n11 0 3\n12 0 1\n13 0 1\n14 0 1\n3\n15 0 1\n16 0 2\n17 0 1\n3\n18 0 3\n19 0 0\n"
+            .to_string(),
+    }
+}
+
+/// Five of 16 vaults sign two accessions of one label.
+fn equivocating_five() -> Edge {
+    let mut steps = vec![
+        propose(record(0, 7, &[], &[(b"VAA001L7", 1)])),
+        propose(record(0, 7, &[], &[(b"VAA001L7", 2)])),
+    ];
+    let mut text = "1 0 0\n2 0 1\n".to_string();
+    for (i, vault) in [15, 9, 10, 0, 1].into_iter().enumerate() {
+        steps.extend([faulty_signature(vault, 0), faulty_signature(vault, 1)]);
+        let (step, signed) = (2 * i + 3, i + 1);
+        text += &format!("{step} 0 {signed}\n{} 0 {signed}\n", step + 1);
+    }
+    steps.extend([equivocating(), show(0)]);
+    text += "13 0 5\n0\n1\n9\n10\n15\n14 0 0\n";
+    Edge {
+        name: "five of 16 vaults named",
+        file: run_file(16, 5, 0x8603, &steps),
+        text,
+    }
+}
+
+/// As many steps as a file can have.
+fn questions() -> Vec<u8> {
+    run_file(4, 1, 8, &vec![equivocating(); 65_527])
+}
+
 /// Two accessions that share a label: the one that lost frees its other.
 fn remade() -> Vec<u8> {
     let steps = [
@@ -429,6 +508,253 @@ const REMADE: [Answer; 13] = [
     (20, 0),
     (0, 1),
     (14, 4),
+    (0, 1),
+];
+
+/// Document 02, M-108, after document 01's run: vault 1 lacks job 0 for job 1; vault 0 has signed both; vault 2 is handed job 0, which it never signed and
+/// so can never sign, and lacks nothing for job 1.
+fn missing_after_whole_run() -> Edge {
+    let mut file = whole_run();
+    let steps = [
+        dependencies(1, 1),
+        dependencies(0, 1),
+        dependencies(1, 0),
+        commit(2, 0, 11),
+        dependencies(2, 0),
+        dependencies(2, 1),
+        dependencies(3, 1),
+        dependencies(4, 1),
+        dependencies(0, 2),
+    ];
+    file.extend(steps.iter().flat_map(Step::encode));
+    let more = "13 0 1\n0\n14 0 0\n15 0 0\n16 0 2\n17 21 0\n18 0 0\n19 5 0\n20 3 0\n21 4 0\n";
+    Edge {
+        name: "missing after one run whole",
+        file,
+        text: whole_text().to_string() + more,
+    }
+}
+
+/// A faulty vault's acknowledgement supplies nothing.
+fn unheld() -> Vec<u8> {
+    let (old, new) = ((b"VAA001L7", 9), (b"VAB001L7", 9));
+    let steps = [
+        propose(record(0, 7, &[], &[old])),
+        propose(record(1, 7, &[old], &[new])),
+        dependencies(0, 1),
+        dependencies(0, 0),
+        faulty_acknowledgement(3, 0),
+        dependencies(0, 1),
+    ];
+    run_file(4, 1, 8, &steps)
+}
+
+const UNHELD: [Answer; 6] = [(0, 0), (0, 1), (21, 0), (0, 0), (0, 1), (21, 0)];
+
+/// Job 4 takes the tapes of jobs 0 to 3, job 5 one of them with other frames. Vault 0 holds jobs 1 and 3, vault 1 all four, vault 2 none. Job 6 takes what job
+/// 4 makes, which nobody holds.
+fn missing_makers() -> Edge {
+    let tapes: [Written; 4] = [
+        (b"AAAAAAL7", 1),
+        (b"BBBBBBL7", 2),
+        (b"CCCCCCL7", 3),
+        (b"DDDDDDL7", 4),
+    ];
+    let mut steps: Vec<Step> = tapes
+        .iter()
+        .map(|tape| propose(record(0, 7, &[], &[*tape])))
+        .collect();
+    steps.push(propose(record(1, 7, &tapes, &[(b"EEEEEEL7", 10)])));
+    steps.push(propose(record(
+        1,
+        7,
+        &[(b"AAAAAAL7", 2)],
+        &[(b"FFFFFFL7", 2)],
+    )));
+    steps.push(propose(record(
+        1,
+        7,
+        &[(b"EEEEEEL7", 10)],
+        &[(b"GGGGGGL7", 10)],
+    )));
+    for job in 0..4 {
+        steps.extend((0..3).map(|vault| preflight(vault, job)));
+        steps.push(commit(1, job, 7));
+        if job % 2 == 1 {
+            steps.push(commit(0, job, 7));
+        }
+    }
+    steps.extend([
+        dependencies(2, 4),
+        dependencies(0, 4),
+        dependencies(1, 4),
+        dependencies(0, 5),
+        dependencies(0, 6),
+    ]);
+    let mut text = String::new();
+    for i in 1..=7 {
+        writeln!(text, "{i} 0 {}", i - 1).expect("a string takes all");
+    }
+    let mut i = 8;
+    for job in 0..4 {
+        for value in [1, 2, 3, 1] {
+            writeln!(text, "{i} 0 {value}").expect("a string takes all");
+            i += 1;
+        }
+        if job % 2 == 1 {
+            writeln!(text, "{i} 0 2").expect("a string takes all");
+            i += 1;
+        }
+    }
+    text += "26 0 4\n0\n1\n2\n3\n27 0 2\n0\n2\n28 0 0\n29 21 0\n30 21 0\n";
+    Edge {
+        name: "four makers missing, and two",
+        file: run_file(4, 1, 0, &steps),
+        text,
+    }
+}
+
+/// Job 1 makes two tapes and retires the one it takes, A. Job 2 takes A and one of the two; job 3 takes one and makes the other's label; job 4 takes one alone.
+/// Vault 3 holds job 0, which made A and B, and not job 1.
+fn in_the_way() -> Vec<u8> {
+    let (a, b) = ((b"AAAAAAL7", 9), (b"BBBBBBL7", 5));
+    let (c, d) = ((b"CCCCCCL7", 4), (b"DDDDDDL7", 5));
+    let mut steps = vec![
+        propose(record(0, 7, &[], &[a, b])),
+        propose(record(1, 7, &[a], &[c, d])),
+        propose(record(1, 7, &[a, c], &[(b"EEEEEEL7", 13)])),
+        propose(record(1, 7, &[c], &[(b"DDDDDDL7", 4)])),
+        propose(record(1, 7, &[c], &[(b"FFFFFFL7", 4)])),
+    ];
+    steps.extend((0..3).map(|vault| preflight(vault, 0)));
+    steps.extend((0..4).map(|vault| commit(vault, 0, 7)));
+    steps.extend((0..3).map(|vault| preflight(vault, 1)));
+    steps.extend([
+        commit(0, 1, 7),
+        dependencies(3, 2),
+        dependencies(3, 3),
+        dependencies(3, 1),
+        dependencies(0, 4),
+        dependencies(3, 0),
+    ]);
+    run_file(4, 1, 0, &steps)
+}
+
+const IN_THE_WAY: [Answer; 21] = [
+    (0, 0),
+    (0, 1),
+    (0, 2),
+    (0, 3),
+    (0, 4),
+    (0, 1),
+    (0, 2),
+    (0, 3),
+    (0, 1),
+    (0, 2),
+    (0, 3),
+    (0, 4),
+    (0, 1),
+    (0, 2),
+    (0, 3),
+    (0, 1),
+    // Each input has a maker, which retires the other.
+    (21, 0),
+    // The maker makes the output's label too.
+    (21, 0),
+    (0, 0),
+    (0, 0),
+    // Held, and not signed.
+    (21, 0),
+];
+
+/// Six accessions of one tape each, booked at one vault that is correct.
+fn six_accessions() -> Vec<Step> {
+    let labels: [&[u8; 8]; 6] = [
+        b"VAA000L7",
+        b"VAA001L7",
+        b"VAA002L7",
+        b"VAA003L7",
+        b"VAA004L7",
+        b"VAA005L7",
+    ];
+    let one = |label| propose(record(0, 7, &[], &[(label, 1)]));
+    labels.into_iter().map(one).collect()
+}
+
+const SIX_BOOKED: [Answer; 6] = [(0, 0), (0, 1), (0, 2), (0, 3), (0, 4), (0, 5)];
+
+/// Document 02, M-109: client 0 gets jobs 0 to 3, and job 4 only after twelve refusals; then job 5 at once, since two of the first four are past.
+fn busy() -> Vec<u8> {
+    let mut steps = six_accessions();
+    steps.extend((0..4).map(|job| client_preflight(0, job, 0)));
+    steps.extend(vec![client_preflight(0, 4, 0); 13]);
+    steps.push(client_preflight(0, 5, 0));
+    run_file(1, 0, 0, &steps)
+}
+
+fn busy_answers() -> Vec<Answer> {
+    let mut answers = SIX_BOOKED.to_vec();
+    answers.extend([(0, 1); 4]);
+    answers.extend([(23, 0); 12]);
+    answers.extend([(0, 1); 2]);
+    answers
+}
+
+/// Client 0 is over its quota: client 1 is not, a signed job is accepted, client 8 is none, and a preflight of kind 2 has no quota. Each request of client
+/// 0 counts, also those of a signed job; those that name no booked job, no such vault or no client do not, so the thirteenth is accepted.
+fn beside() -> Vec<u8> {
+    let mut steps = six_accessions();
+    steps.extend((0..4).map(|job| client_preflight(0, job, 0)));
+    steps.extend([
+        client_preflight(0, 4, 0),
+        client_preflight(0, 4, 1),
+        client_preflight(0, 4, 0),
+        client_preflight(0, 3, 0),
+        client_preflight(0, 5, 8),
+        client_preflight(0, 200, 8),
+        client_preflight(0, 200, 0),
+        client_preflight(1, 5, 0),
+        client_preflight(0, 5, 0),
+        preflight(0, 5),
+        client_preflight(0, 5, 0),
+        propose(record(0, 7, &[], &[(b"VAA006L7", 1)])),
+    ]);
+    steps.extend(vec![client_preflight(0, 6, 0); 8]);
+    run_file(1, 0, 0, &steps)
+}
+
+const BESIDE: [Answer; 30] = [
+    (0, 0),
+    (0, 1),
+    (0, 2),
+    (0, 3),
+    (0, 4),
+    (0, 5),
+    (0, 1),
+    (0, 1),
+    (0, 1),
+    (0, 1),
+    (23, 0),
+    (0, 1),
+    // Signed meanwhile, so accepted.
+    (0, 1),
+    (0, 1),
+    (22, 0),
+    (4, 0),
+    (4, 0),
+    (3, 0),
+    (23, 0),
+    (0, 1),
+    (0, 1),
+    (0, 6),
+    // Five counted since the fourth signature: seven more are turned back.
+    (23, 0),
+    (23, 0),
+    (23, 0),
+    (23, 0),
+    (23, 0),
+    (23, 0),
+    (23, 0),
     (0, 1),
 ];
 

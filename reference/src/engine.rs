@@ -1,13 +1,16 @@
 //! The ledger: the book, the vaults, signatures, acknowledgements and the
 //! arrival order, and what each kind of step does to them.
 
+mod dependencies;
+mod equivocation;
+
 use crate::draw::thousandths;
 use crate::record::{check, Bytes, Kind, Record};
 use crate::refusal::{first_offender, plain, Answer, Refusal};
 use crate::settings::{vaults_in, Settings};
 use crate::step::Step;
 use crate::vault::Vault;
-use std::collections::BTreeSet;
+use std::collections::{BTreeMap, BTreeSet};
 
 pub const BOOK_RECORDS: usize = 128;
 
@@ -29,6 +32,13 @@ pub struct Engine {
     next: usize,
     /// The jobs that this round of the snapshot has seen.
     seen: BTreeSet<usize>,
+    /// What the last step lists, ascending.
+    pub listed: Vec<usize>,
+    /// The counted requests of a client at a vault: whether each brought a
+    /// new signature.
+    requests: BTreeMap<(usize, u8), Vec<bool>>,
+    /// The vaults that kind 13 named, where the last step asked for them.
+    named: Option<Vec<u64>>,
 }
 
 impl Engine {
@@ -43,10 +53,17 @@ impl Engine {
             generations: Vec::new(),
             next: 0,
             seen: BTreeSet::new(),
+            listed: Vec::new(),
+            requests: BTreeMap::new(),
+            named: None,
         }
     }
 
     pub fn take(&mut self, step: &Step) -> Answer {
+        self.listed.clear();
+        if *step != Step::Equivocating {
+            self.named = None;
+        }
         match step {
             Step::Propose { record } => self.propose(record),
             Step::Preflight { vault, job } => self.preflight(*vault, *job),
@@ -62,6 +79,11 @@ impl Engine {
             Step::Generations { job } => self.generations(*job),
             Step::Snapshot => self.snapshot(),
             Step::Release { vault, job, rival } => self.release(*vault, *job, *rival),
+            Step::Dependencies { vault, job } => self.dependencies(*vault, *job),
+            Step::ClientPreflight { vault, job, client } => {
+                self.client_preflight(*vault, *job, *client)
+            }
+            Step::Equivocating => self.equivocating(),
         }
     }
 
@@ -233,6 +255,46 @@ impl Engine {
         job != other && self.book[job].shares_label(&self.book[other])
     }
 
+    /// Order: 3, 5, 4, 22, a job signed here before, 23, 11 to 14. "A request
+    /// turned back with 3, 4, 5 or 22 counts for no desk; every other one
+    /// counts, 23 included."
+    fn client_preflight(&mut self, vault: u8, job: u8, client: u8) -> Answer {
+        let vault = self.vault(vault)?;
+        self.must_be_sound(vault)?;
+        let job = self.booked(job)?;
+        if client > 7 {
+            return Err(plain(22));
+        }
+        let answer = self.sign_within_quota(vault, job, client);
+        let requests = self.requests.entry((vault, client)).or_default();
+        requests.push(answer == Ok(true));
+        answer.map(|_| self.signatures[job].len() as u64)
+    }
+
+    /// Whether the vault signs now; it has signed before where it does not.
+    fn sign_within_quota(&mut self, vault: usize, job: usize, client: u8) -> Result<bool, Refusal> {
+        if self.vaults[vault].signed.contains(&job) {
+            return Ok(false);
+        }
+        if self.lately_signed(vault, client) >= 4 {
+            return Err(plain(23));
+        }
+        self.admissible_at(vault, job)?;
+        self.vaults[vault].signed.insert(job);
+        self.signatures[job].insert(vault as u64);
+        Ok(true)
+    }
+
+    /// How many "of the desk's previous fifteen requests there brought a new
+    /// signature".
+    fn lately_signed(&self, vault: usize, client: u8) -> usize {
+        let Some(requests) = self.requests.get(&(vault, client)) else {
+            return 0;
+        };
+        let lately = requests.iter().rev().take(15);
+        lately.filter(|signed| **signed).count()
+    }
+
     /// Check 3.
     fn vault(&self, vault: u8) -> Result<usize, Refusal> {
         if u64::from(vault) >= self.settings.n {
@@ -249,7 +311,7 @@ impl Engine {
         Ok(usize::from(job))
     }
 
-    /// Check 5 for kinds 2, 3 and 10.
+    /// Check 5 for kinds 2, 3 and 10 to 12.
     fn must_be_sound(&self, vault: usize) -> Result<(), Refusal> {
         if self.settings.is_faulty(vault as u64) {
             return Err(plain(5));

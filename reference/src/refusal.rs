@@ -1,7 +1,7 @@
 //! "Turned back": a refusal is a number and, for some, an entry.
 
-/// The refusals of a run are numbered from 1 to this: document 01 has 1 to 18, and M-105 of document 02 has 19 and 20.
-pub const REFUSALS: u64 = 20;
+/// The refusals of a run are numbered from 1 to this: document 01 has 1 to 18, and of document 02 M-105 has 19 and 20, M-108 has 21, and M-109 has 22 and 23.
+pub const REFUSALS: u64 = 23;
 
 #[derive(Clone, Copy, PartialEq, Eq, Debug)]
 pub struct Refusal {

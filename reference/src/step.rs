@@ -13,10 +13,13 @@ pub mod kind {
     pub const GENERATIONS: u8 = 8;
     pub const SNAPSHOT: u8 = 9;
     pub const RELEASE: u8 = 10;
+    pub const DEPENDENCIES: u8 = 11;
+    pub const CLIENT_PREFLIGHT: u8 = 12;
+    pub const EQUIVOCATING: u8 = 13;
 }
 
 /// Every kind and the length of its body in a version 1 file.
-pub const KINDS: [(u8, usize); 10] = [
+pub const KINDS: [(u8, usize); 13] = [
     (kind::PROPOSE, RECORD_BYTES),
     (kind::PREFLIGHT, 2),
     (kind::COMMIT, 4),
@@ -27,6 +30,9 @@ pub const KINDS: [(u8, usize); 10] = [
     (kind::GENERATIONS, 1),
     (kind::SNAPSHOT, 0),
     (kind::RELEASE, 3),
+    (kind::DEPENDENCIES, 2),
+    (kind::CLIENT_PREFLIGHT, 3),
+    (kind::EQUIVOCATING, 0),
 ];
 
 #[derive(Clone, PartialEq, Eq, Debug)]
@@ -68,6 +74,19 @@ pub enum Step {
         job: u8,
         rival: u8,
     },
+    /// "Which papers must a vault see first."
+    Dependencies {
+        vault: u8,
+        job: u8,
+    },
+    /// "a preflight from one of desks 0 to 7"
+    ClientPreflight {
+        vault: u8,
+        job: u8,
+        client: u8,
+    },
+    /// "Naming a two-faced vault."
+    Equivocating,
 }
 
 /// The length of a step, kind and body, or nothing if the kind is unknown.
@@ -110,6 +129,11 @@ fn read_body(kind: u8, body: &[u8]) -> Step {
         (kind::GENERATIONS, &[job]) => Step::Generations { job },
         (kind::SNAPSHOT, &[]) => Step::Snapshot,
         (kind::RELEASE, &[vault, job, rival]) => Step::Release { vault, job, rival },
+        (kind::DEPENDENCIES, &[vault, job]) => Step::Dependencies { vault, job },
+        (kind::CLIENT_PREFLIGHT, &[vault, job, client]) => {
+            Step::ClientPreflight { vault, job, client }
+        }
+        (kind::EQUIVOCATING, &[]) => Step::Equivocating,
         _ => unreachable!("kind {kind} has another length in the table"),
     }
 }
@@ -134,6 +158,9 @@ impl Step {
             Step::Generations { .. } => kind::GENERATIONS,
             Step::Snapshot => kind::SNAPSHOT,
             Step::Release { .. } => kind::RELEASE,
+            Step::Dependencies { .. } => kind::DEPENDENCIES,
+            Step::ClientPreflight { .. } => kind::CLIENT_PREFLIGHT,
+            Step::Equivocating => kind::EQUIVOCATING,
         }
     }
 
@@ -149,7 +176,8 @@ impl Step {
             Step::Propose { record } => bytes.extend(&record[..record_bytes(version)]),
             Step::Preflight { vault, job }
             | Step::FaultySignature { vault, job }
-            | Step::FaultyAcknowledgement { vault, job } => bytes.extend([*vault, *job]),
+            | Step::FaultyAcknowledgement { vault, job }
+            | Step::Dependencies { vault, job } => bytes.extend([*vault, *job]),
             Step::Commit {
                 vault,
                 job,
@@ -160,8 +188,11 @@ impl Step {
             }
             Step::Show { job } | Step::Generations { job } => bytes.push(*job),
             Step::Draw { u } => bytes.push(*u),
-            Step::Snapshot => {}
+            Step::Snapshot | Step::Equivocating => {}
             Step::Release { vault, job, rival } => bytes.extend([*vault, *job, *rival]),
+            Step::ClientPreflight { vault, job, client } => {
+                bytes.extend([*vault, *job, *client]);
+            }
         }
         bytes
     }

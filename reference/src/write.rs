@@ -118,6 +118,18 @@ pub fn release(vault: u8, job: u8, rival: u8) -> Step {
     Step::Release { vault, job, rival }
 }
 
+pub fn client_preflight(vault: u8, job: u8, client: u8) -> Step {
+    Step::ClientPreflight { vault, job, client }
+}
+
+pub fn equivocating() -> Step {
+    Step::Equivocating
+}
+
 pub fn generations(job: u8) -> Step {
     Step::Generations { job }
+}
+
+pub fn dependencies(vault: u8, job: u8) -> Step {
+    Step::Dependencies { vault, job }
 }

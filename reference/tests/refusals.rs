@@ -56,7 +56,8 @@ fn refusal_1_of_headers() {
 #[test]
 fn refusal_2_ends_the_run() {
     let before = run_file(1, 0, 0, &[draw(0)]);
-    for kind in [0, KINDS.len() as u8 + 1, 255] {
+    let (last, _) = KINDS[KINDS.len() - 1];
+    for kind in [0, last + 1, 255] {
         let file = [&before[..], &[kind, 7, 0]].concat();
         assert_eq!(text(&file), "1 0 0\n2 2 0\n");
     }
@@ -70,11 +71,12 @@ fn refusal_2_ends_the_run() {
 #[test]
 fn refusals_3_5_and_4_in_this_order() {
     let booked = propose(accession(A, 1));
-    let sound: [fn(u8, u8) -> Step; 4] = [
+    let sound: [fn(u8, u8) -> Step; 5] = [
         preflight,
         |vault, job| commit(vault, job, 0),
         |vault, job| release(vault, job, 0),
         |vault, rival| release(vault, 0, rival),
+        |vault, job| client_preflight(vault, job, 8),
     ];
     for step in sound {
         for (vault, job, refusal) in [(4, 9, 3), (3, 9, 5), (2, 9, 4), (255, 0, 3)] {
@@ -280,4 +282,97 @@ fn a_released_signature_counts_on() {
     assert_eq!(superseded(&[again.clone(), preflight(0, 3)]), (14, 4));
     let steps = [release(0, 1, 2), again, preflight(0, 3)];
     assert_eq!(superseded(&steps), (0, 1));
+}
+
+/// The answer to the last of these steps at one vault where the six jobs 0 to
+/// 5 are booked, each of a tape of its own.
+fn asked(steps: &[Step]) -> (u64, u64) {
+    let labels = [A, B, C, D, b"EEEEEEL7", b"FFFFFFL7"];
+    let one = |label| propose(accession(label, 1));
+    let mut all: Vec<Step> = labels.into_iter().map(one).collect();
+    all.extend_from_slice(steps);
+    last(1, 0, 0, &all)
+}
+
+/// Client 0's requests for these jobs.
+fn requests(jobs: &[u8]) -> Vec<Step> {
+    let one = |job: &u8| client_preflight(0, *job, 0);
+    jobs.iter().map(one).collect()
+}
+
+#[test]
+fn refusal_22_of_no_client() {
+    for client in [8, 9, 255] {
+        assert_eq!(asked(&[client_preflight(0, 0, client)]), (22, 0));
+        assert_eq!(asked(&[client_preflight(0, 6, client)]), (4, 0));
+        // Before a job signed here is accepted.
+        let steps = [preflight(0, 0), client_preflight(0, 0, client)];
+        assert_eq!(asked(&steps), (22, 0));
+    }
+    assert_eq!(asked(&[client_preflight(0, 0, 7)]), (0, 1));
+}
+
+#[test]
+fn refusal_23_where_four_of_fifteen_brought_a_signature() {
+    for others in 0..=12 {
+        let mut jobs = vec![0, 1, 2, 3];
+        jobs.extend(vec![4; others]);
+        jobs.push(5);
+        let within = others == 12;
+        let answer = if within { (0, 1) } else { (23, 0) };
+        assert_eq!(asked(&requests(&jobs)), answer, "{others} others");
+    }
+}
+
+#[test]
+fn refusal_23_comes_after_a_signed_job_and_before_11_to_14() {
+    assert_eq!(asked(&requests(&[0, 1, 2, 3, 2])), (0, 1));
+    // Job 6 makes A too, which job 0 reserves.
+    let again = propose(accession(A, 2));
+    let mut steps = vec![again];
+    steps.extend(requests(&[0, 6]));
+    assert_eq!(asked(&steps), (14, 4));
+    steps.extend(requests(&[1, 2, 3, 6]));
+    assert_eq!(asked(&steps), (23, 0));
+}
+
+#[test]
+fn what_counts_for_a_client() {
+    // Refused by 14, and a job that was signed before: eleven and one more.
+    let mut steps = vec![propose(accession(A, 2))];
+    steps.extend(requests(&[0, 1, 2, 3]));
+    steps.extend(requests(&[6, 0, 6, 0, 6, 0, 6, 0, 6, 0, 6, 0]));
+    steps.extend(requests(&[4]));
+    assert_eq!(asked(&steps), (0, 1));
+    // Those that count for no client leave it over its quota.
+    let mut steps = requests(&[0, 1, 2, 3]);
+    for _ in 0..20 {
+        steps.extend([
+            client_preflight(1, 4, 0),
+            client_preflight(0, 9, 0),
+            client_preflight(0, 4, 8),
+        ]);
+    }
+    steps.extend(requests(&[4]));
+    assert_eq!(asked(&steps), (23, 0));
+}
+
+#[test]
+fn a_quota_is_one_clients_at_one_vault() {
+    let mut steps = requests(&[0, 1, 2, 3]);
+    assert_eq!(
+        asked(&[&steps[..], &[client_preflight(0, 4, 1)]].concat()),
+        (0, 1)
+    );
+    assert_eq!(asked(&[&steps[..], &[preflight(0, 4)]].concat()), (0, 1));
+    // Signatures by kind 2 bring a client nothing.
+    steps = (0..4).map(|job| preflight(0, job)).collect();
+    steps.extend(requests(&[4]));
+    assert_eq!(asked(&steps), (0, 1));
+    // Another vault has another list.
+    let one = |job| propose(accession(job, 1));
+    let mut steps: Vec<Step> = [A, B, C, D, b"EEEEEEL7"].into_iter().map(one).collect();
+    steps.extend(requests(&[0, 1, 2, 3]));
+    steps.push(client_preflight(1, 4, 0));
+    assert_eq!(last(2, 0, 0, &steps), (0, 1));
 }

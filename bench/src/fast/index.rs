@@ -117,6 +117,14 @@ impl Index {
         tapes.output_labels().iter().fold(by_input, outputs)
     }
 
+    /// The jobs held elsewhere that make an input which no held job makes.
+    #[inline]
+    pub fn missing(&self, held: Jobs, elsewhere: Jobs, tapes: &Tapes) -> Jobs {
+        let makers = tapes.input_tapes().iter().map(|&tape| self.makers(tape));
+        let lacking = makers.filter(|makers| makers & held == 0);
+        lacking.fold(0, |jobs, makers| jobs | makers & elsewhere)
+    }
+
     /// The first of checks 11 to 14 that the job fails at the vault, which has not signed it.
     #[inline(always)]
     pub fn refusal(&self, vault: Vault, tapes: &Tapes) -> Option<Answer> {

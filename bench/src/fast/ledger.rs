@@ -1,5 +1,6 @@
 //! The vaults and the booked jobs, and the steps upon them.
 use super::draw;
+use super::equivocation::{equivocators, Signed};
 use super::federation::Federation;
 use super::index::{Index, Jobs, Tapes};
 use super::record::{self, Record};
@@ -10,6 +11,8 @@ use reference::settings::MOST_VAULTS;
 
 // A set of jobs has a bit for each.
 const _: () = assert!(BOOK_RECORDS <= Jobs::BITS as usize);
+
+const CLIENTS: usize = 8;
 
 /// What a correct vault keeps.
 #[derive(Clone, Copy, Default)]
@@ -54,6 +57,10 @@ pub struct Ledger<'a> {
     /// The vault that a snapshot visits next, and the jobs that its round has seen.
     next: u8,
     seen: Jobs,
+    /// For each vault and client, its last fifteen counted requests, the newest lowest: a bit where a request brought a new signature.
+    histories: [[u16; CLIENTS]; MOST_VAULTS as usize],
+    /// The vaults that equivocate, where no signature has come since they were found.
+    named: Option<u16>,
 }
 
 impl<'a> Ledger<'a> {
@@ -67,6 +74,8 @@ impl<'a> Ledger<'a> {
             repeats: Repeats::new(),
             next: 0,
             seen: 0,
+            histories: [[0; CLIENTS]; MOST_VAULTS as usize],
+            named: None,
         }
     }
 
@@ -113,6 +122,7 @@ impl<'a> Ledger<'a> {
             }
             state.signed |= bit;
             booked.signatures.add(vault);
+            self.named = None;
         }
         Answer::done(booked.signatures.count.into())
     }
@@ -156,7 +166,11 @@ impl<'a> Ledger<'a> {
             return refusal;
         }
         let signatures = &mut self.jobs[usize::from(job)].signatures;
+        let before = signatures.count;
         signatures.add(vault);
+        if signatures.count != before {
+            self.named = None;
+        }
         Answer::done(signatures.count.into())
     }
 
@@ -235,6 +249,75 @@ impl<'a> Ledger<'a> {
         }
         state.signed &= !bit;
         Answer::done(booked.signatures.count.into())
+    }
+
+    /// The jobs that the vault misses, and how many they are.
+    #[inline]
+    pub fn dependencies(&self, vault: u8, job: u8) -> (Answer, Jobs) {
+        if let Some(refusal) = self.gate(vault, job, false) {
+            return (refusal, 0);
+        }
+        let mut state = self.vaults[usize::from(vault)];
+        if state.signed >> job & 1 == 1 {
+            return (Answer::done(0), 0);
+        }
+        let tapes = &self.jobs[usize::from(job)].tapes;
+        let missing = self.index.missing(state.held, self.arrived, tapes);
+        state.held |= missing;
+        match self.index.refusal(state, tapes) {
+            Some(_) => (Answer::refused(21, 0), 0),
+            None => (Answer::done(missing.count_ones() as u16), missing),
+        }
+    }
+
+    #[inline]
+    pub fn client_preflight(&mut self, vault: u8, job: u8, client: u8) -> Answer {
+        if let Some(refusal) = self.gate(vault, job, false) {
+            return refusal;
+        }
+        if usize::from(client) >= CLIENTS {
+            return Answer::refused(22, 0);
+        }
+        let history = &mut self.histories[usize::from(vault)][usize::from(client)];
+        let spent = history.count_ones() >= 4;
+        *history = *history << 1 & 0x7fff;
+        let state = &mut self.vaults[usize::from(vault)];
+        let booked = &mut self.jobs[usize::from(job)];
+        let bit = 1 << job;
+        if state.signed & bit == 0 {
+            if spent {
+                return Answer::refused(23, 0);
+            }
+            if let Some(refusal) = self.index.refusal(*state, &booked.tapes) {
+                return refusal;
+            }
+            *history |= 1;
+            state.signed |= bit;
+            booked.signatures.add(vault);
+        }
+        Answer::done(booked.signatures.count.into())
+    }
+
+    /// The vaults that equivocate, and how many they are.
+    #[inline]
+    pub fn equivocating(&mut self) -> (Answer, Jobs) {
+        let vaults = match self.named {
+            Some(vaults) => vaults,
+            None => self.equivocators(),
+        };
+        self.named = Some(vaults);
+        (Answer::done(vaults.count_ones() as u16), Jobs::from(vaults))
+    }
+
+    fn equivocators(&self) -> u16 {
+        let threshold = self.federation.threshold();
+        let signed = |(k, booked): (usize, &Booked)| Signed {
+            rivals: self.index.rivals(&booked.tapes) & !(1 << k),
+            signers: booked.signatures.vaults,
+            certified: booked.signatures.count >= threshold,
+        };
+        let jobs: Vec<Signed> = self.jobs.iter().enumerate().map(signed).collect();
+        equivocators(&jobs)
     }
 
     /// Checks 3, 5 and 4, of a step that is for faulty vaults or for correct ones.

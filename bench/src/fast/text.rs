@@ -1,8 +1,12 @@
 //! The lines that are printed. A line is put together in two words and stored at once: the step's number is kept in digits,
 //! and what follows it on the line is made at compile time.
+use super::index::Jobs;
+use reference::engine::BOOK_RECORDS;
 use reference::record::ENTRIES;
 use reference::refusal::REFUSALS;
-use reference::run::LONGEST_LINE;
+
+/// Room for a step's line, to begin with: what is listed may need more.
+const LINE: usize = 23;
 
 /// What a step answers, as the end of its line: a space, 0 or the refusal, a space, the value and the end of the line.
 #[derive(Clone, Copy)]
@@ -14,6 +18,8 @@ static DONE: [u64; VALUES] = done_endings();
 /// By refusal, of which none is 0, and entry.
 type Endings = [[u64; ENTRIES]; REFUSALS as usize + 1];
 static REFUSED: Endings = refused_endings();
+/// A job alone on its line.
+static LISTED: [u64; BOOK_RECORDS] = listed_jobs();
 
 impl Answer {
     #[inline(always)]
@@ -66,6 +72,16 @@ const fn refused_endings() -> Endings {
     endings
 }
 
+const fn listed_jobs() -> [u64; BOOK_RECORDS] {
+    let mut lines = [0; BOOK_RECORDS];
+    let mut job = 0;
+    while job < BOOK_RECORDS {
+        lines[job] = push_byte(push_number(0, job), b'\n');
+        job += 1;
+    }
+    lines
+}
+
 pub struct Lines<'a> {
     out: &'a mut Vec<u8>,
     /// The digits of the last line's number, the first in the low byte.
@@ -77,7 +93,7 @@ pub struct Lines<'a> {
 impl<'a> Lines<'a> {
     /// Makes room for the lines of this many bytes of steps: a step has one byte or more.
     pub fn new(out: &'a mut Vec<u8>, steps: usize) -> Lines<'a> {
-        out.reserve((steps + 1) * LONGEST_LINE + 16);
+        out.reserve((steps + 1) * LINE + 16);
         Lines {
             out,
             digits: u64::from(b'0'),
@@ -96,6 +112,19 @@ impl<'a> Lines<'a> {
         // A store of fixed size, cut afterwards, is quicker than a copy of variable size.
         self.out.extend_from_slice(&line);
         self.out.truncate(end);
+    }
+
+    /// Each job alone on a line, ascending.
+    #[inline(always)]
+    pub fn list(&mut self, mut jobs: Jobs) {
+        while jobs != 0 {
+            let line = LISTED[jobs.trailing_zeros() as usize];
+            let end = self.out.len() + (64 - line.leading_zeros()) as usize / 8;
+            // The last byte of a line is the end, 10: four bits of it are zeros.
+            self.out.extend_from_slice(&line.to_le_bytes());
+            self.out.truncate(end + 1);
+            jobs &= jobs - 1;
+        }
     }
 
     #[inline(always)]

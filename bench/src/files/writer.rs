@@ -96,6 +96,14 @@ impl Run {
         self.step(intended, write::generations(job));
     }
 
+    pub fn dependencies(&mut self, vault: u8, job: u8, intended: u8) {
+        self.step(intended, write::dependencies(vault, job));
+    }
+
+    pub fn equivocating(&mut self, intended: u8) {
+        self.step(intended, write::equivocating());
+    }
+
     /// Preflights at the vaults.
     pub fn preflights(&mut self, vaults: Range<u8>, job: u8, intended: u8) {
         for vault in vaults {

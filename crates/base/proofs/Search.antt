@@ -1,7 +1,7 @@
 -- What the searches say, and rules by which a loop that counts up computes one.
 -- A loop tests a callee's flag r, which is p i, and returns at the first that decides; its invariant says that none
 -- below i has. Each rule takes the flag as the code has it, so `search (searches, needs)` closes every need.
-use mathlib.Core.Bool.{Bool, _||_, false, true, true≢false}
+use mathlib.Core.Bool.{Bool, _||_, false, true, true≢false, _&&_}
 use mathlib.Core.Logic.{_⊎_, inl, inr, ⊎-elim}
 use mathlib.Core.Path.{_∙_, _≡_, ap, refl, sym}
 use Prim.Native.Nat.{_+_, _-_, _<_, _≤_, suc, zero, ℕ}
@@ -152,6 +152,11 @@ pub any-same : (p q : ℕ → Bool) (n : ℕ) → ((i : ℕ) → i < n → p i �
 unfolding anyBelow
 any-same p q zero h = refl
 any-same p q (suc n) h = rw (h n (le-refl (suc n)), any-same p q n (λ i l. h i (omega arith)))
+
+-- a test that all have in common can stand before the search
+pub any-and : (b : Bool) (p : ℕ → Bool) (n : ℕ) → anyBelow n (λ e. b && p e) ≡ (b && anyBelow n p)
+any-and true p n = refl
+any-and false p n = none-any (λ e. false) n (λ i l. refl)
 
 pub first-same : (p q : ℕ → Bool) (n : ℕ) → ((i : ℕ) → i < n → p i ≡ q i) → firstBelow n p ≡ firstBelow n q
 unfolding firstBelow

@@ -56,6 +56,7 @@ fn empty(n: u8, b: u8, faulty: u16, version: u16) -> Ledger
     let order = [0u8; 128];
     let seen = JobSet::empty();
     let vaults = [Vault::new(); 16];
+    let histories = [0u16; 128];
     Ledger {
         settings,
         booked: 0,
@@ -65,6 +66,7 @@ fn empty(n: u8, b: u8, faulty: u16, version: u16) -> Ledger
         votes,
         order,
         vaults,
+        histories,
     }
 }
 
@@ -159,6 +161,20 @@ pub fn apply(mut ledger: Ledger, change: Change, vault: u8, job: u8) -> Ledger
             ledger.next = next;
             ledger
         }
+        Change::Count(history) => {
+            let place = quota::place(vault, history.client);
+            ledger.histories[place] = history.requests;
+            ledger
+        }
+        Change::Grant(grant) => {
+            let state = grant.vault;
+            let history = grant.history;
+            let at = quota::place(vault, history.client);
+            ledger.vaults[v] = state;
+            ledger.votes[j] = votes.with(Column::Signatures, vault);
+            ledger.histories[at] = history.requests;
+            ledger
+        }
     }
 }
 
@@ -175,6 +191,8 @@ pub fn is_nothing(change: Change) -> bool
         Change::Release(_) => false,
         Change::Record(_) => false,
         Change::See(_) => false,
+        Change::Count(_) => false,
+        Change::Grant(_) => false,
     }
 }
 
@@ -189,5 +207,7 @@ pub fn is_book(change: Change) -> bool
         Change::Release(_) => false,
         Change::Record(_) => false,
         Change::See(_) => false,
+        Change::Count(_) => false,
+        Change::Grant(_) => false,
     }
 }

@@ -3,12 +3,12 @@ use mathlib.Core.Bool.{true}
 use mathlib.Core.Logic.{inl, inr, ⊎-elim}
 use mathlib.Core.Path.{_≡_, refl, subst, sym}
 use Prim.Native.Nat.{_+_, ℕ}
-use Rattle.base.proofs.Reflect.{reflect-and, reflect-as, reflect-eq, reflect-or}
+use Rattle.base.proofs.Reflect.{reflect-and, reflect-as, reflect-eq, reflect-not, reflect-or}
 use Rattle.base.proofs.Search.{reflect-any}
 use Rattle.base.specs.Reflect.{Reflects}
-use Rattle.conflicts.specs.Conflicts.{conflicting, isLabelAt, isTapeAt, labelIn, makesTape, sharesAt, sharesIn}
+use Rattle.conflicts.specs.Conflicts.{conflicting, isLabelAt, isRival, isTapeAt, labelIn, makesTape, sharesAt, sharesIn}
 use Rattle.record.specs.Entries.{framesOf, labelOf}
-use Rattle.conflicts.specs.Meaning.{Conflicting, LabelIn, MakesTape, SharesIn}
+use Rattle.conflicts.specs.Meaning.{Conflicting, LabelIn, MakesTape, Rivals, SharesIn}
 use Rattle.record.specs.declared.Job.{Job}
 use Rattle.record.proofs.Meaning.{reflect-used}
 
@@ -39,7 +39,20 @@ unfolding conflicting
 reflect-conflicting a b = reflect-or (reflect-shares 0 a b) (reflect-shares 4 a b)
 
 -- to conflict goes both ways
+shares-sym : (a b : Job) → Conflicting a b → Conflicting b a
+shares-sym a b h = ⊎-elim (λ s. inl (s .0, (s .1 .1, s .1 .0))) (λ s. inr (s .0, (s .1 .1, s .1 .0))) h
+
 pub conflicting-sym : (a b : Job) → conflicting a b ≡ true → conflicting b a ≡ true
-conflicting-sym a b e =
-    reflect-conflicting b a .complete
-    (⊎-elim (λ s. inl (s .0, (s .1 .1, s .1 .0))) (λ s. inr (s .0, (s .1 .1, s .1 .0))) (reflect-conflicting a b .sound e))
+conflicting-sym a b e = reflect-conflicting b a .complete (shares-sym a b (reflect-conflicting a b .sound e))
+
+-- ---- rivals
+pub reflect-rival : (job : ℕ → Job) (i k : ℕ) → Reflects (isRival job i k) (Rivals job i k)
+unfolding isRival
+reflect-rival job i k =
+    reflect-as (reflect-and (reflect-not (reflect-eq i k)) (reflect-conflicting (job i) (job k)))
+    (λ h. record { different = h .0; shares = h .1 })
+    (λ h. (h .different, h .shares))
+
+-- to be rivals goes both ways
+pub rivals-sym : (job : ℕ → Job) (i k : ℕ) → Rivals job i k → Rivals job k i
+rivals-sym job i k h = record { different = λ e. h .different (sym e); shares = shares-sym (job i) (job k) (h .shares) }

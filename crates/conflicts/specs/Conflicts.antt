@@ -1,5 +1,5 @@
 -- Which labels a job has on which side, and when two jobs conflict (document 02's rivals).
-use mathlib.Core.Bool.{Bool, _&&_, _||_}
+use mathlib.Core.Bool.{Bool, _&&_, _||_, not}
 use Prim.Native.Nat.{_+_, ℕ}
 use lib.Dec.{eqb}
 use Rattle.base.specs.Search.{anyBelow}
@@ -32,3 +32,7 @@ sharesIn half a b = anyBelow 4 (sharesAt half a b)
 -- they share an input label or an output label
 unfoldable pub conflicting : Job → Job → Bool
 conflicting a b = sharesIn 0 a b || sharesIn 4 a b
+
+-- of numbered jobs: "Two different jobs are rivals if they share an input label or an output label." (M-105)
+unfoldable pub isRival : (ℕ → Job) → ℕ → ℕ → Bool
+isRival job i k = not (eqb i k) && conflicting (job i) (job k)

@@ -1,5 +1,5 @@
 -- What it means that a job has a label or a tape, and that two jobs conflict, said without a search.
-use mathlib.Core.Logic.{_⊎_}
+use mathlib.Core.Logic.{_≢_, _⊎_}
 use mathlib.Core.Path.{_≡_}
 use Prim.Native.Nat.{_+_, ℕ}
 use Rattle.base.specs.Search.{Some}
@@ -21,3 +21,8 @@ SharesIn half a b = (label : ℕ) × (LabelIn half a label × LabelIn half b lab
 
 abbrev pub Conflicting : Job → Job → Type 0
 Conflicting a b = SharesIn 0 a b ⊎ SharesIn 4 a b
+
+-- two different jobs that conflict
+pub record Rivals (job : ℕ → Job) (i k : ℕ) : Type 0 where
+  pub different : i ≢ k
+  pub shares : Conflicting (job i) (job k)

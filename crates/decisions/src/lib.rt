@@ -1,5 +1,8 @@
 // What a step decides, from the pieces that it names: the verdict of the checks before, a vault, the votes on a job. The ledger's
 // operations and the run share these functions.
+mod clients;
+mod equivocators;
+mod missing;
 mod releases;
 
 ghost use mathlib.Core.Bool.{_&&_, not};
@@ -33,9 +36,14 @@ ghost use Rattle.ledger.specs.Holders.{isHeld};
 ghost use Rattle.ledger.specs.Steps.{gateOf};
 ghost use Rattle.vaults.specs.Votes.{columnOf};
 ghost use Rattle.ledger.specs.declared.Change.the-variants.{Record};
+pub use clients::client_preflight;
+pub use equivocators::equivocating;
 use federation::Settings;
 use ledger::Change;
 use ledger::Decision;
+pub use missing::dependencies;
+pub use missing::list;
+pub use missing::unlist;
 use outcome::Outcome;
 use outcome::Refusal;
 use outcome::Verdict;

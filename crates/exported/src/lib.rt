@@ -1,7 +1,7 @@
 // The run for programs in C or Rust to link: what the comparisons with the Rust reference call in process.
 ghost use Rattle.run.specs.Pieces.{Filled};
 
-// The first piece of the text, which is the whole of it in a buffer that has room for one line more.
+// The first piece of the text, which is the whole of it in a buffer that has room for the longest text of one step more.
 #[no_mangle]
 pub extern "C" fn custody_run(input: &[u8], out: &mut [u8]) -> usize
     ensures { λ r. ⌜ Filled (now (input .entry)) (now (out .entry)) (now (out .exit)) r ⌝ }

@@ -103,7 +103,7 @@ listed-union job n half a b label = same-truth _ _ out into
         (one b (λ m h. job-union-has a b m ∙ or-intro (jobHas a m) (jobHas b m) (inr h)))
         (or-true (anyBelow n (has a)) (anyBelow n (has b)) e)
 
-spread : (a b c d : Bool) → (a && (b && (c || d))) ≡ ((a && (b && c)) || (a && (b && d)))
+pub spread : (a b c d : Bool) → (a && (b && (c || d))) ≡ ((a && (b && c)) || (a && (b && d)))
 spread true true c d = refl
 spread true false c d = refl
 spread false b c d = refl

@@ -1,13 +1,13 @@
 -- A conflict by the index is that of the two jobs: against the set of the other job alone, an input offends where the other job has its label as an
 -- input, and an output where it has its label as an output.
-use mathlib.Core.Bool.{Bool, _&&_, _||_, false, true, true≢false}
+use mathlib.Core.Bool.{Bool, _&&_, _||_, true}
 use mathlib.Core.List.{List}
 use mathlib.Core.Path.{_∙_, _≡_, ap₂, subst, sym}
 use Prim.Native.Nat.{_*_, _+_, _<_, _≤_, ℕ}
 use native.Mathlib.Nat.{zero-add}
 use native.Mathlib.Omega.{arith}
-use lib.Dec.{eqb, ltb}
-use borrow.Author.Tests.{eqb-false, eqb-true, lt-ltb}
+use lib.Dec.{ltb}
+use borrow.Author.Tests.{lt-ltb}
 use Rattle.base.proofs.Reflect.{and-true, by-test, same-truth}
 use Rattle.base.proofs.Search.{any-elim, any-intro, any-same, first-any, first-none, found-none}
 use Rattle.base.specs.Search.{anyBelow, firstBelow}
@@ -15,8 +15,9 @@ use Rattle.codec.specs.Codec.{jobOf}
 use Rattle.conflicts.specs.Conflicts.{conflicting, labelIn, sharesAt, sharesIn}
 use Rattle.record.specs.Entries.{labelOf}
 use Rattle.record.specs.declared.Job.{Job}
-use Rattle.sets.proofs.Jobs.{has-no-jobs, job-with-other, job-with-same, no-jobs-words, with-words}
-use Rattle.sets.specs.Jobs.{InWords, jobHas, jobWith, noJobs}
+use Rattle.sets.proofs.Few.{one, one-is, one-words}
+use Rattle.sets.proofs.Jobs.{job-with-same}
+use Rattle.sets.specs.Jobs.{jobHas, jobWith, noJobs}
 use Rattle.sets.specs.declared.job_set.JobSet.{JobSet}
 use Rattle.journal.specs.Journal.{capacity, jobAt, recordAt}
 use Rattle.index.proofs.Admits.{used-input, used-output, where-used}
@@ -30,17 +31,6 @@ use Rattle.index.specs.Places.{Entered}
 -- a search ends before n exactly where some number below n passes
 found-any : (p : ℕ → Bool) (n : ℕ) → ltb (firstBelow n p) n ≡ anyBelow n p
 found-any p n = by-test (anyBelow n p) (λ e. lt-ltb (firstBelow n p) n (first-any p n e) ∙ sym e) (λ e. found-none p n (first-none p n e) ∙ sym e)
-
-abbrev one : ℕ → JobSet
-one m = jobWith noJobs m
-
-one-words : (m : ℕ) → InWords (one m)
-one-words m = with-words noJobs m no-jobs-words
-
--- a job of the set of m alone is m
-one-is : (m k : ℕ) → jobHas (one m) k ≡ true → k ≡ m
-one-is m k h =
-    by-test (eqb k m) (eqb-true k m) (λ e. absurd (true≢false (sym h ∙ job-with-other noJobs m k (eqb-false k m e) ∙ has-no-jobs k)))
 
 module _ (job : ℕ → Job) (n : ℕ) (few : n ≤ capacity) (m : ℕ) (lm : m < n) where
   listed-one : (half label : ℕ) → listedBy job n half (one m) label ≡ labelIn half (job m) label

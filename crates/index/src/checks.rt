@@ -21,7 +21,7 @@ pub(crate) const WRITERS: usize = 1;
 
 const MAKERS: usize = 2;
 
-fn set_of(numbers: &[u16], sets: &[u64], at: usize, kind: usize) -> JobSet
+pub(crate) fn set_of(numbers: &[u16], sets: &[u64], at: usize, kind: usize) -> JobSet
     requires { ⌜ (at < linksAt) × (kind < 3) × Tables (now numbers) (now sets) ⌝ }
     ensures { λ r. ⌜ (r ≡ setOf (now (numbers .entry)) (now (sets .entry)) at kind) × InWords r ⌝ }
 {

@@ -23,9 +23,13 @@ slotAt version journal k = take (recordSize version) (drop (placeOf version k) j
 abbrev pub slots : ℕ → List ℕ → ℕ
 slots version journal = wholeIn version (length journal)
 
+-- every booked record lies wholly inside the journal
+abbrev pub isWhole : ℕ → List ℕ → ℕ → Bool
+isWhole version journal booked = leb booked (slots version journal)
+
 -- check 4 passes: the job is booked, and every booked record lies wholly inside the journal
 unfoldable pub isBooked : ℕ → List ℕ → ℕ → ℕ → Bool
-isBooked version journal booked k = leb booked (slots version journal) && ltb k booked
+isBooked version journal booked k = isWhole version journal booked && ltb k booked
 
 -- the same, said without a test
 pub record Booked (version : ℕ) (journal : List ℕ) (booked job : ℕ) : Type 0 where

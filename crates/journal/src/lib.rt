@@ -3,16 +3,23 @@ ghost use mathlib.Core.Path.{_≡_};
 ghost use Prim.Native.Nat.{_+_, _≤_};
 ghost use lib.ListN.{length};
 ghost use Rattle.codec.specs.Codec.{placeOf, recordSize};
-ghost use Rattle.journal.specs.Journal.{isBooked, recordAt, insideOf, slotAt, equalAt, hasRoom, putAt};
+ghost use Rattle.journal.specs.Journal.{isWhole, isBooked, recordAt, insideOf, slotAt, equalAt, hasRoom, putAt};
 
 // How many records a journal books at most.
 pub const CAPACITY: usize = 128;
 
-// Check 4: the job is booked, and every booked record lies wholly inside. Counted in whole records, because a product could overflow.
+// Check 4 of a step that names no job: every booked record lies wholly inside. Counted in whole records, because a product could overflow.
+pub fn is_whole(version: u16, journal: &[u8], booked: usize) -> bool
+    ensures { λ r. ⌜ r ≡ isWhole version (now (journal .entry)) booked ⌝ }
+{
+    booked <= codec::whole_in(version, journal.len())
+}
+
+// Check 4: the job is booked, and every booked record lies wholly inside.
 pub fn is_booked(version: u16, journal: &[u8], booked: usize, job: usize) -> bool
     ensures { λ r. ⌜ r ≡ isBooked version (now (journal .entry)) booked job ⌝ }
 {
-    if booked <= codec::whole_in(version, journal.len()) {
+    if is_whole(version, journal, booked) {
         return job < booked;
     }
     false

@@ -19,7 +19,8 @@ use Rattle.sets.proofs.Jobs.{job-without-other, job-without-same}
 use Rattle.sets.specs.Bits.{hasBit}
 use Rattle.sets.specs.Jobs.{jobHas, jobWithout}
 use Rattle.sets.specs.declared.job_set.JobSet.{JobSet}
-use Rattle.ledger.proofs.Changes.{Change, Idle, Shape, appends, changes, holds, idle, nothing, releases, sees, signs, tableOf, votes}
+use Rattle.ledger.proofs.Changes.{Change, Idle, Shape, appends, changes, counts, grants, holds, idle, nothing, releases, sees, signs}
+use Rattle.ledger.proofs.Changes.{signedBy, tableOf, votes}
 use Rattle.ledger.proofs.Effects.{
   hold-acked,
   hold-booked,
@@ -40,11 +41,13 @@ use Rattle.ledger.proofs.Places.{examined-length}
 use Rattle.ledger.proofs.Views.{ackedAt, heldAt, recordedAt, signedAt, voted-added, votedAt}
 use Rattle.ledger.specs.Demand3.{Apart, bookedJob, recordsIn}
 use Rattle.ledger.specs.Graph.{Algorithm1, Lister}
-use Rattle.ledger.specs.Ready.{Spares}
+use Rattle.ledger.specs.Ready.{NoRival, Spares}
 use Rattle.ledger.specs.Register.{Register, isDone}
-use Rattle.ledger.specs.State.{booking, vaultAt, versionOf, visited, voted, votesIn, withVault}
-use Rattle.ledger.specs.Worlds.{Event, Request, World, after, commit, faultyVote, generations, preflight, propose, release, replyTo, show, snapshot}
+use Rattle.ledger.specs.State.{booking, counted, vaultAt, versionOf, visited, voted, votesIn, withVault}
+use Rattle.ledger.specs.Worlds.{Event, Request, World, after, clientPreflight, commit, dependencies, equivocating, faultyVote, generations, preflight}
+use Rattle.ledger.specs.Worlds.{propose, release, replyTo, show, snapshot}
 use Rattle.federation.specs.declared.Settings.{Settings}
+use Rattle.ledger.specs.declared.History.{History}
 use Rattle.ledger.specs.declared.Ledger.{Ledger}
 use Rattle.vaults.specs.declared.Vault.{Vault}
 use Rattle.vaults.specs.declared.Column.the-variants.{Acknowledgements}
@@ -69,13 +72,17 @@ module _ (w : World) (sh : Shape (w .ledger) (w .booked)) where
   has-votes : (k : ℕ) → k < l .booked → k < length (l .votes)
   has-votes k h = omega (arith, sh .votes, sh .room)
 
+  -- a signature leaves both as they were
+  acknowledged-sign : (v k : ℕ) → Acknowledged l → Acknowledged (signedBy l v k)
+  acknowledged-sign v k a u m t =
+      ap (λ (f : ℕ → ℕ → Bool). f u m) (sign-acked l v k) ∙ a u m (ap (λ (f : ℕ → ℕ → Bool). f u m) (sym (sign-held l v k)) ∙ t)
+
   pub acknowledged-on : (q : Request) (done : Bool) (w′ : World) → Change w q done w′ → Acknowledged l → Acknowledged (w′ .ledger)
-  unfolding booking visited voted withVault votesIn votedAt heldAt
+  unfolding booking counted visited voted withVault votesIn votedAt heldAt
   acknowledged-on q done w′ (nothing p) a = a
   acknowledged-on q done w′ (idle p m) a = a
   acknowledged-on q done w′ (appends bytes e h n) a = a
-  acknowledged-on q done w′ (signs v k c h b) a =
-      λ u m t. ap (λ (f : ℕ → ℕ → Bool). f u m) (sign-acked l v k) ∙ a u m (ap (λ (f : ℕ → ℕ → Bool). f u m) (sym (sign-held l v k)) ∙ t)
+  acknowledged-on q done w′ (signs v k c h b) a = acknowledged-sign v k a
   acknowledged-on q done w′ (votes d v k h f b) a = λ u m t. voted-added l d v k (is-vault v h) Acknowledgements .old m u (a u m t)
   acknowledged-on q done w′ (holds v k signers c h e) a =
       λ u m t.
@@ -83,6 +90,8 @@ module _ (w : World) (sh : Shape (w .ledger) (w .booked)) where
       ⊎-elim (λ o. g .old m u (a u m o)) (λ x. rw (x .0, x .1) (g .new)) (hold-held l v k (in-vaults v (c .below)) (is-job k h) .cases u m t)
   acknowledged-on q done w′ sees a = a
   acknowledged-on q done w′ (releases v k m c s h n) a = λ u i t. a u i (ap (λ (f : ℕ → ℕ → Bool). f u i) (sym (release-held l v k)) ∙ t)
+  acknowledged-on q done w′ (counts v k client d h) a = a
+  acknowledged-on q done w′ (grants v k client h c b u) a = acknowledged-sign v k a
 
   -- ---- what a request that is answered 0 leaves
   abbrev pub Leaves : World → Request → Type 0
@@ -94,6 +103,9 @@ module _ (w : World) (sh : Shape (w .ledger) (w .booked)) where
   Leaves w′ (generations k) = Unit {0}
   Leaves w′ snapshot = Unit {0}
   Leaves w′ (release v k rival) = Unit {0}
+  Leaves w′ (dependencies v k) = Unit {0}
+  Leaves w′ (clientPreflight v k client) = Unit {0}
+  Leaves w′ equivocating = Unit {0}
 
   leaves-idle : ((v k : ℕ) → signedAt l v k ≡ true → recordedAt l v k ≡ true) → (q : Request) → Idle w q → Leaves w q
   unfolding signedAt heldAt
@@ -105,6 +117,9 @@ module _ (w : World) (sh : Shape (w .ledger) (w .booked)) where
   leaves-idle b (generations k) m = tt
   leaves-idle b snapshot m = tt
   leaves-idle b (release v k rival) m = tt
+  leaves-idle b (dependencies v k) m = tt
+  leaves-idle b (clientPreflight v k client) m = tt
+  leaves-idle b equivocating m = tt
 
   pub leaves : ((v k : ℕ) → signedAt l v k ≡ true → recordedAt l v k ≡ true) → (q : Request) (done : Bool) (w′ : World) → Change w q done w′ → done ≡ true
       → Leaves w′ q
@@ -116,6 +131,8 @@ module _ (w : World) (sh : Shape (w .ledger) (w .booked)) where
   leaves b q done w′ (holds v k signers c h e) d = hold-held l v k (in-vaults v (c .below)) (is-job k h) .new
   leaves b q done w′ sees d = tt
   leaves b q done w′ (releases v k m c s h n) d = tt
+  leaves b q done w′ (counts v k client e h) d = tt
+  leaves b q done w′ (grants v k client h c x u) d = tt
 
   -- ---- booked jobs stay as they are
   pub record More (w′ : World) : Type 0 where
@@ -123,7 +140,7 @@ module _ (w : World) (sh : Shape (w .ledger) (w .booked)) where
     pub jobs : (k : ℕ) → k < l .booked → bookedJob w′ k ≡ bookedJob w k
 
   pub more : (q : Request) (done : Bool) (w′ : World) → Change w q done w′ → More w′
-  unfolding booking visited voted withVault
+  unfolding booking counted visited voted withVault
   more q done w′ (nothing p) = record { booked = le-refl _; jobs = λ k h. refl }
   more q done w′ (idle p m) = record { booked = le-refl _; jobs = λ k h. refl }
   more q done w′ (appends bytes e h n) = record {
@@ -141,6 +158,8 @@ module _ (w : World) (sh : Shape (w .ledger) (w .booked)) where
   }
   more q done w′ sees = record { booked = le-refl _; jobs = λ k h. refl }
   more q done w′ (releases v k m c s h n) = record { booked = le-refl _; jobs = λ k h. refl }
+  more q done w′ (counts v k client d h) = record { booked = le-refl _; jobs = λ k h. refl }
+  more q done w′ (grants v k client h c x u) = record { booked = le-refl _; jobs = λ k h. refl }
 
   -- ---- what a step that spares the job does at a vault of the set
   module _ (s j v : ℕ) (member : hasBit s v ≡ true) where
@@ -162,13 +181,10 @@ module _ (w : World) (sh : Shape (w .ledger) (w .booked)) where
       still = λ t. ap (λ (x : Vault). jobHas (x .signed) j) e ∙ t;
     }
 
-    spared : (q : Request) (done : Bool) (w′ : World) → Change w q done w′ → Spares w s j q → Spared (w′ .ledger)
-    unfolding booking visited voted
-    spared q done w′ (nothing p) a = spared-as (w′ .ledger) refl
-    spared q done w′ (idle p m) a = spared-as (w′ .ledger) refl
-    spared q done w′ (appends bytes e h n) a = spared-as (w′ .ledger) refl
-    spared q done w′ (signs u k c h b) a =
-        let g = sign-signed l u k (in-vaults u (c .below)) (is-job k h) in
+    -- it signed a job that has no label of j
+    spared-sign : (u k : ℕ) → u < l .settings .n → k < l .booked → (hasBit s u ≡ true → NoRival w j k) → Spared (signedBy l u k)
+    spared-sign u k c h a =
+        let g = sign-signed l u k (in-vaults u c) (is-job k h) in
         record {
           held = λ m t. inl (ap (λ (f : ℕ → ℕ → Bool). f v m) (sym (sign-held l u k)) ∙ t);
           signed = λ m n t. ⊎-elim inl
@@ -176,6 +192,18 @@ module _ (w : World) (sh : Shape (w .ledger) (w .booked)) where
               (g .cases v m t);
           still = g .old v j;
         }
+
+    -- a history is no part of a vault
+    spared-count : (m : Ledger) (u : ℕ) (h : History) → Spared m → Spared (counted m u h)
+    unfolding counted heldAt signedAt
+    spared-count m u h p = record { held = p .held; signed = p .signed; still = p .still }
+
+    spared : (q : Request) (done : Bool) (w′ : World) → Change w q done w′ → Spares w s j q → Spared (w′ .ledger)
+    unfolding booking visited voted
+    spared q done w′ (nothing p) a = spared-as (w′ .ledger) refl
+    spared q done w′ (idle p m) a = spared-as (w′ .ledger) refl
+    spared q done w′ (appends bytes e h n) a = spared-as (w′ .ledger) refl
+    spared q done w′ (signs u k c h b) a = spared-sign u k (c .below) h a
     spared q done w′ (votes e u k h f x) a = spared-as (w′ .ledger) refl
     spared q done w′ (holds u k signers c h e) a = record {
       held = λ m t. ⊎-elim inl
@@ -190,6 +218,8 @@ module _ (w : World) (sh : Shape (w .ledger) (w .booked)) where
       signed = λ i ne t. inl (release-signed l u k .old v i t);
       still = λ t. ⊎-elim (λ o. o) (λ e. absurd (a (ap (hasBit s) (sym (e .0)) ∙ member) (sym (e .1)))) (release-signed l u k .cases v j t);
     }
+    spared q done w′ (counts u k client d h) a = spared-count l u h (spared-as l refl)
+    spared q done w′ (grants u k client h c b x) a = spared-count (signedBy l u k) u h (spared-sign u k (c .below) b a)
 
 -- ---- acceptance lasts
 module _ {w : World} {r : Register} (i : Inv w r) (e : Event) (s j v : ℕ) (booked : j < w .ledger .booked) (member : hasBit s v ≡ true)

@@ -75,7 +75,7 @@ module _ (l : Ledger) (journal : List ℕ) (v k : ℕ) (in-place : Entered l jou
   unfolding preflightDecision preflighting consent vaultPreflight
   signed-again s = simp (enters l journal v k false in-place, s)
 
-  asked : jobHas (vault .signed) k ≡ false
+  pub asked : jobHas (vault .signed) k ≡ false
       → preflightDecision l journal v k
       ≡ (let s = consented (admission jobs (l .booked) (vault .held) (jobWithout (vault .signed) k) (jobs k)) vault k in consenting (s .consent)
       (s .vault) (signersOf l k) v)
@@ -87,7 +87,7 @@ module _ (l : Ledger) (journal : List ℕ) (v k : ℕ) (in-place : Entered l jou
   algorithm-signs s a = asked s ∙ simp (signs-admission jobs (l .booked) (vault .held) (jobWithout (vault .signed) k) (jobs k) a)
 
   -- and only there; a booked record passed checks 6 to 9
-  by-verdict : (d : Verdict) → isDone ((let s = consented d vault k in consenting (s .consent) (s .vault) (signersOf l k) v) .outcome) ≡ true → d ≡ Pass
+  pub by-verdict : (d : Verdict) → isDone ((let s = consented d vault k in consenting (s .consent) (s .vault) (signersOf l k) v) .outcome) ≡ true → d ≡ Pass
   by-verdict Pass e = refl
   by-verdict (Fail why) e = absurd (true≢false (sym e))
 

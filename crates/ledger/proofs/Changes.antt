@@ -1,6 +1,7 @@
 -- What a step does: one effect under its guard, or nothing. One case analysis of the steps, from which the invariant, what only
 -- grows and that a refused step changes nothing all follow. The steps that read only what is booked do so whatever journal is lent.
 use Rattle.sets.specs.declared.job_set.JobSet.{JobSet}
+use Rattle.quota.specs.Quota.{isClient, isSpent}
 use Rattle.snapshot.specs.Snapshot.{seenAfter}
 use mathlib.Core.Bool.{Bool, cond, false, not, true}
 use mathlib.Core.List.{List, [], _++_}
@@ -16,9 +17,10 @@ use borrow.Author.Tests.{eqb-false, eqb-true, leb-true}
 use Rattle.base.proofs.Members.{getD-in, in-getD}
 use Rattle.base.proofs.Reflect.{and-true, by-cases, reflect-false}
 use Rattle.base.specs.Lists.{In}
-use Rattle.outcome.specs.declared.Outcome.the-variants.{Done}
+use Rattle.outcome.specs.declared.Outcome.{Outcome}
+use Rattle.outcome.specs.declared.Outcome.the-variants.{Done, Refused}
 use Rattle.outcome.specs.declared.Refusal.{Refusal}
-use Rattle.outcome.specs.declared.Refusal.the-variants.{Full, NotHeld, Settings as BadSettings}
+use Rattle.outcome.specs.declared.Refusal.the-variants.{Full, NoClient, NotHeld, OverQuota, Settings as BadSettings}
 use Rattle.outcome.specs.declared.Verdict.{Verdict}
 use Rattle.outcome.specs.declared.Verdict.the-variants.{Fail, Pass}
 use Rattle.checks.specs.Checks.{examined}
@@ -44,17 +46,22 @@ use Rattle.generations.specs.Generations.{ageIn}
 use Rattle.journal.specs.Journal.{insideOf, isBooked, jobAt, slotAt}
 use Rattle.ledger.specs.Meaning.{Entered, KnownAt, NewAt, Proposed, Sane, failed, full, insane, known, new}
 use Rattle.ledger.specs.Register.{isDone, tabled}
-use Rattle.ledger.specs.State.{applied, arriving, booking, signersOf, vaultAt, versionOf, visited, voted, votesAt, votesIn, withVault}
+use Rattle.ledger.specs.State.{applied, arriving, booking, counted, historyAt, signersOf, vaultAt, versionOf, visited, voted, votesAt}
+use Rattle.ledger.specs.State.{votesIn, withVault}
 use Rattle.ledger.specs.State.{acknowledgersOf}
 use Rattle.ledger.specs.Decisions.{
   admissionAt,
   ageing,
   answering,
   certificate,
+  clientPreflighting,
   committing,
   consent,
   consenting,
+  countedConsent,
+  counting,
   gated,
+  historyWith,
   preflighting,
   receiving,
   refusing,
@@ -64,11 +71,17 @@ use Rattle.ledger.specs.Decisions.{
   supersededAt,
   supersession,
   voting,
+  withinQuota,
 }
 use Rattle.ledger.specs.Steps.{
   bookedGate,
   carried,
+  clientPreflightDecision,
   commitDecision,
+  dependenciesDecision,
+  dependenciesOf,
+  equivocatorsDecision,
+  equivocatorsOf,
   faultyVoteDecision,
   generationsDecision,
   journalAfter,
@@ -87,7 +100,10 @@ use Rattle.ledger.specs.Worlds.{
   Request,
   World,
   after,
+  clientPreflight,
   commit,
+  dependencies,
+  equivocating,
   faultyVote,
   generations,
   leftBy,
@@ -101,11 +117,12 @@ use Rattle.ledger.specs.Worlds.{
   snapshot,
   stepOf,
 }
-use Rattle.ledger.specs.declared.Change.the-variants.{Hold, Record, Release, Sign}
+use Rattle.ledger.specs.declared.Change.the-variants.{Count, Grant, Hold, Nothing, Record, Release, Sign}
 use Rattle.vaults.specs.declared.Column.{Column}
 use Rattle.vaults.specs.declared.Column.the-variants.{Acknowledgements, Signatures}
 use Rattle.vaults.specs.declared.Consent.the-variants.{Already}
 use Rattle.ledger.specs.declared.Decision.{Decision}
+use Rattle.ledger.specs.declared.History.{History}
 use Rattle.ledger.specs.declared.Ledger.{Ledger}
 use Rattle.ledger.specs.declared.Reply.{Reply}
 use Rattle.vaults.specs.declared.Signing.{Signing}
@@ -116,6 +133,7 @@ pub record Shape (l : Ledger) (bs : List ℕ) : Type 0 where
   pub vaults : length (l .vaults) ≡ 16
   pub votes : length (l .votes) ≡ 128
   pub order : length (l .order) ≡ 128
+  pub histories : length (l .histories) ≡ 128
   pub arrivals : l .arrivals ≤ 128
   pub records : length bs ≡ placeOf (versionOf l) (l .booked)
   pub room : l .booked ≤ 128
@@ -158,6 +176,9 @@ Idle w (show k) = Unit {0}
 Idle w (generations k) = Unit {0}
 Idle w snapshot = ⊥
 Idle w (release v k rival) = ⊥
+Idle w (dependencies v k) = Unit {0}
+Idle w (clientPreflight v k client) = ⊥
+Idle w equivocating = Unit {0}
 
 pub data Change (w : World) : Request → Bool → World → Type 0 where
   -- refused
@@ -178,6 +199,11 @@ pub data Change (w : World) : Request → Bool → World → Type 0 where
   releases : (v k rival : ℕ) → Correct (w .ledger .settings) v → jobHas (vaultAt (w .ledger) v .signed) k ≡ true
       → jobHas (vaultAt (w .ledger) v .held) rival ≡ true → Rival (tabled (tableOf w)) rival k
       → Change w (release v k rival) true (withLedger w (releasedBy (w .ledger) v k))
+  -- a client's request that brings no new signature, be it refused or not: its history alone changes
+  counts : (v k client : ℕ) (done : Bool) (h : History) → Change w (clientPreflight v k client) done (withLedger w (counted (w .ledger) v h))
+  grants : (v k client : ℕ) (h : History) → Correct (w .ledger .settings) v → k < w .ledger .booked
+      → Unblocked (tabled (tableOf w)) (w .ledger .booked) (vaultAt (w .ledger) v .held) (jobWithout (vaultAt (w .ledger) v .signed) k) (tabled (tableOf w) k)
+      → Change w (clientPreflight v k client) true (withLedger w (counted (signedBy (w .ledger) v k) v h))
 
 -- ---- each step is a change
 module _ (w : World) (sh : Shape (w .ledger) (w .booked)) (size : ℕ) (beyond : List ℕ) where
@@ -254,6 +280,43 @@ module _ (w : World) (sh : Shape (w .ledger) (w .booked)) (size : ℕ) (beyond :
       behind (preflight v k) (vaultGate l journal v k false) _ v k
       (λ g. consents v k (jobHas (vaultAt l v .signed) k) refl (admissionAt (vaultAt l v) (versionOf l) journal (l .booked) k) refl
       (entered l journal v k false g))
+
+  -- ---- a preflight from a client
+  within-pass : (history : ℕ) (d : Verdict) → withinQuota history d ≡ Pass → d ≡ Pass
+  unfolding withinQuota
+  within-pass history d e =
+      by-cases (λ b. cond b (Fail OverQuota) d ≡ Pass → d ≡ Pass) (isSpent history) (λ _ x. cc) (λ _ x. x) e
+
+  counted-booked : (v k : ℕ) (h : History) → counted (signedBy l v k) v h .booked ≡ l .booked
+  unfolding counted voted withVault
+  counted-booked v k h = refl
+
+  quietly : (v k client : ℕ) (h : History) (o : Outcome) → Moves (clientPreflight v k client) (carried l (record { outcome = o; change = Count h }) v k)
+  unfolding applied counted
+  quietly v k client h o = moves (clientPreflight v k client) (carried l (record { outcome = o; change = Count h }) v k) refl (counts v k client (isDone o) h)
+
+  consents-counted : (v k client history : ℕ) (b : Bool) (d : Verdict) → withinQuota history (admissionAt (vaultAt l v) (versionOf l) journal (l .booked) k) ≡ d
+      → Entered l journal v k false
+      → let answer : Signing = cond b (record { consent = Already; vault = vaultAt l v }) (consented d (vaultAt l v) k) in
+      Moves (clientPreflight v k client) (carried l (counting (answer .consent) (answer .vault) client history (signersOf l k) v) v k)
+  unfolding applied
+  consents-counted v k client history true d e h = quietly v k client _ (Done (ones (signersOf l k)))
+  consents-counted v k client history false (Fail why) e h = quietly v k client _ (Refused why)
+  consents-counted v k client history false Pass e h =
+      let entry : History = historyWith client history true in
+      moves (clientPreflight v k client)
+      (carried l (voting (signersOf l k) v (Grant (record { vault = signing (vaultAt l v) k; history = entry }))) v k) (counted-booked v k entry)
+      (grants v k client entry (correct v k h) (h .known .below) (unblocked v k h (within-pass history _ e)))
+
+  change-client : (v k client : ℕ) → Moves (clientPreflight v k client) (carried l (clientPreflightDecision l journal v k client) v k)
+  unfolding clientPreflightDecision clientPreflighting countedConsent vaultPreflight
+  change-client v k client =
+      let admission = admissionAt (vaultAt l v) (versionOf l) journal (l .booked) k in
+      let decided = countedConsent (vaultAt l v) admission client (historyAt l v client) (signersOf l k) v k in
+      behind (clientPreflight v k client) (vaultGate l journal v k false) _ v k
+      (λ g. by-cases (λ b. Moves (clientPreflight v k client) (carried l (cond b decided (refusing NoClient)) v k)) (isClient client)
+      (λ e. consents-counted v k client (historyAt l v client) (jobHas (vaultAt l v .signed) k) _ refl (entered l journal v k false g))
+      (λ e. refuses (clientPreflight v k client) NoClient v k))
 
   -- ---- commit
   subset-ones : (k signers : ℕ) → subsetOf signers (signersOf l k) ≡ true → ones signers ≤ ones (signersOf l k)
@@ -336,6 +399,19 @@ module _ (w : World) (sh : Shape (w .ledger) (w .booked)) (size : ℕ) (beyond :
         conflicts = subst (λ (job : ℕ → Job). conflicting (job rival) (job k) ≡ true) (jobs h) (conflicting-sym _ _ (kept .1));
       }))))
 
+  -- ---- missing dependencies: whatever is answered, nothing changes
+  reads : (q : Request) (o : Outcome) (v k : ℕ) → Idle w q → Moves q (carried l (record { outcome = o; change = Nothing }) v k)
+  reads q (Done value) v k i = answers q value v k i
+  reads q (Refused why) v k i = refuses q why v k
+
+  change-dependencies : (v k : ℕ) → Moves (dependencies v k) (carried l (dependenciesDecision l journal v k) v k)
+  unfolding dependenciesDecision
+  change-dependencies v k = reads (dependencies v k) (dependenciesOf l journal v k .outcome) v k tt
+
+  change-equivocating : Moves equivocating (carried l (equivocatorsDecision l journal) 0 0)
+  unfolding equivocatorsDecision
+  change-equivocating = reads equivocating (equivocatorsOf l journal .outcome) 0 0 tt
+
   -- ---- propose
   -- a record inside the journal is a booked one
   slot-tabled : (k : ℕ) → k < insideOf (versionOf l) journal (l .booked) → slotAt (versionOf l) journal k ≡ getD (tableOf w) k []
@@ -381,6 +457,9 @@ module _ (w : World) (sh : Shape (w .ledger) (w .booked)) (size : ℕ) (beyond :
   change (generations k) = change-generations k
   change snapshot = change-snapshot
   change (release v k rival) = change-release v k rival
+  change (dependencies v k) = change-dependencies v k
+  change (clientPreflight v k client) = change-client v k client
+  change equivocating = change-equivocating
 
 pub changes : (w : World) → Shape (w .ledger) (w .booked) → (e : Event) → Change w (e .request) (isDone (replyTo w e .outcome)) (after w e)
 unfolding after

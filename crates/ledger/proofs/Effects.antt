@@ -41,12 +41,14 @@ use Rattle.ledger.proofs.Views.{
 use Rattle.federation.specs.Federation.{Lawful}
 use Rattle.generations.specs.Generations.{isAt}
 use Rattle.ledger.specs.declared.Change.{Change}
-use Rattle.ledger.specs.declared.Change.the-variants.{Book, Hold, Nothing, Record, Release, See, Sign}
-use Rattle.ledger.specs.State.{applied, arrived, arriving, booking, hasArrived, signersOf, vaultAt, versionOf, visited, voted, votesIn, withVault}
+use Rattle.ledger.specs.declared.Change.the-variants.{Book, Count, Grant, Hold, Nothing, Record, Release, See, Sign}
+use Rattle.ledger.specs.State.{applied, arrived, arriving, booking, counted, hasArrived, signersOf, vaultAt, versionOf, visited, voted}
+use Rattle.ledger.specs.State.{votesIn, withVault}
 use Rattle.vaults.specs.Vaults.{holding, newVault, signing, unsigning}
 use Rattle.vaults.specs.Votes.{columnOf, noVotes}
 use Rattle.vaults.specs.declared.Column.{Column}
 use Rattle.vaults.specs.declared.Column.the-variants.{Acknowledgements, Signatures}
+use Rattle.ledger.specs.declared.History.{History}
 use Rattle.ledger.specs.declared.Ledger.{Ledger}
 use Rattle.federation.specs.declared.Settings.{Settings}
 use Rattle.vaults.specs.declared.Vault.{Vault}
@@ -124,6 +126,10 @@ module _ (l : Ledger) (v k : ℕ) where
   unfolding voted withVault
   hold-next = hold-arrives .next
 
+  pub hold-histories : held l v k .histories ≡ l .histories
+  unfolding voted withVault
+  hold-histories = hold-arrives .histories
+
   pub hold-seen : held l v k .seen ≡ l .seen
   unfolding voted withVault
   hold-seen = hold-arrives .seen
@@ -179,6 +185,7 @@ module _ {l : Ledger} {bs : List ℕ} (s : Shape l bs) where
     vaults = length-set (l .vaults) v _ ∙ s .vaults;
     votes = s .votes;
     order = s .order;
+    histories = s .histories;
     arrivals = s .arrivals;
     records = s .records;
     room = s .room;
@@ -193,6 +200,7 @@ module _ {l : Ledger} {bs : List ℕ} (s : Shape l bs) where
     vaults = s .vaults;
     votes = length-set (l .votes) k _ ∙ s .votes;
     order = s .order;
+    histories = s .histories;
     arrivals = s .arrivals;
     records = s .records;
     room = s .room;
@@ -209,6 +217,7 @@ module _ {l : Ledger} {bs : List ℕ} (s : Shape l bs) where
         vaults = ap length (a .vaults) ∙ s .vaults;
         votes = ap length (a .votes) ∙ s .votes;
         order = a .order ∙ s .order;
+        histories = ap length (a .histories) ∙ s .histories;
         arrivals = a .arrivals (s .arrivals);
         records = s .records ∙ ap₂ (λ (x : Settings) (m : ℕ). placeOf (x .version) m) (sym (a .settings)) (sym (a .booked));
         room = rw (a .booked) (s .room);
@@ -225,10 +234,26 @@ module _ {l : Ledger} {bs : List ℕ} (s : Shape l bs) where
     vaults = s .vaults;
     votes = s .votes;
     order = s .order;
+    histories = s .histories;
     arrivals = s .arrivals;
     records = s .records;
     room = s .room;
     next = stays-below (l .settings .n) (l .next) (omega (arith, s .lawful .few));
+    votes-below = s .votes-below;
+  }
+
+  pub shape-count : (v : ℕ) (h : History) → Shape (counted l v h) bs
+  unfolding counted votesIn
+  shape-count v h = record {
+    lawful = s .lawful;
+    vaults = s .vaults;
+    votes = s .votes;
+    order = s .order;
+    histories = length-set (l .histories) _ _ ∙ s .histories;
+    arrivals = s .arrivals;
+    records = s .records;
+    room = s .room;
+    next = s .next;
     votes-below = s .votes-below;
   }
 
@@ -239,6 +264,7 @@ module _ {l : Ledger} {bs : List ℕ} (s : Shape l bs) where
     vaults = s .vaults;
     votes = s .votes;
     order = s .order;
+    histories = s .histories;
     arrivals = s .arrivals;
     records = omega (arith, length-append bs bytes, s .records, place-next (versionOf l) (l .booked));
     room = omega arith;
@@ -260,7 +286,7 @@ module _ {l : Ledger} {bs : List ℕ} (s : Shape l bs) (v k : ℕ) (hv : v < l .
 
 -- no change touches the settings
 pub applied-settings : (l : Ledger) (c : Change) (v job : ℕ) → applied l c v job .settings ≡ l .settings
-unfolding applied booking voted withVault visited
+unfolding applied booking counted voted withVault visited
 applied-settings l Nothing v job = refl
 applied-settings l Book v job = refl
 applied-settings l (Sign state) v job = refl
@@ -268,3 +294,5 @@ applied-settings l (Hold state) v job = arrives (voted (withVault l v state) Ack
 applied-settings l (Release state) v job = refl
 applied-settings l (Record column) v job = refl
 applied-settings l (See seen) v job = refl
+applied-settings l (Count history) v job = refl
+applied-settings l (Grant grant) v job = refl

@@ -6,6 +6,7 @@ use mathlib.Core.Path.{_∙_, _≡_, refl, sym}
 use Prim.Native.Nat.{_<_, _≤_, ℕ}
 use native.Mathlib.Omega.{arith}
 use lib.Dec.{ltb}
+use lib.ListN.{length}
 use borrow.Author.Tests.{lt-ltb, ltb-true}
 use Rattle.base.proofs.Reflect.{reflect-and, reflect-as, reflect-le, reflect-lt}
 use Rattle.base.specs.Reflect.{Reflects}
@@ -15,16 +16,19 @@ use Rattle.outcome.specs.declared.Verdict.{Verdict}
 use Rattle.outcome.specs.declared.Verdict.the-variants.{Fail, Pass}
 use Rattle.sets.specs.Bits.{hasBit}
 use Rattle.federation.proofs.Lawful.{reflect-lawful}
-use Rattle.journal.proofs.Booked.{reflect-booked}
+use Rattle.codec.specs.Codec.{placeOf}
+use Rattle.journal.proofs.Booked.{reflect-booked, reflect-whole}
 use Rattle.journal.specs.Journal.{Booked, capacity}
 use Rattle.ledger.specs.Meaning.{Entered, Sane}
+use Rattle.ledger.specs.Register.{isDone}
 use Rattle.ledger.specs.State.{applied, isSane, versionOf}
-use Rattle.ledger.specs.Steps.{bookedGate, carried, gateOf, turned, vaultGate}
-use Rattle.ledger.specs.Decisions.{gated}
+use Rattle.ledger.specs.Steps.{bookedGate, carried, gateOf, turned, vaultGate, wholeGate}
+use Rattle.ledger.specs.Decisions.{gated, gatedListing, unlisted}
 use Rattle.ledger.specs.Given.{Placed}
 use Rattle.ledger.specs.declared.Decision.{Decision}
 use Rattle.ledger.specs.declared.Reply.{Reply}
 use Rattle.ledger.specs.declared.Ledger.{Ledger}
+use Rattle.ledger.specs.declared.Listing.{Listing}
 
 pub reflect-sane : (l : Ledger) → Reflects (isSane l) (Sane l)
 unfolding isSane
@@ -50,12 +54,23 @@ pub passed-rest : (b : Bool) (v : Verdict) (why : Refusal) → cond b v (Fail wh
 passed-rest true v why e = e
 passed-rest false v why e = cc
 
+-- a step that is answered 0 passed its gate
+pub done-gate : (g : Verdict) (d : Decision) → isDone (gated g d .outcome) ≡ true → g ≡ Pass
+done-gate Pass d e = refl
+done-gate (Fail why) d e = absurd (true≢false (sym e))
+
 pub booked-entered : (l : Ledger) (journal : List ℕ) (job : ℕ) → bookedGate l journal job ≡ Pass → Sane l × Booked (versionOf l) journal (l .booked) job
 unfolding bookedGate
 booked-entered l journal job e =
     let sane = passed-test (isSane l) _ _ e in
     let rest = passed-rest (isSane l) _ _ e in
     (reflect-sane l .sound sane, reflect-booked (versionOf l) journal (l .booked) job .sound (passed-test _ _ _ rest))
+
+pub whole-entered : (l : Ledger) (journal : List ℕ) → wholeGate l journal ≡ Pass → Sane l × (placeOf (versionOf l) (l .booked) ≤ length journal)
+unfolding wholeGate
+whole-entered l journal e =
+    let rest = passed-rest (isSane l) _ _ e in
+    (reflect-sane l .sound (passed-test (isSane l) _ _ e), reflect-whole (versionOf l) journal (l .booked) .sound (passed-test _ _ _ rest))
 
 pub entered : (l : Ledger) (journal : List ℕ) (v job : ℕ) (faulty : Bool) → vaultGate l journal v job faulty ≡ Pass
     → Entered l journal v job faulty
@@ -108,6 +123,9 @@ module _ (l : Ledger) (journal : List ℕ) (v job : ℕ) (faulty : Bool) where
   pub placed-job : (r : Verdict) → r ≡ vaultGate l journal v job faulty → r ≡ Pass → job < 128
   placed-job r p q = placed r p q .job
 
+  pub placed-vaults : (r : Verdict) → r ≡ vaultGate l journal v job faulty → r ≡ Pass → l .settings .n ≤ 16
+  placed-vaults r p q = entered l journal v job faulty (sym p ∙ q) .sane .lawful .vaults
+
 module _ (l : Ledger) (journal : List ℕ) (job : ℕ) where
   pub known-job : (r : Verdict) → r ≡ bookedGate l journal job → r ≡ Pass → job < 128
   known-job r p q = let h = booked-entered l journal job (sym p ∙ q) in omega (arith, h .1 .below, h .0 .booked)
@@ -127,6 +145,16 @@ module _ (l : Ledger) (journal : List ℕ) (job : ℕ) where
   pub known-vaults : (r : Verdict) → r ≡ bookedGate l journal job → r ≡ Pass → l .settings .n ≤ 16
   known-vaults r p q = known-sane r p q .lawful .vaults
 
+module _ (l : Ledger) (journal : List ℕ) where
+  pub whole-few : (r : Verdict) → r ≡ wholeGate l journal → r ≡ Pass → l .booked ≤ capacity
+  whole-few r p q = whole-entered l journal (sym p ∙ q) .0 .booked
+
+  pub whole-vaults : (r : Verdict) → r ≡ wholeGate l journal → r ≡ Pass → l .settings .n ≤ 16
+  whole-vaults r p q = whole-entered l journal (sym p ∙ q) .0 .lawful .vaults
+
+  pub whole-inside : (r : Verdict) → r ≡ wholeGate l journal → r ≡ Pass → placeOf (versionOf l) (l .booked) ≤ length journal
+  whole-inside r p q = whole-entered l journal (sym p ∙ q) .1
+
 module _ (l : Ledger) where
   pub sane-placed : (r : Bool) → r ≡ isSane l → r ≡ true → Placed l 0 0
   sane-placed r p q = let h = reflect-sane l .sound (sym p ∙ q) in record { vault = omega arith; job = omega arith; booked = h .booked; arrivals = h .arrivals }
@@ -143,11 +171,15 @@ pub ruleset entering = (
   placed-job,
   placed-few,
   placed-known,
+  placed-vaults,
   known-job,
   known-booked,
   known-few,
   known-arrivals,
   known-vaults,
+  whole-few,
+  whole-vaults,
+  whole-inside,
   sane-placed,
   sane-booked,
   sane-next,
@@ -176,4 +208,11 @@ read-shut g r d why p q = simp (sym p ∙ q)
 pub read-passed : (g r : Verdict) (d e : Decision) → r ≡ g → r ≡ Pass → e ≡ d → e .outcome ≡ gated g d .outcome
 read-passed g r d e p q u = simp (sym p ∙ q, ← u)
 
-pub ruleset ways = (opened, passed, shut, read-opened, read-passed, read-shut, entering)
+-- and of one that lists
+pub list-passed : (g r : Verdict) (d e : Listing) → r ≡ g → r ≡ Pass → e ≡ d → e ≡ gatedListing g d
+list-passed g r d e p q u = simp (sym p ∙ q) u
+
+pub list-shut : (g r : Verdict) (d : Listing) (why : Refusal) (e : Listing) → r ≡ g → r ≡ Fail why → e ≡ unlisted why → e ≡ gatedListing g d
+list-shut g r d why e p q u = simp (sym p ∙ q) u
+
+pub ruleset ways = (opened, passed, shut, read-opened, read-passed, read-shut, list-passed, list-shut, entering)

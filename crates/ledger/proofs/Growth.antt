@@ -5,14 +5,14 @@ use mathlib.Core.List.{List, [], _++_, _∷_, append-assoc, append-nil}
 use mathlib.Core.Path.{_∙_, _≡_, ap, refl, sym}
 use Prim.Native.Nat.{ℕ}
 use native.Mathlib.Omega.{arith}
-use Rattle.ledger.proofs.Changes.{Change, Shape, appends, changes, holds, idle, nothing, releases, sees, signs, votes, withLedger}
+use Rattle.ledger.proofs.Changes.{Change, Shape, appends, changes, counts, grants, holds, idle, nothing, releases, sees, signs, votes, withLedger}
 use Rattle.ledger.proofs.Demand3.{kept}
 use Rattle.ledger.proofs.Effects.{hold-held, hold-votes, release-held, sign-held, sign-votes}
 use Rattle.ledger.proofs.Invariant.{Inv}
 use Rattle.ledger.proofs.Views.{heldAt, voted-added, votedAt}
 use Rattle.ledger.specs.Growth.{Grows}
 use Rattle.ledger.specs.Register.{Register, feed, isDone}
-use Rattle.ledger.specs.State.{booking, visited, voted, votesIn, withVault}
+use Rattle.ledger.specs.State.{booking, counted, visited, voted, votesIn, withVault}
 use Rattle.vaults.specs.declared.Column.{Column}
 use Rattle.vaults.specs.declared.Column.the-variants.{Acknowledgements, Signatures}
 use Rattle.ledger.specs.declared.Ledger.{Ledger}
@@ -59,7 +59,7 @@ module _ (w : World) (sh : Shape (w .ledger) (w .booked)) where
   same e u m t = ap (λ (f : ℕ → ℕ → Bool). f u m) e ∙ t
 
   pub grow : (q : Request) (done : Bool) (w′ : World) → Change w q done w′ → Grows w w′
-  unfolding booking visited votesIn voted votedAt heldAt withVault
+  unfolding booking counted visited votesIn voted votedAt heldAt withVault
   grow q done w′ (nothing p) = grows-same w
   grow q done w′ (idle p m) = grows-same w
   grow q done w′ (appends bytes e h n) = record {
@@ -76,6 +76,9 @@ module _ (w : World) (sh : Shape (w .ledger) (w .booked)) where
       (λ d. hold-votes l v k (omega (arith, c .below, sh .lawful .vaults)) d .old)
   grow q done w′ sees = grows-ledger w _ (λ u m t. t) (λ d m u t. t)
   grow q done w′ (releases v k m c s h n) = grows-ledger w _ (same (release-held l v k)) (λ d m u t. t)
+  grow q done w′ (counts v k client d h) = grows-ledger w _ (λ u m t. t) (λ d m u t. t)
+  grow q done w′ (grants v k client h c b u) =
+      grows-ledger w _ (same (sign-held l v k)) (λ d. sign-votes l v k (omega (arith, c .below, sh .lawful .vaults)) d .old)
 
 pub grows : (es : List Event) (w : World) (r : Register) → Inv w r → Grows w (afterAll w es)
 grows [] w r i = grows-same w

@@ -75,7 +75,8 @@ use Rattle.ledger.specs.Register.{
   taking,
   withoutInputs,
 }
-use Rattle.ledger.specs.Worlds.{Request, commit, faultyVote, generations, preflight, propose, release, show, snapshot, start}
+use Rattle.ledger.specs.Worlds.{Request, clientPreflight, commit, dependencies, equivocating, faultyVote, generations, preflight, propose, release}
+use Rattle.ledger.specs.Worlds.{show, snapshot, start}
 
 -- ---- what a running register keeps
 pub record Kept (r : Register) : Type 0 where
@@ -211,6 +212,9 @@ running-done r (show job) h = h
 running-done r (generations job) h = h
 running-done r snapshot h = h
 running-done r (release v job rival) h = h
+running-done r (dependencies v job) h = h
+running-done r (clientPreflight v job client) h = h
+running-done r equivocating h = h
 
 running-all : (r : Register) (xs : List Fed) → Running r → Running (feedAll r xs)
 running-all r [] h = h

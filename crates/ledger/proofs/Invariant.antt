@@ -33,6 +33,8 @@ use Rattle.ledger.proofs.Changes.{
   Idle,
   Shape,
   appends,
+  counts,
+  grants,
   held,
   holds,
   idle,
@@ -60,6 +62,7 @@ use Rattle.ledger.proofs.Effects.{
   release-held,
   release-signed,
   shape-book,
+  shape-count,
   shape-hold,
   shape-see,
   shape-sign,
@@ -80,10 +83,12 @@ use Rattle.ledger.specs.Demand3.{Apart, Correct, Held, recordsIn}
 use Rattle.federation.specs.Federation.{thresholdOf}
 use Rattle.ledger.specs.Graph.{Unblocked}
 use Rattle.ledger.specs.Register.{Register, entering, feed, feedCommit, feedDone, feedProposal, isAdmissible, stopped, tabled, taking}
-use Rattle.ledger.specs.State.{arrived, booking, signersOf, vaultAt, versionOf, visited, voted, votesIn, withVault}
-use Rattle.ledger.specs.Worlds.{Request, World, commit, faultyVote, generations, preflight, propose, release, show, snapshot}
+use Rattle.ledger.specs.State.{arrived, booking, counted, signersOf, vaultAt, versionOf, visited, voted, votesIn, withVault}
+use Rattle.ledger.specs.Worlds.{Request, World, clientPreflight, commit, dependencies, equivocating, faultyVote, generations, preflight, propose}
+use Rattle.ledger.specs.Worlds.{release, show, snapshot}
 use Rattle.vaults.specs.declared.Column.{Column}
 use Rattle.vaults.specs.declared.Column.the-variants.{Acknowledgements, Signatures}
+use Rattle.ledger.specs.declared.History.{History}
 use Rattle.ledger.specs.declared.Ledger.{Ledger}
 use Rattle.federation.specs.declared.Settings.{Settings}
 
@@ -239,6 +244,15 @@ module _ {w : World} {r : Register} (i : Inv w r) where
       inv-ledger (visited l seen)
       (record { settings = refl; booked = refl; order = refl; keeps = λ u m t. t; taken = i .held-taken })
       (shape-see (i .shape) seen)
+      (i .safe)
+
+  -- ---- a client's history: nothing that the invariant speaks of changes
+  inv-count : (v : ℕ) (h : History) → Inv (withLedger w (counted l v h)) r
+  unfolding counted heldAt signedAt votedAt votesIn
+  inv-count v h =
+      inv-ledger (counted l v h)
+      (record { settings = refl; booked = refl; order = refl; keeps = λ u m t. t; taken = i .held-taken })
+      (shape-count (i .shape) v h)
       (i .safe)
 
   -- ---- a record is booked
@@ -402,6 +416,9 @@ module _ {w : World} {r : Register} (i : Inv w r) where
   inv-idle (generations k) m = i
   inv-idle snapshot m = absurd m
   inv-idle (release v k rival) m = absurd m
+  inv-idle (dependencies v k) m = i
+  inv-idle (clientPreflight v k client) m = absurd m
+  inv-idle equivocating m = i
 
   -- a record that is not in the table enters it
   feeds-new : (bytes : List ℕ) → (In bytes (tableOf w) → ⊥) → feedProposal r bytes ≡ entering r bytes
@@ -435,3 +452,6 @@ keep w r i q done w′ (votes d v k h f b) = fed i q w′ (inv-vote i d v k h f 
 keep w r i q done w′ (holds v k signers c h e) = fed i q w′ (inv-hold i v k c h e)
 keep w r i q done w′ sees = fed i q w′ (inv-see i (seenNext (w .ledger)))
 keep w r i q done w′ (releases v k m c s h n) = fed i q w′ (inv-release i v k m c (signed-is (w .ledger) v k s) (held-is (w .ledger) v m h) n)
+keep w r i q true w′ (counts v k client d h) = fed i q w′ (inv-count i v h)
+keep w r i q false w′ (counts v k client d h) = inv-count i v h
+keep w r i q done w′ (grants v k client h c b u) = fed i q w′ (inv-count (inv-sign i v k c b (clear i v k u)) v h)

@@ -2,10 +2,13 @@ pub mod Acceptance
 pub mod Account
 pub mod Algorithms
 pub mod Changes
+pub mod Counted
 pub mod Creators
 pub mod Demand2
 pub mod Demand3
+pub mod Dependencies
 pub mod Effects
+pub mod Equivocation
 pub mod Example
 pub mod Gates
 pub mod Growth
@@ -14,9 +17,12 @@ pub mod Independence
 pub mod Invariant
 pub mod Lending
 pub mod Meaning
+pub mod Missing
+pub mod NoQuota
 pub mod OneLabel
 pub mod Paper
 pub mod Places
+pub mod Quota
 pub mod Ready
 pub mod ReadyExample
 pub mod Refusals
@@ -24,6 +30,8 @@ pub mod Releases
 pub mod Rivals
 pub mod Rounds
 pub mod Safety
+pub mod Twelve
 pub mod Unchanged
+pub mod Unnamed
 pub mod Views
 pub mod Writes

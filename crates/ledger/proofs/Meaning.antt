@@ -53,7 +53,7 @@ module _ (job : ℕ → Job) (booked : ℕ) where
 
   -- ---- the checks at an entry
   module _ (held others : JobSet) (j : Job) where
-    not-created : (i : ℕ) → i < 8 → Reflects (notCreatedAt job booked held j i) (NotCreatedAt job booked held j i)
+    pub not-created : (i : ℕ) → i < 8 → Reflects (notCreatedAt job booked held j i) (NotCreatedAt job booked held j i)
     unfolding notCreatedAt
     not-created i h =
         reflect-and (reflect-lt i 4)

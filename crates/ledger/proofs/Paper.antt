@@ -28,7 +28,7 @@ use Rattle.ledger.specs.Meaning.{Admission, ConsumedAt, NotCreatedAt, Re
 
 module _ (job : ℕ → Job) (booked : ℕ) (held others : JobSet) (j : Job) where
   -- the place of an input tape, and of an output's label
-  input-place : (t : Entry) → In t (inputTapes j) → (i : ℕ) × ((i < 4) × (Used j i × (record { label = labelOf j i; frames = framesOf j i } ≡ t)))
+  pub input-place : (t : Entry) → In t (inputTapes j) → (i : ℕ) × ((i < 4) × (Used j i × (record { label = labelOf j i; frames = framesOf j i } ≡ t)))
   unfolding labelOf framesOf
   input-place t m = let a = used-at j 0 4 t m in (a .place, (omega (arith, a .until), (reflect-used j (a .place) .sound (a .used), a .is)))
 
@@ -98,7 +98,7 @@ module _ (job : ℕ → Job) (booked : ℕ) (held others : JobSet) (j : Job) whe
         unmarked-outputs = λ x m c. u .unmade x m (inr c);
       }
 
-  input-in : (i : ℕ) → i < 4 → Used j i → In (record { label = labelOf j i; frames = framesOf j i }) (inputTapes j)
+  pub input-in : (i : ℕ) → i < 4 → Used j i → In (record { label = labelOf j i; frames = framesOf j i }) (inputTapes j)
   unfolding labelOf framesOf
   input-in i h u = at-used j 0 4 i zero-le (omega arith) (reflect-used j i .complete u)
 
@@ -106,12 +106,21 @@ module _ (job : ℕ → Job) (booked : ℕ) (held others : JobSet) (j : Job) whe
   unfolding labelOf
   output-in i h l u = in-map (λ (t : Entry). t .label) (outputTapes j) _ (at-used j 4 4 i l (omega arith) (reflect-used j i .complete u))
 
-  pub signs-admission : Algorithm1 job booked held others j → admission job booked held others j ≡ Pass
-  signs-admission a =
+  pub unblocked-admission : Unblocked job booked held others j → admission job booked held others j ≡ Pass
+  unblocked-admission u =
       answers-admission job booked held others j Pass
       (admitted
-      (λ i h n. n .1 .1 (a .admissible .frontier _ (input-in i (n .0) (n .1 .0)) .created))
-      (λ i h n. a .admissible .frontier _ (input-in i (n .0) (n .1 .0)) .unconsumed (n .1 .1))
-      (λ i h n. a .unmarked-inputs (labelOf j i) (in-map (λ (t : Entry). t .label) (inputTapes j) _ (input-in i (n .0) (n .1 .0))) (n .1 .1))
-      (λ i h n. ⊎-elim (a .admissible .fresh (labelOf j i) (output-in i h (n .0) (n .1 .0)))
-      (a .unmarked-outputs (labelOf j i) (output-in i h (n .0) (n .1 .0))) (n .1 .1)))
+      (λ i h n. n .1 .1 (u .created _ (input-in i (n .0) (n .1 .0))))
+      (λ i h n. u .unconsumed (labelOf j i) (in-map (λ (t : Entry). t .label) (inputTapes j) _ (input-in i (n .0) (n .1 .0))) (n .1 .1))
+      (λ i h n. u .unmarked (labelOf j i) (in-map (λ (t : Entry). t .label) (inputTapes j) _ (input-in i (n .0) (n .1 .0))) (n .1 .1))
+      (λ i h n. u .unmade (labelOf j i) (output-in i h (n .0) (n .1 .0)) (n .1 .1)))
+
+  pub signs-admission : Algorithm1 job booked held others j → admission job booked held others j ≡ Pass
+  signs-admission a = unblocked-admission (record {
+    created = λ t m. a .admissible .frontier t m .created;
+    unconsumed = λ x m c.
+        let q = map-in (λ (t : Entry). t .label) (inputTapes j) x m in
+        a .admissible .frontier (q .0) (q .1) .unconsumed (subst (λ (y : ℕ). Consumer job booked held y) (q .2) c);
+    unmarked = a .unmarked-inputs;
+    unmade = λ x m c. ⊎-elim (a .admissible .fresh x m) (a .unmarked-outputs x m) c;
+  })

@@ -29,11 +29,10 @@ use Rattle.ledger.proofs.Acceptance.{Acknowledged, Leaves, acknowledged
 use Rattle.ledger.proofs.Changes.{changes, shape-sane}
 use Rattle.ledger.proofs.Demand2.{obeys}
 use Rattle.ledger.proofs.Demand3.{along, first, kept, same-settings, settings-along}
-use Rattle.ledger.proofs.Gates.{entered, reflect-sane}
+use Rattle.ledger.proofs.Gates.{done-gate, entered, reflect-sane}
 use Rattle.ledger.proofs.Growth.{grow, grows}
 use Rattle.ledger.proofs.Invariant.{Inv, clear, held-by, tally}
 use Rattle.ledger.proofs.Paper.{admission-unblocked, signs-admission}
-use Rattle.ledger.proofs.Releases.{done-gate}
 use Rattle.ledger.proofs.Rivals.{Rival, apart-peaceful, apart-sym, peaceful-apart, rival-sym}
 use Rattle.ledger.proofs.Safety.{Rooted, certified-apart, meeting, unreleased}
 use Rattle.ledger.proofs.Views.{heldAt, recordedAt, signedAt, votedAt}
@@ -67,7 +66,10 @@ use Rattle.ledger.specs.Worlds.{
   World,
   after,
   afterAll,
+  clientPreflight,
   commit,
+  dependencies,
+  equivocating,
   faultyVote,
   generations,
   lend,
@@ -324,6 +326,9 @@ allowed-spares w s j (show k) a = tt
 allowed-spares w s j (generations k) a = tt
 allowed-spares w s j snapshot a = tt
 allowed-spares w s j (release v k rival) a = absurd a
+allowed-spares w s j (dependencies v k) a = tt
+allowed-spares w s j (clientPreflight v k client) a = absurd a
+allowed-spares w s j equivocating a = tt
 
 own-spares : (w : World) (s j v : ℕ) (q : Request) → q ≡ preflight v j → Spares w s j q
 own-spares w s j v q e = subst (Spares w s j) (sym e) (λ m n b. absurd (n refl))

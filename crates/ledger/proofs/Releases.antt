@@ -17,11 +17,11 @@ use Rattle.outcome.specs.declared.Verdict.{Verdict}
 use Rattle.outcome.specs.declared.Verdict.the-variants.{Fail, Pass}
 use Rattle.record.specs.declared.Entry.{Entry}
 use Rattle.sets.specs.Jobs.{jobHas, jobWithout}
-use Rattle.ledger.proofs.Changes.{Change, appends, changes, holds, idle, nothing, releasedBy, releases, sees, signs, votes}
+use Rattle.ledger.proofs.Changes.{Change, appends, changes, counts, grants, holds, idle, nothing, releasedBy, releases, sees, signs, votes}
 use Rattle.ledger.proofs.Demand2.{obeys}
 use Rattle.ledger.proofs.Demand3.{along, first, kept, same-settings, settings-along}
 use Rattle.ledger.proofs.Effects.{hold-signed, release-held, release-signed, sign-signed}
-use Rattle.ledger.proofs.Gates.{entered}
+use Rattle.ledger.proofs.Gates.{done-gate, entered}
 use Rattle.ledger.proofs.Growth.{grow, grows}
 use Rattle.ledger.proofs.Invariant.{Inv, clear}
 use Rattle.ledger.proofs.Rivals.{apart-peaceful, listed, rival-sym}
@@ -33,7 +33,7 @@ use Rattle.ledger.specs.Demand3.{Correct, bookedJob}
 use Rattle.ledger.specs.Graph.{Algorithm1}
 use Rattle.ledger.specs.Growth.{Grows, OnlySigned, ReleaseTakes, Released, ReleasedForGood, SignedStays}
 use Rattle.ledger.specs.Register.{Register, feed, feedAll, isDone, log, newRegister, tabled}
-use Rattle.ledger.specs.State.{applied, booking, newLedger, vaultAt, versionOf, visited, voted, withVault}
+use Rattle.ledger.specs.State.{applied, booking, counted, newLedger, vaultAt, versionOf, visited, voted, withVault}
 use Rattle.ledger.specs.Steps.{carried, preflightDecision, releaseDecision, releaseOf, vaultGate}
 use Rattle.ledger.specs.Worlds.{Event, Request, World, after, afterAll, lend, preflight, replyTo, start}
 use Rattle.ledger.specs.declared.Decision.{Decision}
@@ -69,7 +69,7 @@ module _ (w : World) (r : Register) (i : Inv w r) (v k : ℕ) (c : Correct (w .l
       apart-peaceful (here .unrivalled (s .rival) (s .holds)) (rival-sym (s .is) .conflicts)
 
   unsigned-still : (q : Request) (done : Bool) (w′ : World) → Change w q done w′ → signedAt (w′ .ledger) v k ≡ false
-  unfolding booking visited voted signedAt
+  unfolding booking counted visited voted signedAt
   unsigned-still q done w′ (nothing p) = n
   unsigned-still q done w′ (idle p m) = n
   unsigned-still q done w′ (appends bytes e h m) = n
@@ -79,6 +79,10 @@ module _ (w : World) (r : Register) (i : Inv w r) (v k : ℕ) (c : Correct (w .l
   unsigned-still q done w′ (votes d u j h f b) = n
   unsigned-still q done w′ (holds u j signers d h e) = ap (λ (f : ℕ → ℕ → Bool). f v k) (hold-signed (w .ledger) u j) ∙ n
   unsigned-still q done w′ sees = n
+  unsigned-still q done w′ (counts u j client d h) = n
+  unsigned-still q done w′ (grants u j client p d h b) =
+      not-true-false _ (λ x. ⊎-elim (λ o. true≢false (sym o ∙ n)) (λ e. refused-clear u j (e .0) (e .1) (clear i u j b))
+      (sign-signed (w .ledger) u j (omega (arith, d .below, i .shape .vaults, i .shape .lawful .vaults)) (omega (arith, i .shape .room)) .cases v k x))
   unsigned-still q done w′ (releases u j m d s h e) = not-true-false _ (λ x. true≢false (sym (release-signed (w .ledger) u j .old v k x) ∙ n))
 
 -- ---- along a list of steps
@@ -99,7 +103,7 @@ unsigned-along (e ∷ fs) w r i v k c t n =
     (unsigned-still w r i v k c t n q done (after w e) change)
 
 -- the settings are those at the start
-correct-along : (n b faulty version : ℕ) (lawful : Lawful (record { n = n; b = b; faulty = faulty; version = version })) (es : List Event) (v : ℕ)
+pub correct-along : (n b faulty version : ℕ) (lawful : Lawful (record { n = n; b = b; faulty = faulty; version = version })) (es : List Event) (v : ℕ)
     → Correct (record { n = n; b = b; faulty = faulty; version = version }) v → Correct (afterAll (start n b faulty version) es .ledger .settings) v
 unfolding start newLedger
 correct-along n b faulty version lawful es v c =
@@ -120,11 +124,6 @@ signed-stays n b faulty version lawful es fs v k c s =
     (grows fs w r i .signatures v k (i .safe .backed v k s)) e))
 
 -- ---- a preflight of a released job is turned back
-
--- a step that is answered 0 passed its gate
-pub done-gate : (g : Verdict) (d : Decision) → isDone (gated g d .outcome) ≡ true → g ≡ Pass
-done-gate Pass d e = refl
-done-gate (Fail why) d e = absurd (true≢false (sym e))
 
 -- Algorithm 1 does not accept a job with a rival that is held
 rival-held : (w : World) (v k m : ℕ) → conflicting (bookedJob w m) (bookedJob w k) ≡ true → m < w .ledger .booked
@@ -174,6 +173,7 @@ module _ (l : Ledger) (v k : ℕ) where
     arrivals = refl;
     next = refl;
     seen = refl;
+    histories = refl;
     held = λ u m. refl;
     signed = λ u m t. inl t;
     no-more = λ u m t. t;
@@ -189,6 +189,7 @@ module _ (l : Ledger) (v k : ℕ) where
     arrivals = refl;
     next = refl;
     seen = refl;
+    histories = refl;
     held = λ u m. ap (λ (f : ℕ → ℕ → Bool). f u m) (release-held l v k);
     signed = release-signed l v k .cases;
     no-more = release-signed l v k .old;

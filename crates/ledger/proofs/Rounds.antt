@@ -17,7 +17,7 @@ use Rattle.sets.specs.declared.job_set.JobSet.{JobSet}
 use Rattle.snapshot.proofs.Visits.{begins-anew, goes-on, sees-held, sees-only, sees-still}
 use Rattle.snapshot.specs.Snapshot.{following}
 use Rattle.federation.specs.declared.Settings.{Settings}
-use Rattle.ledger.proofs.Changes.{Change, Idle, Shape, appends, changes, holds, idle, nothing, releases}
+use Rattle.ledger.proofs.Changes.{Change, Idle, Shape, appends, changes, counts, grants, holds, idle, nothing, releases}
 use Rattle.ledger.proofs.Changes.{seenNext, sees, shape-sane, signs, votes}
 use Rattle.ledger.proofs.Demand3.{along, first, kept, same-settings, settings-along, settings-first}
 use Rattle.ledger.proofs.Effects.{hold-next, hold-seen}
@@ -30,7 +30,7 @@ use Rattle.ledger.specs.Demand3.{Correct, Held, HeldBy}
 use Rattle.ledger.specs.Growth.{Grows}
 use Rattle.ledger.specs.Register.{Register, feed, feedAll, isDone, log, newRegister}
 use Rattle.ledger.specs.Rounds.{Counted, Round, Rounds, isSnapshot, visits}
-use Rattle.ledger.specs.State.{applied, booking, vaultAt, visited, voted, withVault}
+use Rattle.ledger.specs.State.{applied, booking, counted, vaultAt, visited, voted, withVault}
 use Rattle.ledger.specs.Steps.{saneGate, snapshotDecision}
 use Rattle.ledger.specs.Worlds.{
   Event,
@@ -38,7 +38,10 @@ use Rattle.ledger.specs.Worlds.{
   World,
   after,
   afterAll,
+  clientPreflight,
   commit,
+  dependencies,
+  equivocating,
   faultyVote,
   generations,
   preflight,
@@ -74,9 +77,12 @@ is-snapshot (show k) e = absurd (true≢false (sym e))
 is-snapshot (generations k) e = absurd (true≢false (sym e))
 is-snapshot snapshot e = refl
 is-snapshot (release v k rival) e = absurd (true≢false (sym e))
+is-snapshot (dependencies v k) e = absurd (true≢false (sym e))
+is-snapshot (clientPreflight v k client) e = absurd (true≢false (sym e))
+is-snapshot equivocating e = absurd (true≢false (sym e))
 
 turned : (w : World) (q : Request) (done : Bool) (w′ : World) → Change w q done w′ → Turned w (isSnapshot q) done w′
-unfolding booking voted withVault
+unfolding booking counted voted withVault
 turned w q done w′ (nothing p) = untouched w (isSnapshot p) false (λ _ d. true≢false (sym d))
 turned w q done w′ (idle p m) = untouched w (isSnapshot p) true (λ e _. subst (Idle w) (is-snapshot p e) m)
 turned w q done w′ (appends bytes e h n) = record { next = refl; seen = refl }
@@ -85,6 +91,8 @@ turned w q done w′ (votes d v k h f b) = record { next = refl; seen = refl }
 turned w q done w′ (holds v k signers c h e) = record { next = hold-next (w .ledger) v k; seen = hold-seen (w .ledger) v k }
 turned w q done w′ sees = λ _. refl
 turned w q done w′ (releases v k m c s h n) = record { next = refl; seen = refl }
+turned w q done w′ (counts v k client d h) = record { next = refl; seen = refl }
+turned w q done w′ (grants v k client h c b u) = record { next = refl; seen = refl }
 
 -- a sane ledger answers a visit with the number of jobs seen
 answered : (w : World) → Shape (w .ledger) (w .booked) → (e : Event) → e .request ≡ snapshot → replyTo w e .outcome ≡ Done (jobCount (seenNext (w .ledger)))

@@ -212,6 +212,7 @@ module _ (l : Ledger) (job : ℕ) where
     pub booked : l′ .booked ≡ l .booked
     pub next : l′ .next ≡ l .next
     pub seen : l′ .seen ≡ l .seen
+    pub histories : l′ .histories ≡ l .histories
     pub votes : l′ .votes ≡ l .votes
     pub vaults : l′ .vaults ≡ l .vaults
     pub order : length (l′ .order) ≡ length (l .order)
@@ -220,12 +221,23 @@ module _ (l : Ledger) (job : ℕ) where
   pub arrives : Arrives (arriving l job)
   unfolding arriving enqueued
   arrives = by-cases (λ b. Arrives (cond b l (enqueued l job))) (hasArrived (l .order) (l .arrivals) job || leb 128 (l .arrivals))
-      (λ e. record { settings = refl; booked = refl; next = refl; seen = refl; votes = refl; vaults = refl; order = refl; arrivals = λ h. h })
       (λ e. record {
         settings = refl;
         booked = refl;
         next = refl;
         seen = refl;
+        histories = refl;
+        votes = refl;
+        vaults = refl;
+        order = refl;
+        arrivals = λ h. h;
+      })
+      (λ e. record {
+        settings = refl;
+        booked = refl;
+        next = refl;
+        seen = refl;
+        histories = refl;
         votes = refl;
         vaults = refl;
         order = length-set (l .order) (l .arrivals) job;

@@ -23,7 +23,7 @@ use Rattle.ledger.specs.Decisions.{gated, isBook, placing, proposal, set
 use Rattle.ledger.specs.Given.{Searchable, Writable}
 use Rattle.ledger.specs.Steps.{journalWith}
 use Rattle.ledger.specs.declared.Change.{Change}
-use Rattle.ledger.specs.declared.Change.the-variants.{Book, Hold, Nothing, Record, Release, See, Sign}
+use Rattle.ledger.specs.declared.Change.the-variants.{Book, Count, Grant, Hold, Nothing, Record, Release, See, Sign}
 use Rattle.ledger.specs.declared.Decision.{Decision}
 
 -- ---- what is written
@@ -35,6 +35,8 @@ is-book (Hold state) r e t = absurd (true≢false (sym t ∙ e))
 is-book (Release state) r e t = absurd (true≢false (sym t ∙ e))
 is-book (Record column) r e t = absurd (true≢false (sym t ∙ e))
 is-book (See seen) r e t = absurd (true≢false (sym t ∙ e))
+is-book (Count history) r e t = absurd (true≢false (sym t ∙ e))
+is-book (Grant grant) r e t = absurd (true≢false (sym t ∙ e))
 
 pub written : (c : Change) (r : Bool) (booked version : ℕ) (journal bytes after : List ℕ) → r ≡ isBook c → r ≡ true → after ≡ putAt version journal booked bytes
     → after ≡ journalWith c booked version journal bytes
@@ -49,6 +51,8 @@ unwritten (Hold state) r booked version journal bytes e t = refl
 unwritten (Release state) r booked version journal bytes e t = refl
 unwritten (Record column) r booked version journal bytes e t = refl
 unwritten (See seen) r booked version journal bytes e t = refl
+unwritten (Count history) r booked version journal bytes e t = refl
+unwritten (Grant grant) r booked version journal bytes e t = refl
 
 -- ---- a proposal that is booked
 module _ (version : ℕ) (journal : List ℕ) (booked : ℕ) (bytes : List ℕ) where

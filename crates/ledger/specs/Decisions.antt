@@ -1,4 +1,5 @@
--- What a step decides behind checks 3 to 5, from the pieces that it names: an outcome, and what it changes. A refusal changes nothing.
+-- What a step decides behind checks 3 to 5, from the pieces that it names: an outcome, and what it changes. A refusal changes nothing, but
+-- for the history of a client whose request it was (kind 12).
 use mathlib.Core.Bool.{Bool, _&&_, cond, false, not, true}
 use mathlib.Core.List.{List}
 use Prim.Native.Nat.{ℕ}
@@ -6,24 +7,39 @@ use lib.Count.{ones}
 use lib.Dec.{eqb, leb, ltb}
 use Rattle.outcome.specs.declared.Outcome.the-variants.{Done, Refused}
 use Rattle.outcome.specs.declared.Refusal.{Refusal}
-use Rattle.outcome.specs.declared.Refusal.the-variants.{Full, NotBooked, NotHeld, NotSigned, NotSignedHere, NotSuperseded, TooFewSigners}
+use Rattle.outcome.specs.declared.Refusal.the-variants.{
+  Full,
+  NoClient,
+  NoSetWorks,
+  NotBooked,
+  NotHeld,
+  NotSigned,
+  NotSignedHere,
+  NotSuperseded,
+  OverQuota,
+  TooFewSigners,
+}
 use Rattle.outcome.specs.declared.Verdict.{Verdict}
 use Rattle.outcome.specs.declared.Verdict.the-variants.{Pass, Fail}
 use Rattle.sets.specs.Bits.{subsetOf, withMember}
-use Rattle.sets.specs.Jobs.{jobCount, jobHas, jobWithout}
+use Rattle.sets.specs.Jobs.{jobCount, jobHas, jobUnion, jobWithout, noJobs}
 use Rattle.sets.specs.declared.job_set.JobSet.{JobSet}
+use Rattle.quota.specs.Quota.{isClient, isSpent, remembered}
 use Rattle.snapshot.specs.Snapshot.{seenAfter}
 use Rattle.federation.specs.Federation.{thresholdOf}
 use Rattle.federation.specs.declared.Settings.{Settings}
 use Rattle.checks.specs.Checks.{examined}
 use Rattle.conflicts.specs.Conflicts.{conflicting}
 use Rattle.index.specs.Admission.{admission}
+use Rattle.index.specs.Missing.{missingJobs}
 use Rattle.journal.specs.Journal.{equalIn, hasRoom, insideOf, isBooked, jobAt}
 use Rattle.ledger.specs.declared.Change.{Change}
-use Rattle.ledger.specs.declared.Change.the-variants.{Book, Hold, Nothing, Record, Release, See, Sign}
+use Rattle.ledger.specs.declared.Change.the-variants.{Book, Count, Grant, Hold, Nothing, Record, Release, See, Sign}
+use Rattle.ledger.specs.declared.History.{History}
 use Rattle.vaults.specs.declared.Consent.{Consent}
 use Rattle.vaults.specs.declared.Consent.the-variants.{Already, Denied, Fresh}
 use Rattle.ledger.specs.declared.Decision.{Decision}
+use Rattle.ledger.specs.declared.Listing.{Listing}
 use Rattle.vaults.specs.declared.Vault.{Vault}
 use Rattle.vaults.specs.declared.Votes.{Votes}
 use Rattle.vaults.specs.Vaults.{holding, unsigning, vaultPreflight}
@@ -132,6 +148,65 @@ unfoldable pub releasing : Vault → ℕ → List ℕ → ℕ → ℕ → ℕ �
 releasing state version journal booked signers job rival =
     gated (supersession state version journal booked job rival) (record { outcome = Done (ones signers); change = Release (unsigning state job) })
 
+-- ---- kind 11, a job's missing dependencies (document 02): "the smallest set of them which, once held by this vault too, makes preflight accept the job"
+
+abbrev pub listing : JobSet → Listing
+listing jobs = record { outcome = Done (jobCount jobs); members = jobs }
+
+abbrev pub unlisted : Refusal → Listing
+unlisted why = record { outcome = Refused why; members = noJobs }
+
+abbrev pub gatedListing : Verdict → Listing → Listing
+gatedListing Pass r = r
+gatedListing (Fail why) r = unlisted why
+
+-- the vault, once it holds these jobs too
+unfoldable pub receivingAll : Vault → JobSet → Vault
+receivingAll state jobs = record { held = jobUnion (state .held) jobs; signed = state .signed }
+
+-- "then 21 exactly if no set works"
+abbrev pub ifAdmitted : Verdict → JobSet → Listing
+ifAdmitted Pass jobs = listing jobs
+ifAdmitted (Fail why) jobs = unlisted NoSetWorks
+
+-- the jobs that make its missing inputs, where checks 11 to 14 pass with them
+unfoldable pub supplying : Vault → JobSet → ℕ → List ℕ → ℕ → ℕ → Listing
+supplying state elsewhere version journal booked job =
+    let jobs = missingJobs (jobAt version journal booked) booked (state .held) elsewhere (jobAt version journal booked job) in
+    ifAdmitted (admissionAt (receivingAll state jobs) version journal booked job) jobs
+
+-- "A job already signed there needs the empty set."
+unfoldable pub requiring : Vault → JobSet → ℕ → List ℕ → ℕ → ℕ → Listing
+requiring state elsewhere version journal booked job =
+    cond (jobHas (state .signed) job) (listing noJobs) (supplying state elsewhere version journal booked job)
+
+-- ---- kind 12, a preflight from a client (document 02, "A fair quota for each desk")
+
+-- the client's history with this request in it
+abbrev pub historyWith : ℕ → ℕ → Bool → History
+historyWith client history fresh = record { client = client; requests = remembered history fresh }
+
+-- "then 23 if four of the desk's previous fifteen requests there brought a new signature; then 11 to 14"
+unfoldable pub withinQuota : ℕ → Verdict → Verdict
+withinQuota history admission = cond (isSpent history) (Fail OverQuota) admission
+
+-- "every other one counts, 23 included": the vault's answer, and the request in the client's history
+abbrev pub counting : Consent → Vault → ℕ → ℕ → ℕ → ℕ → Decision
+counting Already state client history signers v = record { outcome = Done (ones signers); change = Count (historyWith client history false) }
+counting Fresh state client history signers v = voting signers v (Grant (record { vault = state; history = historyWith client history true }))
+counting (Denied why) state client history signers v = record { outcome = Refused why; change = Count (historyWith client history false) }
+
+-- "then a job already signed is accepted", which comes before 23 as it comes before 11 to 14 in a preflight
+unfoldable pub countedConsent : Vault → Verdict → ℕ → ℕ → ℕ → ℕ → ℕ → Decision
+countedConsent state admission client history signers v job =
+    let answer = vaultPreflight state (withinQuota history admission) job in
+    counting (answer .consent) (answer .vault) client history signers v
+
+-- "then 22 if the desk is above 7"
+unfoldable pub clientPreflighting : Vault → ℕ → List ℕ → ℕ → ℕ → ℕ → ℕ → ℕ → ℕ → Decision
+clientPreflighting state version journal booked client history signers v job =
+    cond (isClient client) (countedConsent state (admissionAt state version journal booked job) client history signers v job) (refusing NoClient)
+
 -- ---- of a change
 abbrev pub isNothing : Change → Bool
 isNothing Nothing = true
@@ -141,6 +216,8 @@ isNothing (Hold state) = false
 isNothing (Release state) = false
 isNothing (Record column) = false
 isNothing (See seen) = false
+isNothing (Count history) = false
+isNothing (Grant grant) = false
 
 abbrev pub isBook : Change → Bool
 isBook Nothing = false
@@ -150,3 +227,5 @@ isBook (Hold state) = false
 isBook (Release state) = false
 isBook (Record column) = false
 isBook (See seen) = false
+isBook (Count history) = false
+isBook (Grant grant) = false

@@ -24,6 +24,7 @@ use Rattle.sets.specs.Bits.{hasBit}
 use Rattle.sets.specs.Jobs.{jobHas}
 use Rattle.federation.specs.Federation.{Lawful, thresholdOf}
 use Rattle.generations.specs.Generations.{ageIn}
+use Rattle.ledger.specs.Refused.{refusedLedger}
 use Rattle.ledger.specs.Register.{Register, accessionOf, feedAll, log, newRegister, tabled}
 use Rattle.ledger.specs.State.{arrived, acknowledgersOf, signersOf, vaultAt, versionOf}
 use Rattle.ledger.specs.Worlds.{Event, World, after, afterAll, outcomes, replyTo, start}
@@ -131,12 +132,12 @@ FirstVersion =
     (n b faulty : ℕ) → Lawful (record { n = n; b = b; faulty = faulty; version = 1 }) → (es : List Event)
     → let r = feedAll (newRegister 1) (log (start n b faulty 1) es) in framesIn (r .standing) ≡ r .accessioned
 
--- "A refusal alters no set, book or order": wherever a list has led, a refused step leaves the ledger and the booked bytes as they were
+-- "A refusal alters no set, book or order", and a client's history alone where the refused request counts: wherever a list has led
 abbrev pub RefusedUnchanged : Type 0
 RefusedUnchanged =
     (n b faulty version : ℕ) → Lawful (record { n = n; b = b; faulty = faulty; version = version }) → (es : List Event) (e : Event) (why : Refusal)
-    → replyTo (afterAll (start n b faulty version) es) e .outcome ≡ Refused why
-    → after (afterAll (start n b faulty version) es) e ≡ afterAll (start n b faulty version) es
+    → let w = afterAll (start n b faulty version) es in
+    replyTo w e .outcome ≡ Refused why → after w e ≡ record { ledger = refusedLedger (w .ledger) (e .request) why; booked = w .booked }
 
 -- ---- for readers
 

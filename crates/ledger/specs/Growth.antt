@@ -60,6 +60,7 @@ pub record OnlySigned (l l′ : Ledger) (v k : ℕ) : Type 0 where
   pub arrivals : l′ .arrivals ≡ l .arrivals
   pub next : l′ .next ≡ l .next
   pub seen : l′ .seen ≡ l .seen
+  pub histories : l′ .histories ≡ l .histories
   pub held : (u m : ℕ) → jobHas (vaultAt l′ u .held) m ≡ jobHas (vaultAt l u .held) m
   pub signed : (u m : ℕ) → jobHas (vaultAt l u .signed) m ≡ true → (jobHas (vaultAt l′ u .signed) m ≡ true) ⊎ ((u ≡ v) × (m ≡ k))
   pub no-more : (u m : ℕ) → jobHas (vaultAt l′ u .signed) m ≡ true → jobHas (vaultAt l u .signed) m ≡ true

@@ -25,7 +25,10 @@ use Rattle.ledger.specs.Worlds.{
   World,
   after,
   afterAll,
+  clientPreflight,
   commit,
+  dependencies,
+  equivocating,
   faultyVote,
   generations,
   lent,
@@ -102,6 +105,9 @@ Spares w s j (show k) = Unit {0}
 Spares w s j (generations k) = Unit {0}
 Spares w s j snapshot = Unit {0}
 Spares w s j (release v k rival) = hasBit s v ≡ true → k ≢ j
+Spares w s j (dependencies v k) = Unit {0}
+Spares w s j (clientPreflight v k client) = hasBit s v ≡ true → NoRival w j k
+Spares w s j equivocating = Unit {0}
 
 -- wherever a list of steps has led: a job that n − b vaults accept gets through, whatever comes between the commits, and whatever spares it between the
 -- preflights; only the requests of the two rounds need be lent every booked record
@@ -142,6 +148,9 @@ Allowed w j (show k) = (k ≢ j) × NoRival w j k
 Allowed w j (generations k) = (k ≢ j) × NoRival w j k
 Allowed w j snapshot = Unit {0}
 Allowed w j (release v k rival) = ⊥
+Allowed w j (dependencies v k) = (k ≢ j) × NoRival w j k
+Allowed w j (clientPreflight v k client) = ⊥
+Allowed w j equivocating = Unit {0}
 
 -- a round: a request at each of the vaults, at least once and in any order, and what is allowed between
 pub record Round (own : ℕ → Request) (w : World) (s j : ℕ) (es : List Event) : Type 0 where

@@ -15,7 +15,8 @@ use Rattle.codec.specs.Codec.{jobOf}
 use Rattle.conflicts.specs.Tapes.{framesIn, inputTapes, labels, outputTapes, sameTape}
 use Rattle.record.specs.declared.Entry.{Entry}
 use Rattle.record.specs.declared.Job.{Job}
-use Rattle.ledger.specs.Worlds.{Event, Request, World, after, commit, faultyVote, generations, preflight, propose, release, replyTo, show, snapshot}
+use Rattle.ledger.specs.Worlds.{Event, Request, World, after, clientPreflight, commit, dependencies, equivocating, faultyVote, generations, preflight}
+use Rattle.ledger.specs.Worlds.{propose, release, replyTo, show, snapshot}
 
 -- "It keeps a table of records, the list of jobs taken, the standing tapes, the labels made and the frames accessioned." Its version is that of
 -- the sequence of steps that it is fed (M-102), by which it reads a record.
@@ -120,6 +121,9 @@ feedDone r (show job) = r
 feedDone r (generations job) = r
 feedDone r snapshot = r
 feedDone r (release v job rival) = r
+feedDone r (dependencies v job) = r
+feedDone r (clientPreflight v job client) = r
+feedDone r equivocating = r
 
 -- a stopped register stays as it is, and so does one that is fed a refused step
 abbrev pub feed : Register → Request → Bool → Register

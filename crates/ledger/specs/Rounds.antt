@@ -9,8 +9,8 @@ use Rattle.outcome.specs.declared.Outcome.the-variants.{Done}
 use Rattle.sets.specs.Jobs.{jobCount, jobHas}
 use Rattle.federation.specs.Federation.{Lawful}
 use Rattle.ledger.specs.Demand3.{Held}
-use Rattle.ledger.specs.Worlds.{Event, World, afterAll, replyTo, start}
-use Rattle.ledger.specs.Worlds.{Request, commit, faultyVote, generations, preflight, propose, release, show, snapshot}
+use Rattle.ledger.specs.Worlds.{Event, Request, World, afterAll, clientPreflight, commit, dependencies, equivocating, faultyVote, generations}
+use Rattle.ledger.specs.Worlds.{preflight, propose, release, replyTo, show, snapshot, start}
 
 abbrev pub isSnapshot : Request → Bool
 isSnapshot (propose bytes) = false
@@ -21,6 +21,9 @@ isSnapshot (show job) = false
 isSnapshot (generations job) = false
 isSnapshot snapshot = true
 isSnapshot (release v job rival) = false
+isSnapshot (dependencies v job) = false
+isSnapshot (clientPreflight v job client) = false
+isSnapshot equivocating = false
 
 -- how many events are of kind 9
 abbrev pub visits : List Event → ℕ

@@ -1,5 +1,5 @@
--- What the ledger keeps: the settings, how many records are booked, the votes on each job, the arrival order, and the vaults. What a step
--- changes is applied by one definition, at the end.
+-- What the ledger keeps: the settings, how many records are booked, the votes on each job, the arrival order, the vaults, the snapshot's round and the clients'
+-- histories. What a step changes is applied by one definition, at the end.
 use mathlib.Core.Bool.{Bool, cond, _&&_, _||_}
 use mathlib.Core.List.{List}
 use Prim.Native.Nat.{ℕ, _+_}
@@ -8,10 +8,12 @@ use lib.ListN.{getD, set, replicate, take}
 use Rattle.base.specs.Search.{anyBelow}
 use Rattle.sets.specs.Jobs.{noJobs}
 use Rattle.sets.specs.declared.job_set.JobSet.{JobSet}
+use Rattle.quota.specs.Quota.{historyPlace}
 use Rattle.snapshot.specs.Snapshot.{following}
 use Rattle.vaults.specs.declared.Vault.{Vault}
 use Rattle.ledger.specs.declared.Change.{Change}
-use Rattle.ledger.specs.declared.Change.the-variants.{Book, Hold, Nothing, Record, Release, See, Sign}
+use Rattle.ledger.specs.declared.Change.the-variants.{Book, Count, Grant, Hold, Nothing, Record, Release, See, Sign}
+use Rattle.ledger.specs.declared.History.{History}
 use Rattle.ledger.specs.declared.Ledger.{Ledger}
 use Rattle.federation.specs.Federation.{isLawful}
 use Rattle.journal.specs.Journal.{capacity}
@@ -44,6 +46,10 @@ acknowledgersOf l = votesIn l Acknowledgements
 abbrev pub versionOf : Ledger → ℕ
 versionOf l = l .settings .version
 
+-- a client's history at a vault
+unfoldable pub historyAt : Ledger → ℕ → ℕ → ℕ
+historyAt l v client = getD (l .histories) (historyPlace v client) 0
+
 -- the jobs in arrival order
 abbrev pub arrived : Ledger → List ℕ
 arrived l = take (l .arrivals) (l .order)
@@ -70,6 +76,7 @@ newLedger n b faulty version =
       votes = replicate 128 noVotes;
       order = replicate 128 0;
       vaults = replicate 16 newVault;
+      histories = replicate 128 0;
     }
 
 -- one record more
@@ -84,6 +91,7 @@ booking l =
       votes = l .votes;
       order = l .order;
       vaults = l .vaults;
+      histories = l .histories;
     }
 
 -- the vault's vote on the job recorded
@@ -98,6 +106,7 @@ voted l column v job =
       votes = set (l .votes) job (withVote column v (votesAt l job));
       order = l .order;
       vaults = l .vaults;
+      histories = l .histories;
     }
 
 -- another state of a vault
@@ -112,6 +121,7 @@ withVault l v state =
       votes = l .votes;
       order = l .order;
       vaults = set (l .vaults) v state;
+      histories = l .histories;
     }
 
 -- the job at the end of the order
@@ -126,6 +136,7 @@ enqueued l job =
       votes = l .votes;
       order = set (l .order) (l .arrivals) job;
       vaults = l .vaults;
+      histories = l .histories;
     }
 
 -- "Arrival order is the order in which jobs are first held by a sound vault": a job that has not arrived goes to its end
@@ -144,6 +155,22 @@ visited l seen =
       votes = l .votes;
       order = l .order;
       vaults = l .vaults;
+      histories = l .histories;
+    }
+
+-- a client's history at the vault
+unfoldable pub counted : Ledger → ℕ → History → Ledger
+counted l v h =
+    record {
+      settings = l .settings;
+      booked = l .booked;
+      arrivals = l .arrivals;
+      next = l .next;
+      seen = l .seen;
+      votes = l .votes;
+      order = l .order;
+      vaults = l .vaults;
+      histories = set (l .histories) (historyPlace v (h .client)) (h .requests);
     }
 
 -- the one place where a ledger changes, by the vault and the job that the step names
@@ -155,3 +182,5 @@ applied l (Hold state) v job = arriving (voted (withVault l v state) Acknowledge
 applied l (Release state) v job = withVault l v state
 applied l (Record column) v job = voted l column v job
 applied l (See seen) v job = visited l seen
+applied l (Count history) v job = counted l v history
+applied l (Grant grant) v job = counted (voted (withVault l v (grant .vault)) Signatures v job) v (grant .history)

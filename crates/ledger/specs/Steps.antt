@@ -13,17 +13,34 @@ use Rattle.outcome.specs.declared.Refusal.the-variants.{Settings as BadSettings
 use Rattle.sets.specs.Bits.{hasBit}
 use Rattle.federation.specs.Federation.{isLawful, thresholdOf}
 use Rattle.federation.specs.declared.Settings.{Settings}
-use Rattle.journal.specs.Journal.{isBooked, jobAt, putAt}
+use Rattle.journal.specs.Journal.{isBooked, isWhole, jobAt, putAt}
 use Rattle.generations.specs.Generations.{ageIn}
 use Rattle.ledger.specs.declared.Change.{Change}
-use Rattle.ledger.specs.declared.Change.the-variants.{Book, Hold, Nothing, Record, Release, See, Sign}
+use Rattle.ledger.specs.declared.Change.the-variants.{Book, Count, Grant, Hold, Nothing, Record, Release, See, Sign}
 use Rattle.vaults.specs.declared.Column.{Column}
 use Rattle.ledger.specs.declared.Decision.{Decision}
 use Rattle.ledger.specs.declared.Ledger.{Ledger}
+use Rattle.ledger.specs.declared.Listing.{Listing}
 use Rattle.ledger.specs.declared.Reply.{Reply}
-use Rattle.ledger.specs.Decisions.{ageing, answering, committing, gated, preflighting, proposal, releasing, snapshotting, statusOf, voting}
-use Rattle.ledger.specs.Holders.{isHeld}
-use Rattle.ledger.specs.State.{applied, isSane, newLedger, signersOf, vaultAt, versionOf, votesAt, votesIn}
+use Rattle.ledger.specs.Decisions.{
+  ageing,
+  answering,
+  clientPreflighting,
+  committing,
+  gated,
+  gatedListing,
+  listing,
+  preflighting,
+  proposal,
+  releasing,
+  requiring,
+  snapshotting,
+  statusOf,
+  voting,
+}
+use Rattle.ledger.specs.Equivocation.{equivocators}
+use Rattle.ledger.specs.Holders.{heldSomewhere, isHeld}
+use Rattle.ledger.specs.State.{applied, historyAt, isSane, newLedger, signersOf, vaultAt, versionOf, votesAt, votesIn}
 
 -- ---- a new ledger: the threshold where the settings are lawful
 unfoldable pub newOf : ℕ → ℕ → ℕ → ℕ → Reply
@@ -50,6 +67,10 @@ saneGate l = cond (isSane l) Pass (Fail BadSettings)
 unfoldable pub bookedGate : Ledger → List ℕ → ℕ → Verdict
 bookedGate l journal job =
     cond (isSane l) (cond (isBooked (versionOf l) journal (l .booked) job) Pass (Fail NotBooked)) (Fail BadSettings)
+
+-- checks 1 and 4 of a step that names no job: "4 if some booked record isn't wholly inside the caller's book"
+unfoldable pub wholeGate : Ledger → List ℕ → Verdict
+wholeGate l journal = cond (isSane l) (cond (isWhole (versionOf l) journal (l .booked)) Pass (Fail NotBooked)) (Fail BadSettings)
 
 -- checks 1, 3, 5 and 4
 unfoldable pub vaultGate : Ledger → List ℕ → ℕ → ℕ → Bool → Verdict
@@ -97,6 +118,29 @@ unfoldable pub releaseDecision : Ledger → List ℕ → ℕ → ℕ → ℕ →
 releaseDecision l journal v job rival =
     gated (vaultGate l journal v job false) (releasing (vaultAt l v) (versionOf l) journal (l .booked) (signersOf l job) job rival)
 
+-- kind 11: "3, 5, 4 as for preflight; then 21"
+unfoldable pub dependenciesOf : Ledger → List ℕ → ℕ → ℕ → Listing
+dependenciesOf l journal v job =
+    gatedListing (vaultGate l journal v job false)
+    (requiring (vaultAt l v) (heldSomewhere (l .settings) (l .vaults)) (versionOf l) journal (l .booked) job)
+
+unfoldable pub dependenciesDecision : Ledger → List ℕ → ℕ → ℕ → Decision
+dependenciesDecision l journal v job = record { outcome = dependenciesOf l journal v job .outcome; change = Nothing }
+
+-- kind 12: "3, 5, 4 as for kind 2; then 22", a job already signed, 23, 11 to 14
+unfoldable pub clientPreflightDecision : Ledger → List ℕ → ℕ → ℕ → ℕ → Decision
+clientPreflightDecision l journal v job client =
+    gated (vaultGate l journal v job false)
+    (clientPreflighting (vaultAt l v) (versionOf l) journal (l .booked) client (historyAt l v client) (signersOf l job) v job)
+
+-- kind 13: "4"; the vaults that equivocate
+unfoldable pub equivocatorsOf : Ledger → List ℕ → Listing
+equivocatorsOf l journal =
+    gatedListing (wholeGate l journal) (listing (equivocators (l .settings) (signersOf l) (jobAt (versionOf l) journal (l .booked)) (l .booked)))
+
+unfoldable pub equivocatorsDecision : Ledger → List ℕ → Decision
+equivocatorsDecision l journal = record { outcome = equivocatorsOf l journal .outcome; change = Nothing }
+
 -- ---- a decision carried out
 
 abbrev pub carried : Ledger → Decision → ℕ → ℕ → Reply
@@ -115,6 +159,8 @@ journalWith (Hold state) booked version journal bytes = journal
 journalWith (Release state) booked version journal bytes = journal
 journalWith (Record column) booked version journal bytes = journal
 journalWith (See seen) booked version journal bytes = journal
+journalWith (Count history) booked version journal bytes = journal
+journalWith (Grant grant) booked version journal bytes = journal
 
 -- ---- the operations; a proposal names no vault and no job
 unfoldable pub proposeOf : Ledger → List ℕ → List ℕ → Reply
@@ -138,7 +184,10 @@ snapshotOf l = carried l (snapshotDecision l) 0 0
 unfoldable pub releaseOf : Ledger → List ℕ → ℕ → ℕ → ℕ → Reply
 releaseOf l journal v job rival = carried l (releaseDecision l journal v job rival) v job
 
--- the two that only read
+unfoldable pub clientPreflightOf : Ledger → List ℕ → ℕ → ℕ → ℕ → Reply
+clientPreflightOf l journal v job client = carried l (clientPreflightDecision l journal v job client) v job
+
+-- the two that only read a figure; `dependenciesOf` and `equivocatorsOf` stand above
 abbrev pub showOf : Ledger → List ℕ → ℕ → Outcome
 showOf l journal job = showDecision l journal job .outcome
 

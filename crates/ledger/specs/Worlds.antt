@@ -8,7 +8,10 @@ use Rattle.codec.specs.Codec.{placeOf}
 use Rattle.ledger.specs.State.{newLedger, versionOf}
 use Rattle.ledger.specs.Steps.{
   carried,
+  clientPreflightDecision,
   commitDecision,
+  dependenciesDecision,
+  equivocatorsDecision,
   faultyVoteDecision,
   generationsDecision,
   journalAfter,
@@ -23,7 +26,7 @@ use Rattle.ledger.specs.declared.Decision.{Decision}
 use Rattle.ledger.specs.declared.Ledger.{Ledger}
 use Rattle.ledger.specs.declared.Reply.{Reply}
 
--- kinds 1 to 6 and 8 to 10. "A draw neither reads nor changes what the engine keeps and stays out".
+-- kinds 1 to 6 and 8 to 13. "A draw neither reads nor changes what the engine keeps and stays out".
 pub data Request : Type 0 where
   propose : List ℕ → Request
   preflight : ℕ → ℕ → Request
@@ -34,6 +37,10 @@ pub data Request : Type 0 where
   snapshot : Request
   -- the vault, the job, and the rival that it lost to
   release : ℕ → ℕ → ℕ → Request
+  dependencies : ℕ → ℕ → Request
+  -- the vault, the job, and the client
+  clientPreflight : ℕ → ℕ → ℕ → Request
+  equivocating : Request
 
 -- the vault and the job that a step names, 0 where it names none
 abbrev pub vaultIn : Request → ℕ
@@ -45,6 +52,9 @@ vaultIn (show job) = 0
 vaultIn (generations job) = 0
 vaultIn snapshot = 0
 vaultIn (release v job rival) = v
+vaultIn (dependencies v job) = v
+vaultIn (clientPreflight v job client) = v
+vaultIn equivocating = 0
 
 abbrev pub jobIn : Request → ℕ
 jobIn (propose bytes) = 0
@@ -55,6 +65,9 @@ jobIn (show job) = job
 jobIn (generations job) = job
 jobIn snapshot = 0
 jobIn (release v job rival) = job
+jobIn (dependencies v job) = job
+jobIn (clientPreflight v job client) = job
+jobIn equivocating = 0
 
 abbrev pub decisionOf : Ledger → List ℕ → Request → Decision
 decisionOf l journal (propose bytes) = proposeDecision l journal bytes
@@ -65,8 +78,11 @@ decisionOf l journal (show job) = showDecision l journal job
 decisionOf l journal (generations job) = generationsDecision l journal job
 decisionOf l journal snapshot = snapshotDecision l
 decisionOf l journal (release v job rival) = releaseDecision l journal v job rival
+decisionOf l journal (dependencies v job) = dependenciesDecision l journal v job
+decisionOf l journal (clientPreflight v job client) = clientPreflightDecision l journal v job client
+decisionOf l journal equivocating = equivocatorsDecision l journal
 
--- every step is a decision carried out: the right sides are those of `proposeOf` to `generationsOf`, which the contracts cite
+-- every step is a decision carried out: the right sides are those of `proposeOf` to `equivocatorsOf`, which the contracts cite
 abbrev pub stepOf : Ledger → List ℕ → Request → Reply
 stepOf l journal q = carried l (decisionOf l journal q) (vaultIn q) (jobIn q)
 
@@ -80,6 +96,9 @@ leftBy l journal (show job) = journal
 leftBy l journal (generations job) = journal
 leftBy l journal snapshot = journal
 leftBy l journal (release v job rival) = journal
+leftBy l journal (dependencies v job) = journal
+leftBy l journal (clientPreflight v job client) = journal
+leftBy l journal equivocating = journal
 
 -- "each step gets all that the engine keeps and the booked bytes as the step before left them"
 pub record World : Type 0 where

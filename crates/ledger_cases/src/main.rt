@@ -2,6 +2,9 @@
 // the answer. Document 01 decides what they must be; `stdout` holds them.
 mod ages;
 mod checks;
+mod clients;
+mod dependencies;
+mod equivocation;
 mod releases;
 mod run;
 mod settings;
@@ -16,5 +19,12 @@ fn main() {
     votes::votes();
     ages::ages();
     releases::releases();
+    dependencies::after_run();
+    dependencies::four_missing();
+    dependencies::no_set();
+    equivocation::after_releases();
+    equivocation::excused();
+    equivocation::five();
     versions::versions();
+    clients::clients();
 }

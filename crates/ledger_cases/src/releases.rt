@@ -13,7 +13,7 @@ fn b() -> Entry {
 }
 
 // Job 0 takes in a and b, 1 moves a, 2 moves both, 3 moves b.
-fn propose(l: Ledger, journal: &mut [u8; 400]) -> Ledger {
+pub(crate) fn propose(l: Ledger, journal: &mut [u8; 400]) -> Ledger {
     let l = steps::propose(l, journal, b"ab", jobs::accession_two(a(), b()));
     let one = jobs::migration(a(), jobs::tape(b"CCCCCCL7", 1000));
     let l = steps::propose(l, journal, b"a-c", one);
@@ -23,7 +23,7 @@ fn propose(l: Ledger, journal: &mut [u8; 400]) -> Ledger {
     steps::propose(l, journal, b"b-e", other)
 }
 
-fn master(l: Ledger, journal: &[u8]) -> Ledger {
+pub(crate) fn master(l: Ledger, journal: &[u8]) -> Ledger {
     let l = steps::preflight(l, journal, 0, 0);
     let l = steps::preflight(l, journal, 1, 0);
     let l = steps::preflight(l, journal, 2, 0);
@@ -33,7 +33,7 @@ fn master(l: Ledger, journal: &[u8]) -> Ledger {
 }
 
 // Vault 2 signs job 2; job 1 is certified by the others and held by vault 2.
-fn lost(l: Ledger, journal: &[u8]) -> Ledger {
+pub(crate) fn lost(l: Ledger, journal: &[u8]) -> Ledger {
     let l = steps::preflight(l, journal, 2, 2);
     let l = steps::preflight(l, journal, 0, 1);
     let l = steps::preflight(l, journal, 1, 1);
@@ -43,7 +43,7 @@ fn lost(l: Ledger, journal: &[u8]) -> Ledger {
 }
 
 // What vault 2 signed counts on, and its other tape is free.
-fn released(l: Ledger, journal: &[u8]) -> Ledger {
+pub(crate) fn released(l: Ledger, journal: &[u8]) -> Ledger {
     let l = steps::preflight(l, journal, 2, 3);
     let l = steps::release(l, journal, 2, 2, 1);
     let l = steps::preflight(l, journal, 2, 3);

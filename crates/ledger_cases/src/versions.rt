@@ -24,7 +24,7 @@ fn cut(l: Ledger, journal: &mut [u8; 208]) -> Ledger {
 }
 
 // Only so much of the journal, all of it where it is shorter.
-fn part(journal: &[u8], n: usize) -> &[u8] {
+pub(crate) fn part(journal: &[u8], n: usize) -> &[u8] {
     if n <= journal.len() {
         return &journal[0..n];
     }

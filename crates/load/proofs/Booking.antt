@@ -26,9 +26,12 @@ use Rattle.ledger.specs.Decisions.{
   ageing,
   answering,
   certificate,
+  clientPreflighting,
   committing,
   consent,
   consenting,
+  countedConsent,
+  counting,
   gated,
   isBook,
   preflighting,
@@ -39,13 +42,17 @@ use Rattle.ledger.specs.Decisions.{
   statusOf,
   supersession,
   voting,
+  withinQuota,
 }
 use Rattle.ledger.specs.Holders.{isHeld}
 use Rattle.ledger.specs.Meaning.{NewAt, Sane, new}
-use Rattle.ledger.specs.State.{applied, booking, signersOf, vaultAt, versionOf, visited, voted, votesAt, votesIn, withVault}
+use Rattle.ledger.specs.State.{applied, booking, counted, historyAt, signersOf, vaultAt, versionOf, visited, voted, votesAt, votesIn, withVault}
 use Rattle.ledger.specs.Steps.{
   bookedGate,
+  clientPreflightDecision,
   commitDecision,
+  dependenciesDecision,
+  equivocatorsDecision,
   faultyVoteDecision,
   gateOf,
   generationsDecision,
@@ -59,9 +66,10 @@ use Rattle.ledger.specs.Steps.{
   vaultGate,
 }
 use Rattle.vaults.specs.Vaults.{holding, unsigning, vaultPreflight}
-use Rattle.ledger.specs.Worlds.{Request, commit, decisionOf, faultyVote, generations, leftBy, preflight, propose, release, show, snapshot, stepOf}
+use Rattle.ledger.specs.Worlds.{Request, clientPreflight, commit, decisionOf, dependencies, equivocating, faultyVote, generations, leftBy, preflight}
+use Rattle.ledger.specs.Worlds.{propose, release, show, snapshot, stepOf}
 use Rattle.ledger.specs.declared.Change.{Change}
-use Rattle.ledger.specs.declared.Change.the-variants.{Book, Hold, Nothing, Record, Release, See, Sign}
+use Rattle.ledger.specs.declared.Change.the-variants.{Book, Count, Grant, Hold, Nothing, Record, Release, See, Sign}
 use Rattle.vaults.specs.declared.Column.the-variants.{Acknowledgements}
 use Rattle.vaults.specs.declared.Consent.{Consent}
 use Rattle.vaults.specs.declared.Consent.the-variants.{Already, Denied, Fresh}
@@ -69,11 +77,12 @@ use Rattle.ledger.specs.declared.Decision.{Decision}
 use Rattle.ledger.specs.declared.Ledger.{Ledger}
 use Rattle.vaults.specs.declared.Vault.{Vault}
 use Rattle.outcome.specs.declared.Outcome.the-variants.{Done}
-use Rattle.outcome.specs.declared.Refusal.the-variants.{NotHeld}
+use Rattle.outcome.specs.declared.Refusal.the-variants.{NoClient, NotHeld}
 use Rattle.checks.specs.Checks.{examined}
 use Rattle.outcome.specs.declared.Verdict.{Verdict}
 use Rattle.outcome.specs.declared.Verdict.the-variants.{Fail, Pass}
 use Rattle.sets.specs.Bits.{hasBit}
+use Rattle.quota.specs.Quota.{isClient}
 use Rattle.sets.specs.Jobs.{jobHas}
 use Rattle.load.proofs.Checked.{record-passes}
 use Rattle.load.proofs.Different.{records-differ}
@@ -97,6 +106,11 @@ consent-calm Already state signers v = refl
 consent-calm Fresh state signers v = refl
 consent-calm (Denied why) state signers v = refl
 
+counting-calm : (c : Consent) (state : Vault) (client history signers v : ℕ) → Calm (counting c state client history signers v)
+counting-calm Already state client history signers v = refl
+counting-calm Fresh state client history signers v = refl
+counting-calm (Denied why) state client history signers v = refl
+
 -- a request that is no proposal
 abbrev pub Other : Request → Type 0
 Other (propose bytes) = ⊥
@@ -107,10 +121,14 @@ Other (show j) = Unit {0}
 Other (generations j) = Unit {0}
 Other snapshot = Unit {0}
 Other (release v j rival) = Unit {0}
+Other (dependencies v j) = Unit {0}
+Other (clientPreflight v j client) = Unit {0}
+Other equivocating = Unit {0}
 
 other-calm : (l : Ledger) (journal : List ℕ) (q : Request) → Other q → Calm (decisionOf l journal q)
 unfolding preflightDecision preflighting consent commitDecision committing receiving faultyVoteDecision showDecision generationsDecision ageing
-    snapshotDecision snapshotting releaseDecision releasing
+    snapshotDecision snapshotting releaseDecision releasing dependenciesDecision clientPreflightDecision clientPreflighting countedConsent
+    equivocatorsDecision
 other-calm l journal (propose bytes) h = absurd h
 other-calm l journal (preflight v j) h =
     let a = vaultPreflight (vaultAt l v) (admissionAt (vaultAt l v) (versionOf l) journal (l .booked) j) j in
@@ -133,6 +151,15 @@ other-calm l journal (release v j rival) h =
     let test = supersession (vaultAt l v) (versionOf l) journal (l .booked) j rival in
     let released : Decision = record { outcome = Done (ones (signersOf l j)); change = Release (unsigning (vaultAt l v) j) } in
     gated-calm (vaultGate l journal v j false) (gated test released) (gated-calm test released refl)
+other-calm l journal (dependencies v j) h = refl
+other-calm l journal (clientPreflight v j client) h =
+    let admission = admissionAt (vaultAt l v) (versionOf l) journal (l .booked) j in
+    let history = historyAt l v client in
+    let a = vaultPreflight (vaultAt l v) (withinQuota history admission) j in
+    gated-calm (vaultGate l journal v j false) (clientPreflighting (vaultAt l v) (versionOf l) journal (l .booked) client history (signersOf l j) v j)
+    (if-calm (isClient client) (countedConsent (vaultAt l v) admission client history (signersOf l j) v j) (refusing NoClient)
+    (counting-calm (a .consent) (a .vault) client history (signersOf l j) v) refl)
+other-calm l journal equivocating h = refl
 
 record Same (l m : Ledger) : Type 0 where
   settings : m .settings ≡ l .settings
@@ -141,12 +168,14 @@ record Same (l m : Ledger) : Type 0 where
   arrivals : l .arrivals ≤ 128 → m .arrivals ≤ 128
 
 calm-same : (l : Ledger) (change : Change) (v j : ℕ) → isBook change ≡ false → Same l (applied l change v j)
-unfolding applied visited voted withVault
+unfolding applied counted visited voted withVault
 calm-same l Nothing v j h = record { settings = refl; booked = refl; next = λ _ b. b; arrivals = λ a. a }
 calm-same l Book v j h = absurd (true≢false h)
 calm-same l (Sign state) v j h = record { settings = refl; booked = refl; next = λ _ b. b; arrivals = λ a. a }
 calm-same l (Release state) v j h = record { settings = refl; booked = refl; next = λ _ b. b; arrivals = λ a. a }
 calm-same l (Record column) v j h = record { settings = refl; booked = refl; next = λ _ b. b; arrivals = λ a. a }
+calm-same l (Count history) v j h = record { settings = refl; booked = refl; next = λ _ b. b; arrivals = λ a. a }
+calm-same l (Grant grant) v j h = record { settings = refl; booked = refl; next = λ _ b. b; arrivals = λ a. a }
 calm-same l (See seen) v j h = record { settings = refl; booked = refl; next = λ p _. stays-below (l .settings .n) (l .next) p; arrivals = λ a. a }
 calm-same l (Hold state) v j h =
     let a = arrives (voted (withVault l v state) Acknowledgements v j) j in
@@ -171,6 +200,9 @@ other-left l journal (show j) h = refl
 other-left l journal (generations j) h = refl
 other-left l journal snapshot h = refl
 other-left l journal (release v j rival) h = refl
+other-left l journal (dependencies v j) h = refl
+other-left l journal (clientPreflight v j client) h = refl
+other-left l journal equivocating h = refl
 
 module _ (first : ℕ) (s : Settings) (k : ℕ) (l : Ledger) (journal : List ℕ) (h : Standing first s k l journal) where
   pub other-standing : (q : Request) → Other q → Standing first s k (stepOf l journal q .ledger) (leftBy l journal q)

@@ -3,7 +3,8 @@ use mathlib.Core.Bool.{Bool, cond, false, true}
 use mathlib.Core.List.{List, [], _∷_}
 use Prim.Native.Nat.{suc, zero, ℕ}
 use Rattle.ledger.specs.Steps.{vaultGate}
-use Rattle.ledger.specs.Worlds.{Request, commit, faultyVote, generations, preflight, propose, release, show, snapshot}
+use Rattle.ledger.specs.Worlds.{Request, clientPreflight, commit, dependencies, equivocating, faultyVote, generations, preflight, propose, release, show}
+use Rattle.ledger.specs.Worlds.{snapshot}
 use Rattle.outcome.specs.declared.Verdict.{Verdict}
 use Rattle.outcome.specs.declared.Verdict.the-variants.{Fail, Pass}
 use Rattle.runfile.specs.Run.{Run, commandOf, ended, turn}
@@ -23,6 +24,9 @@ isWellAsked r (show j) = false
 isWellAsked r (generations j) = false
 isWellAsked r snapshot = false
 isWellAsked r (release v j rival) = false
+isWellAsked r (dependencies v j) = false
+isWellAsked r (clientPreflight v j client) = false
+isWellAsked r equivocating = false
 
 abbrev pub asksWell : Run → Command → Bool
 asksWell r (request q) = isWellAsked r q

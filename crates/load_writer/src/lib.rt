@@ -1,7 +1,5 @@
-// A test load from ten bytes (docs/LOADS.md): a run file of 200 steps.
-mod plans;
-mod records;
-mod steps;
+// A test load from ten bytes (docs/LOADS.md), written as a run file of 200 steps.
+mod writing;
 
 ghost use mathlib.Core.Path.{_≡_};
 ghost use Prim.Native.Nat.{_*_, _<_, _≤_};
@@ -12,9 +10,9 @@ ghost use Rattle.load.specs.Plans.{Fair};
 ghost use Rattle.text.specs.Text.{Put};
 use federation::Settings;
 use load::Plan;
+use load_contents::wide;
 use outcome::Outcome;
 use outcome::Refusal;
-use records::wide;
 
 // How many bytes are read: a seed of eight, n and b.
 pub const REQUEST: usize = 10;
@@ -68,11 +66,11 @@ fn put_steps(out: &mut [u8], plan: Plan, state: u64) -> usize
     let mut now = state;
     for i in 0..STEPS {
         now = generator::advance(now);
-        at = steps::put(
+        at = writing::put(
             out,
             at,
             plan.first,
-            steps::nth(plan, i as u32, generator::draw(now)),
+            load_contents::nth(plan, i as u32, generator::draw(now)),
         );
     }
     at
@@ -85,14 +83,14 @@ fn put_load(out: &mut [u8], seed: u64, n: u8, b: u8) -> usize
     let one = generator::advance(seed);
     let two = generator::advance(one);
     let three = generator::advance(two);
-    let plan = plans::choose(
+    let plan = load_contents::choose(
         n,
         b,
         generator::draw(one),
         generator::draw(two),
         generator::draw(three),
     );
-    steps::put_header(out, n, b, plans::faulty(plan));
+    writing::put_header(out, n, b, load_contents::faulty(plan));
     put_steps(out, plan, three)
 }
 

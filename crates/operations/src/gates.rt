@@ -1,7 +1,7 @@
 // What the operations share: the checks before a step, and the two ways of a step, carried out or turned back.
 ghost use mathlib.Core.Path.{_≡_};
 ghost use Rattle.ledger.specs.Given.{Placed, Writable};
-ghost use Rattle.ledger.specs.Steps.{bookedGate, carried, journalWith, turned, vaultGate};
+ghost use Rattle.ledger.specs.Steps.{bookedGate, carried, journalWith, turned, vaultGate, wholeGate};
 use ledger::Change;
 use ledger::Decision;
 use ledger::Ledger;
@@ -17,6 +17,20 @@ pub(crate) fn booked_gate(ledger: Ledger, journal: &[u8], job: u8) -> Verdict
     if books::is_sane(ledger) {
         let settings = ledger.settings;
         if journal::is_booked(settings.version, journal, ledger.booked, job as usize) {
+            return Verdict::Pass;
+        }
+        return Verdict::Fail(Refusal::NotBooked);
+    }
+    Verdict::Fail(Refusal::Settings)
+}
+
+// Checks 1 and 4 of a step that names no job.
+pub(crate) fn whole_gate(ledger: Ledger, journal: &[u8]) -> Verdict
+    ensures { λ r. ⌜ r ≡ wholeGate ledger (now (journal .entry)) ⌝ }
+{
+    if books::is_sane(ledger) {
+        let settings = ledger.settings;
+        if journal::is_whole(settings.version, journal, ledger.booked) {
             return Verdict::Pass;
         }
         return Verdict::Fail(Refusal::NotBooked);

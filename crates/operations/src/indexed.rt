@@ -4,12 +4,18 @@ ghost use Prim.Native.Nat.{_≤_};
 ghost use lib.ListN.{length};
 ghost use Rattle.generations.specs.Generations.{ageIn};
 ghost use Rattle.journal.specs.Journal.{Booked, jobAt};
-ghost use Rattle.ledger.specs.Decisions.{ageing, preflighting, proposal, releasing};
-ghost use Rattle.ledger.specs.Holders.{isHeld};
+ghost use Rattle.ledger.specs.Decisions.{ageing, clientPreflighting, preflighting, proposal, releasing, requiring};
+ghost use Rattle.codec.specs.Codec.{placeOf};
+ghost use Rattle.decisions.specs.Partners.{recordedIn};
+ghost use Rattle.ledger.specs.Equivocation.{equivocators};
+ghost use Rattle.ledger.specs.Holders.{heldSomewhere, isHeld};
 use federation::Settings;
 use ledger::Decision;
+use ledger::Listing;
 use outcome::Verdict;
+use sets::JobSet;
 use vaults::Vault;
+use vaults::Votes;
 
 pub(crate) fn propose(version: u16, journal: &[u8], booked: usize, bytes: &[u8]) -> Decision
     requires { ⌜ booked ≤ 128 ⌝ }
@@ -104,6 +110,84 @@ pub(crate) fn release(
     )
 }
 
+pub(crate) fn dependencies(
+    settings: Settings,
+    vaults: [Vault; 16],
+    state: Vault,
+    version: u16,
+    journal: &[u8],
+    booked: usize,
+    job: usize,
+) -> Listing
+    requires { ⌜ (settings .n ≤ 16) × (booked ≤ 128) × Booked version (now journal) booked job ⌝ }
+    ensures { λ r. ⌜ r ≡ requiring state (heldSomewhere settings vaults) version (now (journal .entry)) booked job ⌝ }
+{
+    let mut numbers = [0u16; index::NUMBERS];
+    let mut sets = [0u64; index::SETS];
+    let mut records = [0u16; index::RECORDS];
+    index::build(
+        &mut numbers,
+        &mut sets,
+        &mut records,
+        version,
+        journal,
+        booked,
+    );
+    decisions::dependencies(
+        Verdict::Pass,
+        settings,
+        vaults,
+        state,
+        &numbers,
+        &sets,
+        version,
+        journal,
+        booked,
+        job,
+    )
+}
+
+pub(crate) fn client_preflight(
+    state: Vault,
+    version: u16,
+    journal: &[u8],
+    booked: usize,
+    client: u8,
+    history: u16,
+    signers: u16,
+    vault: u8,
+    job: usize,
+) -> Decision
+    requires { ⌜ (booked ≤ 128) × Booked version (now journal) booked job ⌝ }
+    ensures { λ r. ⌜ r ≡ clientPreflighting state version (now (journal .entry)) booked client history signers vault job ⌝ }
+{
+    let mut numbers = [0u16; index::NUMBERS];
+    let mut sets = [0u64; index::SETS];
+    let mut records = [0u16; index::RECORDS];
+    index::build(
+        &mut numbers,
+        &mut sets,
+        &mut records,
+        version,
+        journal,
+        booked,
+    );
+    decisions::client_preflight(
+        Verdict::Pass,
+        state,
+        &numbers,
+        &sets,
+        version,
+        journal,
+        booked,
+        client,
+        history,
+        signers,
+        vault,
+        job,
+    )
+}
+
 pub(crate) fn generations(
     settings: Settings,
     vaults: [Vault; 16],
@@ -141,4 +225,27 @@ pub(crate) fn generations(
         &mut memo,
         job,
     )
+}
+
+pub(crate) fn equivocating(
+    settings: Settings,
+    votes: [Votes; 128],
+    journal: &[u8],
+    booked: usize,
+) -> JobSet
+    requires { ⌜ (booked ≤ 128) × (placeOf (settings .version) booked ≤ length (now journal)) ⌝ }
+    ensures { λ r. ⌜ r ≡ equivocators settings (recordedIn votes) (jobAt (settings .version) (now (journal .entry)) booked) booked ⌝ }
+{
+    let mut numbers = [0u16; index::NUMBERS];
+    let mut sets = [0u64; index::SETS];
+    let mut records = [0u16; index::RECORDS];
+    index::build(
+        &mut numbers,
+        &mut sets,
+        &mut records,
+        settings.version,
+        journal,
+        booked,
+    );
+    decisions::equivocating(settings, votes, &numbers, &sets, journal, booked)
 }

@@ -8,7 +8,10 @@ ghost use mathlib.Core.Path.{_≡_};
 ghost use Rattle.journal.specs.Journal.{recordAt};
 ghost use Rattle.ledger.specs.State.{versionOf};
 ghost use Rattle.ledger.specs.Steps.{
+  clientPreflightOf,
   commitOf,
+  dependenciesOf,
+  equivocatorsOf,
   faultyVoteOf,
   generationsOf,
   journalAfter,
@@ -19,6 +22,7 @@ ghost use Rattle.ledger.specs.Steps.{
   snapshotOf,
 };
 use ledger::Ledger;
+use ledger::Listing;
 use ledger::Reply;
 use outcome::Outcome;
 use outcome::Refusal;
@@ -196,5 +200,78 @@ pub fn release(ledger: Ledger, journal: &[u8], vault: u8, job: u8, rival: u8) ->
             gates::carry(ledger, decision, vault, job)
         }
         Verdict::Fail(why) => gates::turn_back(ledger, why),
+    }
+}
+
+// Kind 11: the jobs, each held by a correct vault, that this vault must hold before it can sign the job; the value is how many. Nothing changes.
+pub fn dependencies(ledger: Ledger, journal: &[u8], vault: u8, job: u8) -> Listing
+    ensures { λ r. ⌜ r ≡ dependenciesOf ledger (now (journal .entry)) vault job ⌝ }
+{
+    let gate = gates::vault_gate(ledger, journal, vault, job, false);
+    match gate {
+        Verdict::Pass => {
+            let v = vault as usize;
+            let settings = ledger.settings;
+            let vaults = ledger.vaults;
+            let state = ledger.vaults[v];
+            let j = job as usize;
+            indexed::dependencies(
+                settings,
+                vaults,
+                state,
+                settings.version,
+                journal,
+                ledger.booked,
+                j,
+            )
+        }
+        Verdict::Fail(why) => decisions::unlist(why),
+    }
+}
+
+// Kind 12: a correct vault is asked by a client to sign a job, within the client's quota there. The value is the job's signatures afterwards. A request that
+// counts enters the client's history, refused or not.
+pub fn client_preflight(ledger: Ledger, journal: &[u8], vault: u8, job: u8, client: u8) -> Reply
+    ensures { λ r. ⌜ r ≡ clientPreflightOf ledger (now (journal .entry)) vault job client ⌝ }
+{
+    let gate = gates::vault_gate(ledger, journal, vault, job, false);
+    match gate {
+        Verdict::Pass => {
+            let v = vault as usize;
+            let j = job as usize;
+            let state = ledger.vaults[v];
+            let votes = ledger.votes[j];
+            let place = quota::place(vault, client);
+            let history = ledger.histories[place];
+            let settings = ledger.settings;
+            let decision = indexed::client_preflight(
+                state,
+                settings.version,
+                journal,
+                ledger.booked,
+                client,
+                history,
+                votes.signatures,
+                vault,
+                j,
+            );
+            gates::carry(ledger, decision, vault, job)
+        }
+        Verdict::Fail(why) => gates::turn_back(ledger, why),
+    }
+}
+
+// Kind 13: the vaults that signed for two rivals of which nothing outside the pair excuses either, document 02's two-faced ones. Nothing changes.
+pub fn equivocating(ledger: Ledger, journal: &[u8]) -> Listing
+    ensures { λ r. ⌜ r ≡ equivocatorsOf ledger (now (journal .entry)) ⌝ }
+{
+    let gate = gates::whole_gate(ledger, journal);
+    match gate {
+        Verdict::Pass => {
+            let settings = ledger.settings;
+            let votes = ledger.votes;
+            decisions::list(indexed::equivocating(settings, votes, journal, ledger.booked))
+        }
+        Verdict::Fail(why) => decisions::unlist(why),
     }
 }

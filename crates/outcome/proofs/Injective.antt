@@ -17,7 +17,7 @@ table value =
     ∷ Refusal.Repeated value ∷ Refusal.Unsupported value ∷ Refusal.Unbalanced ∷ Refusal.Full
     ∷ Refusal.NotCreated value ∷ Refusal.Retired value ∷ Refusal.InputReserved value ∷ Refusal.OutputReserved value
     ∷ Refusal.NotSigned ∷ Refusal.TooFewSigners ∷ Refusal.TooManyAbsent ∷ Refusal.NotHeld ∷ Refusal.NotSignedHere ∷ Refusal.NotSuperseded
-    ∷ Refusal.Reversed value ∷ Refusal.NoneBalances ∷ Refusal.NoContest ∷ []
+    ∷ Refusal.NoSetWorks ∷ Refusal.NoClient ∷ Refusal.OverQuota ∷ Refusal.Reversed value ∷ Refusal.NoneBalances ∷ Refusal.NoContest ∷ []
 
 -- the refusal among these that has this number; where none has, a step carried out
 abbrev numbered : ℕ → ℕ → List Refusal → Outcome
@@ -49,6 +49,9 @@ refusal-back Refusal.TooManyAbsent = refl
 refusal-back Refusal.NotHeld = refl
 refusal-back Refusal.NotSignedHere = refl
 refusal-back Refusal.NotSuperseded = refl
+refusal-back Refusal.NoSetWorks = refl
+refusal-back Refusal.NoClient = refl
+refusal-back Refusal.OverQuota = refl
 refusal-back (Refusal.Reversed e) = refl
 refusal-back Refusal.NoneBalances = refl
 refusal-back Refusal.NoContest = refl

@@ -4,8 +4,8 @@ use Rattle.outcome.specs.declared.Outcome.{Outcome}
 use Rattle.outcome.specs.declared.Outcome.the-variants.{Done, Refused}
 use Rattle.outcome.specs.declared.Refusal.{Refusal}
 
--- a refusal's place in the table, and the entry of refusals 7, 8 and 11 to 14, else 0; document 02 has 19 and 20 (M-105), 24, with an
--- entry, and 25 (M-110), and 26 (M-111)
+-- a refusal's place in the table, and the entry of refusals 7, 8 and 11 to 14, else 0; document 02 has 19 and 20 (M-105), 21 (M-108), 22 and 23 (M-109), 24,
+-- with an entry, and 25 (M-110), and 26 (M-111)
 abbrev figuresOf : Refusal → ℕ × ℕ
 figuresOf Refusal.Settings = (1, 0)
 figuresOf Refusal.Unreadable = (2, 0)
@@ -27,6 +27,9 @@ figuresOf Refusal.TooManyAbsent = (17, 0)
 figuresOf Refusal.NotHeld = (18, 0)
 figuresOf Refusal.NotSignedHere = (19, 0)
 figuresOf Refusal.NotSuperseded = (20, 0)
+figuresOf Refusal.NoSetWorks = (21, 0)
+figuresOf Refusal.NoClient = (22, 0)
+figuresOf Refusal.OverQuota = (23, 0)
 figuresOf (Refusal.Reversed e) = (24, e)
 figuresOf Refusal.NoneBalances = (25, 0)
 figuresOf Refusal.NoContest = (26, 0)

@@ -44,6 +44,12 @@ pub enum Refusal {
     NotSignedHere,
     // 20: the other job is no rival of it, or is not held here
     NotSuperseded,
+    // 21: no set of jobs that correct vaults hold would let the vault sign
+    NoSetWorks,
+    // 22: no client has this number
+    NoClient,
+    // 23: four of the client's previous fifteen requests here brought a new signature
+    OverQuota,
     // 24: an entry's lowest count exceeds its highest
     Reversed(u8),
     // 25: no choice of counts within their ranges balances
@@ -92,6 +98,9 @@ impl Refusal {
             Refusal::NotHeld => Figures(18, 0),
             Refusal::NotSignedHere => Figures(19, 0),
             Refusal::NotSuperseded => Figures(20, 0),
+            Refusal::NoSetWorks => Figures(21, 0),
+            Refusal::NoClient => Figures(22, 0),
+            Refusal::OverQuota => Figures(23, 0),
             Refusal::Reversed(entry) => Figures(24, entry),
             Refusal::NoneBalances => Figures(25, 0),
             Refusal::NoContest => Figures(26, 0),

@@ -1,5 +1,5 @@
-// Frame counts that are known only within ranges (document 02, M-110): an estimate, what is answered of it, and what that means; definitions and proofs, no code
-// but the types.
+// Frame counts that are known only within ranges (document 02, M-110): an estimate, what is answered of it, and what that means; definitions and
+// proofs, no code but the types.
 use outcome::Outcome;
 
 // At least `lowest` frames, and at most `highest`.

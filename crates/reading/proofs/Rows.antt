@@ -10,19 +10,34 @@ use Rattle.codec.specs.Codec.{recordSize}
 use Rattle.runfile.specs.Run.{longest}
 use Rattle.runfile.specs.Steps.{bodySize, commandIn, endOf, kindAt, kindOf}
 use Rattle.runfile.specs.declared.Kind.{Kind}
-use Rattle.runfile.specs.declared.Kind.the-variants.{Commit, Draw, FaultyAcknowledge, FaultySign, Generations, Preflight, Propose}
-use Rattle.runfile.specs.declared.Kind.the-variants.{Release, Show, Snapshot, Unknown}
-use Rattle.reading.specs.Reading.{Read, formOf, formed, isWide, jobOf, operationOf, rowOf, unread, vaultOf}
+use Rattle.runfile.specs.declared.Kind.the-variants.{ClientPreflight, Commit, Dependencies, Draw, Equivocating, FaultyAcknowledge, FaultySign, Generations}
+use Rattle.runfile.specs.declared.Kind.the-variants.{Preflight, Propose, Release, Show, Snapshot, Unknown}
+use Rattle.reading.specs.Reading.{Read, formOf, formed, historyOf, isWide, jobOf, operationOf, rowOf, unread, vaultOf}
 use Rattle.reading.specs.declared.Operation.{Operation}
 use Rattle.reading.specs.declared.Step.{Step}
 
 -- a byte that the table does not have
 pub unknown-row : (version b : ℕ) (r : Operation) → (b ≡ 1 → ⊥) → (b ≡ 2 → ⊥) → (b ≡ 3 → ⊥) → (b ≡ 4 → ⊥) → (b ≡ 5 → ⊥) → (b ≡ 6 → ⊥) → (b ≡ 7 → ⊥)
-    → (b ≡ 8 → ⊥) → (b ≡ 9 → ⊥) → (b ≡ 10 → ⊥) → r ≡ rowOf version Unknown → r ≡ operationOf version b
+    → (b ≡ 8 → ⊥) → (b ≡ 9 → ⊥) → (b ≡ 10 → ⊥) → (b ≡ 11 → ⊥) → (b ≡ 12 → ⊥) → (b ≡ 13 → ⊥) → r ≡ rowOf version Unknown
+    → r ≡ operationOf version b
 unfolding operationOf kindOf
-unknown-row version b r a c d e f g h i j k q =
+unknown-row version b r a c d e f g h i j k m p n q =
     q
-    ∙ simp (ne-eqb b 1 a, ne-eqb b 2 c, ne-eqb b 3 d, ne-eqb b 4 e, ne-eqb b 5 f, ne-eqb b 6 g, ne-eqb b 7 h, ne-eqb b 8 i, ne-eqb b 9 j, ne-eqb b 10 k)
+    ∙ simp (
+      ne-eqb b 1 a,
+      ne-eqb b 2 c,
+      ne-eqb b 3 d,
+      ne-eqb b 4 e,
+      ne-eqb b 5 f,
+      ne-eqb b 6 g,
+      ne-eqb b 7 h,
+      ne-eqb b 8 i,
+      ne-eqb b 9 j,
+      ne-eqb b 10 k,
+      ne-eqb b 11 m,
+      ne-eqb b 12 p,
+      ne-eqb b 13 n,
+    )
 
 -- ---- the table of kinds
 module _ (version : ℕ) (input : List ℕ) (pos number : ℕ) where
@@ -38,6 +53,7 @@ module _ (version : ℕ) (input : List ℕ) (pos number : ℕ) where
     at : named k .at ≡ pos + 1
     vault : named k .vault ≡ vaultOf (commandIn version k input (pos + 1))
     job : named k .job ≡ jobOf (commandIn version k input (pos + 1))
+    place : named k .place ≡ historyOf (commandIn version k input (pos + 1))
     end : named k .end ≡ endOf version k pos (length input)
     small : bodySize version k ≤ recordSize version
     onward : pos + bodySize version k < length input → pos < endOf version k pos (length input)
@@ -54,6 +70,9 @@ module _ (version : ℕ) (input : List ℕ) (pos number : ℕ) where
   row Generations = search (size-least version, arith)
   row Snapshot = search (size-least version, arith)
   row Release = search (size-least version, arith)
+  row Dependencies = search (size-least version, arith)
+  row ClientPreflight = search (size-least version, arith)
+  row Equivocating = search (size-least version, arith)
   row Unknown = search (size-least version, arith)
 
   -- a step of a kind whose body is all there
@@ -69,6 +88,7 @@ module _ (version : ℕ) (input : List ℕ) (pos number : ℕ) where
           few = omega (arith, r .at);
           vault-is = rw (r .kind, r .at) (r .vault);
           job-is = rw (r .kind, r .at) (r .job);
+          place-is = rw (r .kind, r .at) (r .place);
           whole = λ p. omega (arith, r .at, ap (bodySize version) (sym (r .kind) ∙ p));
         };
         end-is = r .end ∙ ap (λ (x : Kind). endOf version x pos (length input)) (sym e);
@@ -83,7 +103,7 @@ module _ (version : ℕ) (input : List ℕ) (pos number : ℕ) where
     kind-is = sym u;
     wide-is = refl;
     at-is = refl;
-    asked = record { few = omega arith; vault-is = refl; job-is = refl; whole = λ p. omega (arith, ap (bodySize version) p) };
+    asked = record { few = omega arith; vault-is = refl; job-is = refl; place-is = refl; whole = λ p. omega (arith, ap (bodySize version) p) };
     end-is = simp u;
     onward = h;
     inside = omega arith;

@@ -5,14 +5,16 @@ use mathlib.Core.Path.{_≡_}
 use Prim.Native.Nat.{_+_, _<_, _≤_, ℕ}
 use lib.ListN.{getD, length}
 use Rattle.codec.specs.Codec.{recordSize}
+use Rattle.quota.specs.Quota.{historyPlace}
 use Rattle.runfile.specs.Run.{longest}
-use Rattle.ledger.specs.Worlds.{jobIn, vaultIn}
+use Rattle.ledger.specs.Worlds.{Request, clientPreflight, commit, dependencies, equivocating, faultyVote, generations, jobIn}
+use Rattle.ledger.specs.Worlds.{preflight, propose, release, show, snapshot, vaultIn}
 use Rattle.runfile.specs.Steps.{Command, bodySize, commandIn, draw, kindAt, kindOf, nextAt, request, unreadable}
 use Rattle.runfile.specs.declared.Kind.{Kind}
-use Rattle.runfile.specs.declared.Kind.the-variants.{Commit, Draw, FaultyAcknowledge, FaultySign, Generations, Preflight, Propose}
-use Rattle.runfile.specs.declared.Kind.the-variants.{Release, Show, Snapshot, Unknown}
+use Rattle.runfile.specs.declared.Kind.the-variants.{ClientPreflight, Commit, Dependencies, Draw, Equivocating, FaultyAcknowledge, FaultySign, Generations}
+use Rattle.runfile.specs.declared.Kind.the-variants.{Preflight, Propose, Release, Show, Snapshot, Unknown}
 use Rattle.reading.specs.declared.Form.{Form}
-use Rattle.reading.specs.declared.Form.the-variants.{Bare, OfJob, OfVault, Unreadable}
+use Rattle.reading.specs.declared.Form.the-variants.{Bare, OfClient, OfJob, OfVault, Unreadable}
 use Rattle.reading.specs.declared.Operation.{Operation}
 use Rattle.reading.specs.declared.Step.{Step}
 
@@ -27,6 +29,25 @@ jobOf (request q) = jobIn q
 jobOf (draw u) = u
 jobOf unreadable = 0
 
+-- the place of the history of the client that a command names, 0 where it names none
+abbrev pub placeIn : Request → ℕ
+placeIn (propose bytes) = 0
+placeIn (preflight v job) = 0
+placeIn (commit v job signers) = 0
+placeIn (faultyVote column v job) = 0
+placeIn (show job) = 0
+placeIn (generations job) = 0
+placeIn snapshot = 0
+placeIn (release v job rival) = 0
+placeIn (dependencies v job) = 0
+placeIn (clientPreflight v job client) = historyPlace v client
+placeIn equivocating = 0
+
+abbrev pub historyOf : Command → ℕ
+historyOf (request q) = placeIn q
+historyOf (draw u) = 0
+historyOf unreadable = 0
+
 -- what the body of a kind names
 abbrev pub formOf : Kind → Form
 formOf Propose = Bare
@@ -39,9 +60,12 @@ formOf Draw = OfJob
 formOf Generations = OfJob
 formOf Snapshot = Bare
 formOf Release = OfVault
+formOf Dependencies = OfVault
+formOf ClientPreflight = OfClient
+formOf Equivocating = Bare
 formOf Unknown = Unreadable
 
--- generations ask which vaults hold the job: all vaults are looked at
+-- generations ask which vaults hold the job, missing dependencies which jobs they hold, kind 13 what they signed: all vaults are looked at
 abbrev pub isWide : Kind → Bool
 isWide Propose = false
 isWide Preflight = false
@@ -53,6 +77,9 @@ isWide Draw = false
 isWide Generations = true
 isWide Snapshot = false
 isWide Release = false
+isWide Dependencies = true
+isWide ClientPreflight = false
+isWide Equivocating = true
 isWide Unknown = false
 
 abbrev pub rowOf : ℕ → Kind → Operation
@@ -63,24 +90,28 @@ operationOf version b = rowOf version (kindOf b)
 
 -- nothing that can be read
 abbrev pub unread : List ℕ → ℕ → ℕ → Step
-unread input number at = record { number = number; kind = Unknown; wide = false; vault = 0; job = 0; at = at; end = length input }
+unread input number at = record { number = number; kind = Unknown; wide = false; vault = 0; job = 0; place = 0; at = at; end = length input }
 
 -- a step of an operation, whose body starts at `at` and ends at `end`
-abbrev pub naming : Operation → ℕ → ℕ → ℕ → ℕ → ℕ → Step
-naming o number v job at end = record { number = number; kind = o .kind; wide = o .wide; vault = v; job = job; at = at; end = end }
+abbrev pub naming : Operation → ℕ → ℕ → ℕ → ℕ → ℕ → ℕ → Step
+naming o number v job place at end =
+    record { number = number; kind = o .kind; wide = o .wide; vault = v; job = job; place = place; at = at; end = end }
 
 -- by the form of the body
 abbrev pub formed : Form → Operation → List ℕ → ℕ → ℕ → ℕ → Step
-formed Bare o input number at end = naming o number 0 0 at end
-formed OfJob o input number at end = naming o number 0 (getD input at 0) at end
-formed OfVault o input number at end = naming o number (getD input at 0) (getD input (at + 1) 0) at end
+formed Bare o input number at end = naming o number 0 0 0 at end
+formed OfJob o input number at end = naming o number 0 (getD input at 0) 0 at end
+formed OfVault o input number at end = naming o number (getD input at 0) (getD input (at + 1) 0) 0 at end
+formed OfClient o input number at end =
+    naming o number (getD input at 0) (getD input (at + 1) 0) (historyPlace (getD input at 0) (getD input (at + 2) 0)) at end
 formed Unreadable o input number at end = unread input number at
 
--- the vault and the job of a step are those that its command names
+-- the vault, the job and the place of a history of a step are those that its command names
 pub record Asked (version : ℕ) (input : List ℕ) (s : Step) : Type 0 where
   pub few : s .at ≤ longest
   pub vault-is : s .vault ≡ vaultOf (commandIn version (s .kind) input (s .at))
   pub job-is : s .job ≡ jobOf (commandIn version (s .kind) input (s .at))
+  pub place-is : s .place ≡ historyOf (commandIn version (s .kind) input (s .at))
   -- a record is all there
   pub whole : s .kind ≡ Propose → s .at + recordSize version ≤ length input
 

@@ -8,11 +8,12 @@ ghost use Rattle.runfile.specs.Steps.{wordAt};
 ghost use Rattle.reading.specs.Reading.{Read, formed, operationOf, unread};
 use runfile::Kind;
 
-// What the body of a step names: neither vault nor job, a job, a vault and a job. Of a kind that is unknown there is no body.
+// What the body of a step names: neither vault nor job, a job, a vault and a job, these and a client. Of a kind that is unknown there is no body.
 pub enum Form {
     Bare,
     OfJob,
     OfVault,
+    OfClient,
     Unreadable,
 }
 
@@ -24,13 +25,15 @@ pub struct Operation {
     pub wide: bool,
 }
 
-// A step: its number, the vault and the job that it names, 0 where it names none, where its body starts, and where the next step stands.
+// A step: its number, the vault and the job that it names, 0 where it names none, the place of the history of the client that it names, where its body starts,
+// and where the next step stands.
 pub struct Step {
     pub number: u32,
     pub kind: Kind,
     pub wide: bool,
     pub vault: u8,
     pub job: u8,
+    pub place: usize,
     pub at: usize,
     pub end: usize,
 }
@@ -100,6 +103,9 @@ fn operation_of(version: u16, byte: u8) -> Operation
         8 => row(Kind::Generations, 1, Form::OfJob, true),
         9 => row(Kind::Snapshot, 0, Form::Bare, false),
         10 => row(Kind::Release, 3, Form::OfVault, false),
+        11 => row(Kind::Dependencies, 2, Form::OfVault, true),
+        12 => row(Kind::ClientPreflight, 3, Form::OfClient, false),
+        13 => row(Kind::Equivocating, 0, Form::Bare, true),
         _ => row(Kind::Unknown, 0, Form::Unreadable, false),
     }
 }
@@ -114,6 +120,7 @@ fn unreadable(input: &[u8], number: u32, at: usize) -> Step
         wide: false,
         vault: 0,
         job: 0,
+        place: 0,
         at,
         end: input.len(),
     }
@@ -135,6 +142,7 @@ impl Operation {
                 wide,
                 vault: 0,
                 job: 0,
+                place: 0,
                 at,
                 end,
             },
@@ -144,6 +152,7 @@ impl Operation {
                 wide,
                 vault: 0,
                 job: byte_at(input, at),
+                place: 0,
                 at,
                 end,
             },
@@ -153,9 +162,24 @@ impl Operation {
                 wide,
                 vault: byte_at(input, at),
                 job: byte_at(input, at + 1),
+                place: 0,
                 at,
                 end,
             },
+            Form::OfClient => {
+                let vault = byte_at(input, at);
+                let client = byte_at(input, at + 2);
+                Step {
+                    number,
+                    kind,
+                    wide,
+                    vault,
+                    job: byte_at(input, at + 1),
+                    place: quota::place(vault, client),
+                    at,
+                    end,
+                }
+            }
             Form::Unreadable => unreadable(input, number, at),
         }
     }

@@ -4,40 +4,49 @@ use mathlib.Core.Bool.{Bool, false, true, true≢false}
 use mathlib.Core.List.{List}
 use mathlib.Core.Logic.{_⊎_, ⊎-elim}
 use mathlib.Core.Path.{_∙_, _≡_, ap, refl, subst, sym}
-use Prim.Native.Nat.{_%_, _+_, _<_, ℕ}
+use Prim.Native.Nat.{_*_, _%_, _+_, _<_, ℕ}
 use native.Mathlib.Omega.{arith}
 use lib.ListN.{drop, getD, take}
 use Rattle.base.proofs.Reflect.{by-cases}
 use Rattle.outcome.specs.declared.Refusal.the-variants.{Unreadable}
 use Rattle.outcome.specs.declared.Verdict.{Verdict}
 use Rattle.outcome.specs.declared.Verdict.the-variants.{Fail, Pass}
+use Rattle.sets.specs.Jobs.{noJobs}
+use Rattle.sets.specs.declared.job_set.JobSet.{JobSet}
 use Rattle.codec.specs.Codec.{recordSize}
-use Rattle.journal.specs.Journal.{isBooked}
+use Rattle.journal.specs.Journal.{isBooked, isWhole, jobAt}
+use Rattle.decisions.proofs.Partners.{listed-by}
 use Rattle.draw.specs.Draw.{drawOf}
 use Rattle.ledger.proofs.Gates.{booked-entered, entered, in-place, reflect-sane}
 use Rattle.ledger.proofs.Places.{proposed}
 use Rattle.ledger.proofs.Writes.{unwritten}
-use Rattle.ledger.specs.Decisions.{ageing, answering, committing, gated, isBook, isNothing, preflighting, refusing, releasing, snapshotting}
-use Rattle.ledger.specs.Decisions.{statusOf, voting}
+use Rattle.ledger.specs.Decisions.{ageing, answering, clientPreflighting, committing, gated, gatedListing, isBook, isNothing, listing, preflighting}
+use Rattle.ledger.specs.Decisions.{refusing, releasing, requiring, snapshotting, statusOf, voting}
+use Rattle.ledger.specs.Holders.{heldSomewhere}
 use Rattle.ledger.specs.Given.{Placed}
 use Rattle.ledger.specs.Meaning.{Proposed, Sane, failed, full, insane, known, new}
-use Rattle.ledger.specs.State.{applied, signersOf, vaultAt, versionOf, votesAt, votesIn}
-use Rattle.ledger.specs.Steps.{bookedGate, commitDecision, faultyVoteDecision, gateOf, generationsDecision, journalAfter}
+use Rattle.ledger.specs.State.{applied, historyAt, signersOf, vaultAt, versionOf, votesAt, votesIn}
+use Rattle.ledger.specs.Steps.{bookedGate, clientPreflightDecision, commitDecision, dependenciesDecision, dependenciesOf, equivocatorsDecision}
+use Rattle.ledger.specs.Steps.{equivocatorsOf, faultyVoteDecision, gateOf, generationsDecision, journalAfter, wholeGate}
 use Rattle.ledger.specs.Steps.{journalWith, preflightDecision, proposeDecision, releaseDecision, saneGate, showDecision, snapshotDecision, vaultGate}
 use Rattle.ledger.specs.Worlds.{decisionOf}
 use Rattle.ledger.specs.declared.Change.{Change}
-use Rattle.ledger.specs.declared.Change.the-variants.{Book, Hold, Nothing, Record, Release as Released, See, Sign}
+use Rattle.ledger.specs.declared.Change.the-variants.{Book, Count, Grant, Hold, Nothing, Record, Release as Released, See, Sign}
 use Rattle.vaults.specs.declared.Column.the-variants.{Acknowledgements, Signatures}
 use Rattle.ledger.specs.declared.Decision.{Decision}
 use Rattle.ledger.specs.declared.Ledger.{Ledger}
+use Rattle.ledger.specs.declared.Listing.{Listing}
 use Rattle.vaults.specs.declared.Vault.{Vault}
-use Rattle.runfile.specs.Steps.{Command, commandIn, draw, journalBy, replyOf, request, unreadable, wordAt}
+use Rattle.runfile.specs.Steps.{Command, commandIn, draw, journalBy, listedBy, replyOf, request, unreadable, wordAt}
 use Rattle.runfile.specs.declared.Kind.{Kind}
-use Rattle.runfile.specs.declared.Kind.the-variants.{Commit, Draw, FaultyAcknowledge, FaultySign, Generations, Preflight, Propose}
-use Rattle.runfile.specs.declared.Kind.the-variants.{Release, Show, Snapshot, Unknown}
+use Rattle.runfile.specs.declared.Kind.the-variants.{ClientPreflight, Commit, Dependencies, Draw, Equivocating, FaultyAcknowledge, FaultySign, Generations}
+use Rattle.runfile.specs.declared.Kind.the-variants.{Preflight, Propose, Release, Show, Snapshot, Unknown}
+use Rattle.quota.specs.Quota.{historyPlace}
 use Rattle.steps.proofs.Quiet.{Bookless}
-use Rattle.steps.specs.Decided.{bookedOr, decidedBy, surveyed}
-use Rattle.reading.specs.Reading.{isWide, jobOf, vaultOf}
+use Rattle.steps.specs.Decided.{bookedOr, decidedBy, naming, required, surveyed}
+use Rattle.reading.specs.Reading.{historyOf, isWide, jobOf, vaultOf}
+use Rattle.steps.specs.Kept.{Found}
+use Rattle.steps.specs.declared.Remembered.{Remembered}
 use Rattle.steps.specs.declared.Books.{Books}
 use Rattle.steps.specs.declared.View.{View}
 
@@ -60,20 +69,21 @@ module _ (l : Ledger) (journal : List ℕ) where
   reply-outcome (draw u) = refl
   reply-outcome unreadable = refl
 
--- ---- what a step looks at: the arrays are read at the vault and the job modulo their length
-abbrev pub viewAt : Ledger → ℕ → ℕ → View
-viewAt l v job = record {
+-- ---- what a step looks at: the arrays are read at the vault, the job and the place modulo their length
+abbrev pub viewAt : Ledger → ℕ → ℕ → ℕ → View
+viewAt l v job place = record {
   settings = l .settings;
   booked = l .booked;
   state = vaultAt l (v % 16);
   votes = votesAt l (job % 128);
+  history = getD (l .histories) (place % 128) 0;
   next = l .next;
   seen = l .seen;
   turn = vaultAt l (l .next % 16);
 }
 
-abbrev pub booksOf : Ledger → Books
-booksOf l = record { settings = l .settings; booked = l .booked; arrivals = l .arrivals; vaults = l .vaults }
+abbrev pub booksOf : Ledger → JobSet → Books
+booksOf l named = record { settings = l .settings; booked = l .booked; arrivals = l .arrivals; vaults = l .vaults; named = named }
 
 -- ---- behind a gate
 quiet-behind : (g : Verdict) (d : Decision) → d .change ≡ Nothing → gated g d .change ≡ Nothing
@@ -92,6 +102,8 @@ isHold (Hold state) = true
 isHold (Released state) = false
 isHold (Record column) = false
 isHold (See seen) = false
+isHold (Count history) = false
+isHold (Grant grant) = false
 
 unheld-behind : (g : Verdict) (d : Decision) → isHold (d .change) ≡ false → isHold (gated g d .change) ≡ false
 unheld-behind Pass d e = e
@@ -107,19 +119,26 @@ unfolding ageing
 ageing-quiet true age = refl
 ageing-quiet false age = refl
 
--- generations alone look at all vaults
-wide-kind : (k : Kind) → isWide k ≡ true → k ≡ Generations
-wide-kind Propose w = cc
-wide-kind Preflight w = cc
-wide-kind Commit w = cc
-wide-kind FaultySign w = cc
-wide-kind FaultyAcknowledge w = cc
-wide-kind Show w = cc
-wide-kind Draw w = cc
-wide-kind Generations w = refl
-wide-kind Snapshot w = cc
-wide-kind Release w = cc
-wide-kind Unknown w = cc
+same-listed : (g : Verdict) (r q : Listing) → (g ≡ Pass → r ≡ q) → gatedListing g r ≡ gatedListing g q
+same-listed Pass r q h = h refl
+same-listed (Fail why) r q h = refl
+
+-- three kinds look at all vaults
+by-wide : (P : Kind → Type 0) → P Generations → P Dependencies → P Equivocating → (k : Kind) → isWide k ≡ true → P k
+by-wide P g d e Propose w = absurd (true≢false (sym w))
+by-wide P g d e Preflight w = absurd (true≢false (sym w))
+by-wide P g d e Commit w = absurd (true≢false (sym w))
+by-wide P g d e FaultySign w = absurd (true≢false (sym w))
+by-wide P g d e FaultyAcknowledge w = absurd (true≢false (sym w))
+by-wide P g d e Show w = absurd (true≢false (sym w))
+by-wide P g d e Draw w = absurd (true≢false (sym w))
+by-wide P g d e Generations w = g
+by-wide P g d e Snapshot w = absurd (true≢false (sym w))
+by-wide P g d e Release w = absurd (true≢false (sym w))
+by-wide P g d e Dependencies w = d
+by-wide P g d e ClientPreflight w = absurd (true≢false (sym w))
+by-wide P g d e Equivocating w = e
+by-wide P g d e Unknown w = absurd (true≢false (sym w))
 
 module _ (l : Ledger) (s : Sane l) (journal : List ℕ) where
   vault-gate : (v job : ℕ) (faulty : Bool) → gateOf (l .settings) v faulty (isBooked (versionOf l) journal (l .booked) job) ≡ vaultGate l journal v job faulty
@@ -129,6 +148,10 @@ module _ (l : Ledger) (s : Sane l) (journal : List ℕ) where
   pub booked-gate : (job : ℕ) → bookedOr (isBooked (versionOf l) journal (l .booked) job) ≡ bookedGate l journal job
   unfolding bookedGate bookedOr
   booked-gate job = simp (reflect-sane l .complete s)
+
+  whole-gate : bookedOr (isWhole (versionOf l) journal (l .booked)) ≡ wholeGate l journal
+  unfolding wholeGate bookedOr
+  whole-gate = simp (reflect-sane l .complete s)
 
   -- behind an open gate the vault and the job modulo the arrays' lengths are themselves
   at-vault : (v job : ℕ) (faulty : Bool) (P : ℕ → ℕ → Decision)
@@ -173,8 +196,10 @@ module _ (l : Ledger) (s : Sane l) (journal : List ℕ) where
     abbrev second : ℕ
     second = getD input (at + 1) 0
 
-    pub decided-is : (k : Kind) → isWide k ≡ false → decidedBy (viewAt l (vaultOf (command k)) (jobOf (command k))) journal (command k) ≡ decision k
+    pub decided-is : (k : Kind) → isWide k ≡ false → decidedBy (viewAt l (vaultOf (command k)) (jobOf (command k)) (historyOf (command k))) journal (command k)
+        ≡ decision k
     unfolding proposeDecision preflightDecision commitDecision faultyVoteDecision showDecision snapshotDecision saneGate votesIn releaseDecision
+        clientPreflightDecision historyAt historyPlace
     decided-is Propose n = simp (reflect-sane l .complete s)
     decided-is Preflight n =
         at-vault first second false (λ v job. preflighting (vaultAt l v) (versionOf l) journal (l .booked) (signersOf l job) first second)
@@ -191,16 +216,74 @@ module _ (l : Ledger) (s : Sane l) (journal : List ℕ) where
         simp (reflect-sane l .complete s, a)
     decided-is Release n =
         at-vault first second false (λ v job. releasing (vaultAt l v) (versionOf l) journal (l .booked) (signersOf l job) second (getD input (at + 2) 0))
+    decided-is Dependencies n = absurd (true≢false n)
+    decided-is ClientPreflight n =
+        let third = getD input (at + 2) 0 in
+        let history = getD (l .histories) ((8 * (first % 16) + third % 8) % 128) 0 in
+        let p : (8 * (first % 16) + third % 8) % 128 ≡ 8 * (first % 16) + third % 8 = omega arith in
+        at-vault first second false
+        (λ v job. clientPreflighting (vaultAt l v) (versionOf l) journal (l .booked) third history (signersOf l job) first second)
+        ∙ rw p
+    decided-is Equivocating n = absurd (true≢false n)
     decided-is Unknown n = refl
 
-    -- ---- generations
+    -- ---- a kind that looks at all vaults changes nothing
     pub wide-quiet : (k : Kind) → isWide k ≡ true → decision k .change ≡ Nothing
-    unfolding generationsDecision
-    wide-quiet k w = rw (wide-kind k w) (quiet-behind (bookedGate l journal first) _ (ageing-quiet _ _))
+    unfolding generationsDecision dependenciesDecision equivocatorsDecision
+    wide-quiet = by-wide (λ k. decision k .change ≡ Nothing) (quiet-behind (bookedGate l journal first) _ (ageing-quiet _ _)) refl refl
 
-    pub wide-outcome : (k : Kind) → isWide k ≡ true → surveyed (booksOf l) (l .order) journal (jobOf (command k)) .outcome ≡ decision k .outcome
-    unfolding generationsDecision
-    wide-outcome k w = rw (wide-kind k w, booked-gate first)
+    -- what a command answers and lists, by the ledger's definitions
+    abbrev pub answer : Kind → Listing
+    answer k = record { outcome = decision k .outcome; members = listedBy l journal (command k) }
+
+    -- kind 11: behind an open gate the vault modulo the number of vaults is itself
+    requiredAt : ℕ → Listing
+    requiredAt v = requiring (vaultAt l v) (heldSomewhere (l .settings) (l .vaults)) (versionOf l) journal (l .booked) second
+
+    required-is : (named : JobSet) → required (booksOf l named) journal first second ≡ dependenciesOf l journal first second
+    unfolding dependenciesOf requiredAt
+    required-is named =
+        ap (λ (g : Verdict). gatedListing g (requiredAt (first % 16))) (vault-gate first second false)
+        ∙ same-listed (vaultGate l journal first second false) _ _ placed
+      where
+        placed : vaultGate l journal first second false ≡ Pass → requiredAt (first % 16) ≡ requiredAt first
+        placed e =
+            let p = in-place l journal first second false (entered l journal first second false e) in
+            let a : first % 16 ≡ first = omega (arith, p .vault) in
+            ap requiredAt a
+
+    -- kind 13: the vaults that were found are those that the rule names
+    naming-is : (named : Remembered) → Found (l .settings) (l .votes) journal (l .booked) Equivocating named
+        → naming (booksOf l (named .vaults)) journal ≡ equivocatorsOf l journal
+    unfolding equivocatorsOf
+    naming-is named h =
+        ap (λ (g : Verdict). gatedListing g (listing (named .vaults))) whole-gate
+        ∙ ap (gatedListing (wholeGate l journal)) (listed-by l (jobAt (versionOf l) journal (l .booked)) (named .vaults) _ (h .right .are (h .known refl)) refl)
+
+    abbrev Answers : Kind → Type 0
+    Answers k = (named : Remembered) → Found (l .settings) (l .votes) journal (l .booked) k named
+        → surveyed (booksOf l (named .vaults)) (l .order) journal k (vaultOf (command k)) (jobOf (command k)) ≡ answer k
+
+    pub wide-answer : (k : Kind) → isWide k ≡ true → Answers k
+    unfolding generationsDecision dependenciesDecision equivocatorsDecision
+    wide-answer = by-wide Answers (λ named h. rw (booked-gate first)) (λ named h. required-is (named .vaults)) naming-is
+
+    -- any other kind lists nothing
+    pub narrow-lists : (k : Kind) → isWide k ≡ false → noJobs ≡ listedBy l journal (command k)
+    narrow-lists Propose n = refl
+    narrow-lists Preflight n = refl
+    narrow-lists Commit n = refl
+    narrow-lists FaultySign n = refl
+    narrow-lists FaultyAcknowledge n = refl
+    narrow-lists Show n = refl
+    narrow-lists Draw n = refl
+    narrow-lists Generations n = refl
+    narrow-lists Snapshot n = refl
+    narrow-lists Release n = refl
+    narrow-lists Dependencies n = absurd (true≢false n)
+    narrow-lists ClientPreflight n = refl
+    narrow-lists Equivocating n = absurd (true≢false n)
+    narrow-lists Unknown n = refl
 
     -- ---- only a proposal writes the journal
     abbrev LeftBy : Kind → Type 0
@@ -224,6 +307,9 @@ module _ (l : Ledger) (s : Sane l) (journal : List ℕ) where
     bookless-left Generations b = untouched (decision Generations) b
     bookless-left Snapshot b = untouched (decision Snapshot) b
     bookless-left Release b = untouched (decision Release) b
+    bookless-left Dependencies b = untouched (decision Dependencies) b
+    bookless-left ClientPreflight b = untouched (decision ClientPreflight) b
+    bookless-left Equivocating b = untouched (decision Equivocating) b
     bookless-left Unknown b = untouched (decision Unknown) b
 
     pub left-by : (k : Kind) → (k ≡ Propose) ⊎ Bookless (decision k) → LeftBy k
@@ -263,7 +349,7 @@ module _ (l : Ledger) (s : Sane l) (journal : List ℕ) where
     quiet c q e = absurd (true≢false (sym (ap isNothing q) ∙ e))
 
     pub there : (k : Kind) → isNothing (decision k .change) ≡ false → There (vaultOf (command k)) (jobOf (command k)) (decision k)
-    unfolding preflightDecision commitDecision faultyVoteDecision showDecision releaseDecision
+    unfolding preflightDecision commitDecision faultyVoteDecision showDecision releaseDecision clientPreflightDecision
     there Propose e = unnamed _ (proposal-holds-nothing _ (proposed l journal bytes))
     there Preflight e = gone-in first second false _ e
     there Commit e = gone-in first second false _ e
@@ -274,4 +360,7 @@ module _ (l : Ledger) (s : Sane l) (journal : List ℕ) where
     there Generations e = quiet _ (wide-quiet Generations refl) e
     there Snapshot e = unnamed _ visit-holds-nothing
     there Release e = gone-in first second false _ e
+    there Dependencies e = quiet _ (wide-quiet Dependencies refl) e
+    there ClientPreflight e = gone-in first second false _ e
+    there Equivocating e = quiet _ (wide-quiet Equivocating refl) e
     there Unknown e = quiet _ refl e

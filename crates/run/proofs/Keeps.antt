@@ -27,9 +27,9 @@ use Rattle.snapshot.proofs.Visits.{stays-below}
 use Rattle.generations.proofs.Memos.{memo-arrive, memo-book, memo-none}
 use Rattle.generations.specs.Memo.{Memo, Ready}
 use Rattle.ledger.specs.Given.{Writable}
-use Rattle.ledger.specs.State.{applied, arriving, booking, enqueued, hasArrived, newLedger, versionOf, visited, voted, withVault}
+use Rattle.ledger.specs.State.{applied, arriving, booking, counted, enqueued, hasArrived, newLedger, versionOf, visited, voted, withVault}
 use Rattle.ledger.specs.declared.Change.{Change}
-use Rattle.ledger.specs.declared.Change.the-variants.{Book, Hold, Nothing, Record, Release, See, Sign}
+use Rattle.ledger.specs.declared.Change.the-variants.{Book, Count, Grant, Hold, Nothing, Record, Release, See, Sign}
 use Rattle.ledger.specs.declared.Ledger.{Ledger}
 use Rattle.vaults.specs.declared.Vault.{Vault}
 use Rattle.runfile.specs.Run.{journalSize}
@@ -132,13 +132,15 @@ module _ (l : Ledger) (journal numbers sets records memo : List ℕ) (k : Kept l
     -- whatever the change
     pub kept-applied : (change : Change) (v job : ℕ) (bytes : List ℕ) → Writable change (l .booked) (versionOf l) journal bytes
         → ((state : Vault) → change ≡ Hold state → job < l .booked) → StoredBy change bytes → KeptBy (applied l change v job)
-    unfolding applied visited voted withVault
+    unfolding applied counted visited voted withVault
     kept-applied Nothing v job bytes w b t = kept-same l (search (k .sane .next)) (t .written) (t .indexed)
     kept-applied Book v job bytes w b t = kept-book bytes w t
     kept-applied (Sign state) v job bytes w b t = kept-same _ (search (k .sane .next)) (t .written) (t .indexed)
     kept-applied (Hold state) v job bytes w b t = kept-arrive _ job (b state refl) (kept-same _ (search (k .sane .next)) (t .written) (t .indexed))
     kept-applied (Release state) v job bytes w b t = kept-same _ (search (k .sane .next)) (t .written) (t .indexed)
     kept-applied (Record column) v job bytes w b t = kept-same _ (search (k .sane .next)) (t .written) (t .indexed)
+    kept-applied (Count history) v job bytes w b t = kept-same _ (search (k .sane .next)) (t .written) (t .indexed)
+    kept-applied (Grant grant) v job bytes w b t = kept-same _ (search (k .sane .next)) (t .written) (t .indexed)
     kept-applied (See seen) v job bytes w b t =
         kept-same _ (search (stays-below (l .settings .n) (l .next) (omega (arith, k .sane .lawful .few)))) (t .written) (t .indexed)
 

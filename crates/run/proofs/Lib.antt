@@ -1,5 +1,6 @@
 pub mod Commands
 pub mod Keeps
+pub mod Naming
 pub mod OneBuffer
 pub mod Pieces
 pub mod Turning

@@ -4,10 +4,10 @@ use mathlib.Core.Bool.{Bool, false, true, true≢false}
 use mathlib.Core.List.{List}
 use mathlib.Core.Logic.{_⊎_, inl, inr, ⊎-elim}
 use mathlib.Core.Path.{_∙_, _≡_, ap, refl, subst, sym}
-use Prim.Native.Nat.{_*_, _+_, _-_, _<_, _≤_, ℕ}
+use Prim.Native.Nat.{_%_, _*_, _+_, _-_, _<_, _≤_, ℕ}
 use native.Mathlib.Omega.{arith}
-use lib.ListN.{length}
-use Rattle.index.specs.Index.{Indexed}
+use lib.ListN.{getD, length}
+use Rattle.index.specs.Index.{Indexed, IndexedEntries}
 use Rattle.generations.specs.Memo.{Ready}
 use Rattle.ledger.proofs.Writes.{unwritten}
 use Rattle.ledger.specs.Decisions.{isBook, isNothing}
@@ -15,24 +15,31 @@ use Rattle.ledger.specs.Given.{Placed, Writable}
 use Rattle.ledger.specs.State.{applied, versionOf}
 use Rattle.ledger.specs.Steps.{journalWith}
 use Rattle.ledger.specs.declared.Change.{Change}
-use Rattle.ledger.specs.declared.Change.the-variants.{Book, Hold, Nothing, Record, Release, See, Sign}
+use Rattle.ledger.specs.declared.Change.the-variants.{Book, Count, Grant, Hold, Nothing, Record, Release, See, Sign}
 use Rattle.ledger.specs.declared.Decision.{Decision}
 use Rattle.ledger.specs.declared.Ledger.{Ledger}
+use Rattle.ledger.specs.declared.Listing.{Listing}
+use Rattle.vaults.specs.Votes.{noVotes}
 use Rattle.vaults.specs.declared.Vault.{Vault}
 use Rattle.runfile.proofs.Turns.{step-last, step-text}
 use Rattle.runfile.specs.Run.{headerSize, lastFrom, longest, textFrom, turn}
-use Rattle.runfile.specs.Steps.{Command, commandIn, journalBy, replyOf, stepAt}
+use Rattle.runfile.specs.Steps.{Command, commandIn, journalBy, listedBy, replyOf, stepAt}
 use Rattle.runfile.specs.declared.Kind.{Kind}
 use Rattle.runfile.specs.declared.Kind.the-variants.{Propose}
 use Rattle.steps.proofs.Quiet.{Bookless, books, writable}
+use Rattle.steps.specs.Decided.{alone, surveyed}
+use Rattle.steps.specs.Kept.{Found, Still}
+use Rattle.steps.specs.declared.Remembered.{Remembered}
+use Rattle.run.proofs.Naming.{Holds, nothing-known, still-right}
 use Rattle.reading.specs.Reading.{Asked, Read, isWide, jobOf, vaultOf}
 use Rattle.steps.specs.Stored.{Stored}
-use Rattle.steps.specs.Turned.{CarriedOut, Said, Surveyed, decisionAt, longestText, recordIn}
+use Rattle.steps.specs.Turned.{CarriedOut, Said, Surveyed, decisionAt, recordIn}
+use Rattle.text.specs.Text.{longestText}
 use Rattle.reading.specs.declared.Step.{Step}
 use Rattle.steps.specs.declared.Told.{Told}
 use Rattle.steps.specs.declared.View.{View}
 use Rattle.run.proofs.Commands.{There, booksOf, commandDecision, decided-is, left-by, reply-ledger, reply-outcome, there, viewAt}
-use Rattle.run.proofs.Commands.{wide-outcome, wide-quiet}
+use Rattle.run.proofs.Commands.{answer, narrow-lists, wide-answer, wide-quiet}
 use Rattle.run.proofs.Keeps.{kept-applied, kept-memo, ready}
 use Rattle.run.proofs.Pieces.{nothing-yet, piece-more}
 use Rattle.run.specs.Kept.{Kept}
@@ -59,6 +66,8 @@ is-nothing (Hold state) e = cc
 is-nothing (Release state) e = cc
 is-nothing (Record column) e = cc
 is-nothing (See seen) e = cc
+is-nothing (Count history) e = cc
+is-nothing (Grant grant) e = cc
 
 -- nothing changed
 same-ledger : (l : Ledger) (c : Change) (v job : ℕ) → c ≡ Nothing → l ≡ applied l c v job
@@ -78,7 +87,7 @@ module _ {input : List ℕ} {l₀ : Ledger} {pos₀ count₀ : ℕ} {journal₀ 
   decision = commandDecision l journal command
 
   abbrev view : View
-  view = viewAt l (s .vault) (s .job)
+  view = viewAt l (s .vault) (s .job) (s .place)
 
   -- where the loop goes on
   abbrev Next : Ledger → (memo journal numbers sets records out : List ℕ) → ℕ → Type 0
@@ -100,16 +109,18 @@ module _ {input : List ℕ} {l₀ : Ledger} {pos₀ count₀ : ℕ} {journal₀ 
       rw (a, b, r .end-is)
 
   -- the loop goes on
-  on : (d : Decision) (l′ : Ledger) (memo′ journal′ numbers′ sets′ records′ out′ : List ℕ) (at′ : ℕ) → d .outcome ≡ decision .outcome
-      → l′ ≡ applied l (decision .change) (s .vault) (s .job) → journal′ ≡ journalBy l journal command
-      → Kept l′ journal′ numbers′ sets′ records′ memo′ → Said (s .number) d out at out′ at′ → at + longestText ≤ length out → length out′ ≡ length out
+  on : (answer : Listing) (l′ : Ledger) (memo′ journal′ numbers′ sets′ records′ out′ : List ℕ) (at′ : ℕ) → answer .outcome ≡ decision .outcome
+      → answer .members ≡ listedBy l journal command → l′ ≡ applied l (decision .change) (s .vault) (s .job) → journal′ ≡ journalBy l journal command
+      → Kept l′ journal′ numbers′ sets′ records′ memo′ → Said (s .number) answer out at out′ at′ → at + longestText ≤ length out → length out′ ≡ length out
       → Next l′ memo′ journal′ numbers′ sets′ records′ out′ at′
-  on d l′ memo′ journal′ numbers′ sets′ records′ out′ at′ eo el ej k w room same =
+  on answer l′ memo′ journal′ numbers′ sets′ records′ out′ at′ eo em el ej k w room same =
       let e = left-run l′ journal′ el ej in
-      let told : d .outcome ≡ replyOf l journal (stepAt (versionOf l) input pos) .outcome =
+      let told : answer .outcome ≡ replyOf l journal (stepAt (versionOf l) input pos) .outcome =
       eo ∙ sym (reply-outcome l journal command) ∙ ap (λ (c : Command). replyOf l journal c .outcome) stands in
+      let lists : answer .members ≡ listedBy l journal (stepAt (versionOf l) input pos) = em ∙ ap (listedBy l journal) stands in
       let before : count < length input = omega (arith, t .steps) in
-      let text = step-text input (runAt l pos count journal) (runAt l′ (s .end) (count + 1) journal′) (d .outcome) more before told e in
+      let text = step-text input (runAt l pos count journal) (runAt l′ (s .end) (count + 1) journal′) (answer .outcome) (answer .members) more before
+      told lists e in
       record {
         piece = piece-more (t .piece) text (rw (r .number-is) at (w .text)) (omega (arith, w .short, t .same-out));
         few = t .few;
@@ -122,14 +133,19 @@ module _ {input : List ℕ} {l₀ : Ledger} {pos₀ count₀ : ℕ} {journal₀ 
       }
 
   -- ---- a step that looks at all vaults
-  pub turn-wide : (memo′ out′ : List ℕ) (at′ : ℕ) → s .wide ≡ true → Surveyed (booksOf l) s at (l .order) journal out memo′ out′ at′
+  pub turn-wide : (named : Remembered) → Found (l .settings) (l .votes) journal (l .booked) (s .kind) named → (memo′ out′ : List ℕ) (at′ : ℕ) → s .wide ≡ true
+      → Surveyed (booksOf l (named .vaults)) s at (l .order) journal out memo′ out′ at′
       → at + longestText ≤ length out → length out′ ≡ length out → Next l memo′ journal numbers sets records out′ at′
-  turn-wide memo′ out′ at′ y a room same =
+  turn-wide named h memo′ out′ at′ y a room same =
       let w : isWide (s .kind) ≡ true = sym (r .wide-is) ∙ y in
       let n : decision .change ≡ Nothing = wide-quiet l (t .kept .sane) journal input (s .at) (s .kind) w in
       let quiet : isBook (decision .change) ≡ false = ap isBook n in
+      let answered : surveyed (booksOf l (named .vaults)) (l .order) journal (s .kind) (s .vault) (s .job)
+      ≡ answer l (t .kept .sane) journal input (s .at) (s .kind) =
+      rw (r .asked .vault-is, r .asked .job-is) (wide-answer l (t .kept .sane) journal input (s .at) (s .kind) w named h) in
       on _ l memo′ journal numbers sets records out′ at′
-      (rw (r .asked .job-is) (wide-outcome l (t .kept .sane) journal input (s .at) (s .kind) w))
+      (ap (λ (x : Listing). x .outcome) answered)
+      (ap (λ (x : Listing). x .members) answered)
       (same-ledger l (decision .change) (s .vault) (s .job) n)
       (same-journal (decision .change) (l .booked) (versionOf l) journal (recordIn (versionOf l) input s) n
       ∙ sym (left-by l (t .kept .sane) journal input (s .at) (s .kind) (inr (record { none = quiet }))))
@@ -143,7 +159,7 @@ module _ {input : List ℕ} {l₀ : Ledger} {pos₀ count₀ : ℕ} {journal₀ 
 
     found-is : found ≡ decision
     found-is =
-        rw (r .asked .vault-is, r .asked .job-is)
+        rw (r .asked .vault-is, r .asked .job-is, r .asked .place-is)
         (decided-is l (t .kept .sane) journal input (s .at) (s .kind) (sym (r .wide-is) ∙ narrow))
 
     change-is : told .change ≡ decision .change
@@ -158,7 +174,8 @@ module _ {input : List ℕ} {l₀ : Ledger} {pos₀ count₀ : ℕ} {journal₀ 
     follows : (l′ : Ledger) → l′ ≡ applied l (told .change) (s .vault) (s .job) → Kept l′ journal′ numbers′ sets′ records′ memo
         → at + longestText ≤ length out → length out′ ≡ length out → Next l′ memo journal′ numbers′ sets′ records′ out′ (told .at)
     follows l′ e k room same =
-        on found l′ memo journal′ numbers′ sets′ records′ out′ (told .at) (ap (λ (d : Decision). d .outcome) found-is)
+        on (alone (found .outcome)) l′ memo journal′ numbers′ sets′ records′ out′ (told .at) (ap (λ (d : Decision). d .outcome) found-is)
+        (narrow-lists l (t .kept .sane) journal input (s .at) (s .kind) (sym (r .wide-is) ∙ narrow))
         (e ∙ ap (λ (x : Change). applied l x (s .vault) (s .job)) change-is) left k (c .said) room same
 
     to-write : Writable (told .change) (l .booked) (versionOf l) journal (recordIn (versionOf l) input s)
@@ -180,6 +197,13 @@ module _ {input : List ℕ} {l₀ : Ledger} {pos₀ count₀ : ℕ} {journal₀ 
         let held : (state : Vault) → told .change ≡ Hold state → s .job < l .booked = λ state h. absurd (true≢false (sym (ap isNothing n) ∙ ap isNothing h)) in
         follows l still (subst (λ (x : Ledger). Kept x journal′ numbers′ sets′ records′ memo) (sym still) (kept-so held)) room same
 
+    pub quiet-holds : (b : Bool) → b ≡ isNothing (told .change) → b ≡ true → (kept : Remembered) → Holds l journal kept → Holds l journal′ kept
+    quiet-holds b e y kept h =
+        let n : told .change ≡ Nothing = is-nothing (told .change) (sym e ∙ y) in
+        let same : journal ≡ journal′ =
+        same-journal (told .change) (l .booked) (versionOf l) journal (recordIn (versionOf l) input s) n ∙ sym (c .stored .written) in
+        subst (λ (x : List ℕ). Holds l x kept) same h
+
     -- one that changes something
     module _ (b : Bool) (e : b ≡ isNothing (told .change)) (y : b ≡ false) where
       named : There l (t .kept .sane) journal input (s .at) (vaultOf command) (jobOf command) decision
@@ -194,6 +218,13 @@ module _ {input : List ℕ} {l₀ : Ledger} {pos₀ count₀ : ℕ} {journal₀ 
           let held : (state : Vault) → told .change ≡ Hold state → s .job < l .booked =
           λ state h. rw (r .asked .job-is) (named .below state (sym change-is ∙ h)) in
           follows l′ a (rw a (kept-so held)) room same
+
+      pub loud-holds : (l′ : Ledger) → l′ ≡ applied l (told .change) (s .vault) (s .job) → (kept r : Remembered) → Holds l journal kept
+          → Still kept (l .booked) (getD (l .votes) (s .job % 128) noVotes .signatures) (l′ .booked) (getD (l′ .votes) (s .job % 128) noVotes .signatures) r
+          → Holds l′ journal′ r
+      loud-holds l′ a kept r h still =
+          rw (a, c .stored .written)
+          (still-right l (told .change) (s .vault) (s .job) journal (recordIn (versionOf l) input s) kept r (loud-placed .job) h (rw a at still))
 
 -- ---- at the loop's head
 pub started : {input : List ℕ} {p : Progress} {memo journal numbers sets records : List ℕ} (out : List ℕ) → Going input p journal numbers sets records memo
@@ -216,6 +247,9 @@ module _ {input : List ℕ} {l₀ : Ledger} {pos₀ count₀ : ℕ} {journal₀ 
 
   pub to-survey : Ready (versionOf l) journal (l .booked) numbers sets (l .order) (l .arrivals) memo
   to-survey = ready l journal numbers sets records memo (t .kept)
+
+  pub to-look-up : IndexedEntries (versionOf l) journal (l .booked) numbers sets
+  to-look-up = search (t .kept .indexed)
 
   pub numbered : (s : Step) → pos < length input → Read (versionOf l) input pos (count + 1) s → s .number < 1000000
   numbered s more r = omega (arith, r .number-is, t .steps, t .few)
@@ -252,4 +286,19 @@ module _ (input : List ℕ) (p : Progress) (journal₀ out₀ memo journal numbe
 pub reads-on : {version : ℕ} {input : List ℕ} {pos n : ℕ} {s : Step} → Read version input pos n s → length input - s .end < length input - pos
 reads-on r = omega (arith, r .onward, r .inside)
 
-pub ruleset turning = (started, few-vaults, to-survey, numbered, to-carry-out, turn-wide, turn-quiet, turn-loud, loud-placed, reads-on, stopped, finished)
+pub ruleset turning = (
+  started,
+  nothing-known,
+  few-vaults,
+  to-survey,
+  to-look-up,
+  numbered,
+  to-carry-out,
+  turn-wide,
+  turn-quiet,
+  turn-loud,
+  loud-placed,
+  reads-on,
+  stopped,
+  finished,
+)

@@ -7,8 +7,7 @@ use lib.ListN.{length, replicate, take}
 use Rattle.journal.specs.Journal.{capacity}
 use Rattle.index.specs.Places.{numbersSize, setsSize}
 use Rattle.index.specs.Records.{recordsSize}
-use Rattle.text.specs.Text.{Put}
-use Rattle.steps.specs.Turned.{longestText}
+use Rattle.text.specs.Text.{Put, longestText}
 use Rattle.ledger.specs.declared.Ledger.{Ledger}
 use Rattle.runfile.specs.Run.{Run, begins, headerSize, journalSize, lastFrom, longest, runText, textFrom}
 use Rattle.run.specs.declared.Progress.{Progress}

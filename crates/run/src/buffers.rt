@@ -12,7 +12,7 @@ pub const INPUT: usize = 65537;
 // The run's own journal has room for records of either version.
 pub const JOURNAL: usize = LONGEST * CAPACITY;
 
-// A piece of the text; any size that takes one line would do.
+// A piece of the text; any size that takes the longest text of one step would do.
 pub const PIECE: usize = 32768;
 
 pub fn input_buffer() -> [u8; INPUT]

@@ -6,7 +6,7 @@ ghost use mathlib.Core.Path.{_≡_};
 ghost use Prim.Native.Nat.{_≤_};
 ghost use lib.ListN.{length};
 ghost use Rattle.run.specs.Pieces.{Advanced, Going, Started};
-ghost use Rattle.steps.specs.Turned.{longestText};
+ghost use Rattle.text.specs.Text.{longestText};
 pub use buffers::INPUT;
 pub use buffers::JOURNAL;
 pub use buffers::PIECE;
@@ -83,6 +83,7 @@ pub fn advance(
     let mut pos = progress.pos;
     let mut count = progress.count;
     let mut at: usize = 0;
+    let mut named = steps::unknown();
     while pos < input.len() {
         if out.len() < at + text::LONGEST {
             return standing(ledger, pos, count, at);
@@ -91,12 +92,27 @@ pub fn advance(
         let step = reading::step_at(ledger.settings.version, input, pos, count);
         pos = step.end;
         if step.wide {
+            let kind = step.kind;
+            let settings = ledger.settings;
+            let votes = ledger.votes;
+            named = steps::named(
+                named,
+                kind,
+                settings,
+                votes,
+                numbers,
+                sets,
+                journal,
+                ledger.booked,
+            );
+            let vaults = named.vaults;
             let order = &ledger.order;
             let books = Books {
                 settings: ledger.settings,
                 booked: ledger.booked,
                 arrivals: ledger.arrivals,
                 vaults: ledger.vaults,
+                named: vaults,
             };
             at = steps::survey(step, books, order, numbers, sets, journal, memo, out, at);
             continue;
@@ -106,6 +122,7 @@ pub fn advance(
             booked: ledger.booked,
             state: ledger.vaults[(step.vault % 16) as usize],
             votes: ledger.votes[(step.job % 128) as usize],
+            history: ledger.histories[step.place % 128],
             next: ledger.next,
             seen: ledger.seen,
             turn: ledger.vaults[(ledger.next % 16) as usize],
@@ -117,6 +134,14 @@ pub fn advance(
             continue;
         }
         ledger = books::apply(ledger, change, step.vault, step.job);
+        let votes = ledger.votes[(step.job % 128) as usize];
+        named = steps::still(
+            named,
+            view.booked,
+            view.votes.signatures,
+            ledger.booked,
+            votes.signatures,
+        );
     }
     standing(ledger, pos, count, at)
 }

@@ -24,7 +24,8 @@ use Rattle.ledger.specs.Meaning.{Proposed, failed, full, insane, known, new}
 use Rattle.ledger.specs.Register.{feedAll, log, newRegister}
 use Rattle.ledger.specs.State.{newLedger, versionOf}
 use Rattle.ledger.specs.Steps.{journalAfter, journalWith, proposeDecision}
-use Rattle.ledger.specs.Worlds.{Request, commit, faultyVote, generations, preflight, propose, release, show, snapshot}
+use Rattle.ledger.specs.Worlds.{Request, clientPreflight, commit, dependencies, equivocating, faultyVote, generations, preflight, propose, release, show}
+use Rattle.ledger.specs.Worlds.{snapshot}
 use Rattle.ledger.specs.Worlds.{World, after as afterEvent, afterAll, leftBy, lend, lent, overlay, start, stepOf}
 use Rattle.ledger.specs.declared.Decision.{Decision}
 use Rattle.ledger.specs.declared.Ledger.{Ledger}
@@ -32,7 +33,7 @@ use Rattle.runfile.specs.History.{Item, RunKeeps, begun, eventOf, events
 use Rattle.runfile.proofs.Turns.{runs-out}
 use Rattle.runfile.specs.Run.{Run, begins, commandOf, ended, isHeader, journalSize, lastFrom, longest, opened, opens, opensUpTo, runNext, turn}
 use Rattle.runfile.specs.Run.{textFrom, textNext, textOf, textUpTo, versionIn}
-use Rattle.runfile.specs.Steps.{Command, draw, journalBy, listed, replyOf, request, unreadable, wordAt}
+use Rattle.runfile.specs.Steps.{Command, draw, journalBy, replyOf, request, unreadable, wordAt}
 
 -- ---- a step leaves the journal as long as it was
 proposed-length : (l : Ledger) (journal bytes : List ℕ) (d : Decision) → Proposed l journal bytes d
@@ -53,6 +54,9 @@ left-length l journal (show k) = refl
 left-length l journal (generations k) = refl
 left-length l journal snapshot = refl
 left-length l journal (release v job rival) = refl
+left-length l journal (dependencies v job) = refl
+left-length l journal (clientPreflight v job client) = refl
+left-length l journal equivocating = refl
 
 -- ---- what is lent, and what is booked afterwards
 lent-whole : (m : ℕ) (journal : List ℕ) → lend (take m journal) (length journal) (drop m journal) ≡ journal
@@ -98,7 +102,6 @@ module _ (r : Run) where
 
   step-told : (c : Command) (items : List Item) (k : ℕ)
       → told k (worldOf r) (itemOf r c ∷ items) ≡ textOf (k + 1) (r .ledger) (r .journal) c ++ told (k + 1) (worldBy c) items
-  unfolding listed
   step-told (request q) items k =
       ap (λ (j : List ℕ). textOf (k + 1) (r .ledger) j (request q) ++ told (k + 1) (afterEvent (worldOf r) (eventOf r q)) items) (whole q)
       ∙ ap (λ (w : World). textOf (k + 1) (r .ledger) (r .journal) (request q) ++ told (k + 1) w items) (after-event q)

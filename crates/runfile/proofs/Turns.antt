@@ -12,15 +12,19 @@ use Rattle.federation.specs.Federation.{isLawful}
 use Rattle.outcome.specs.declared.Outcome.{Outcome}
 use Rattle.outcome.specs.declared.Outcome.the-variants.{Refused}
 use Rattle.outcome.specs.declared.Refusal.the-variants.{Settings as BadSettings}
-use Rattle.text.specs.Text.{lineFor}
+use Rattle.sets.specs.declared.job_set.JobSet.{JobSet}
+use Rattle.text.specs.Text.{lineFor, textFor}
 use Rattle.ledger.specs.State.{versionOf}
 use Rattle.runfile.specs.Run.{Run, begins, commandOf, ended, headerSize, isHeader, lastFrom, longest, opened, opens, opensUpTo, runNext, turn}
 use Rattle.runfile.specs.Run.{runText, textFrom, textNext, textOf, textUpTo}
-use Rattle.runfile.specs.Steps.{endOf, kindAt, listed, replyOf}
+use Rattle.runfile.specs.Steps.{endOf, kindAt, listedBy, replyOf}
 use Rattle.runfile.specs.declared.Kind.{Kind}
 use Rattle.runfile.specs.declared.Kind.the-variants.{
+  ClientPreflight,
   Commit,
+  Dependencies,
   Draw,
+  Equivocating,
   FaultyAcknowledge,
   FaultySign,
   Generations,
@@ -90,6 +94,9 @@ reads-on version Draw pos size n h = omega arith
 reads-on version Generations pos size n h = omega arith
 reads-on version Snapshot pos size n h = omega arith
 reads-on version Release pos size n h = omega arith
+reads-on version Dependencies pos size n h = omega arith
+reads-on version ClientPreflight pos size n h = omega arith
+reads-on version Equivocating pos size n h = omega arith
 reads-on version Unknown pos size n h = omega arith
 
 pub runs-out : (n : ℕ) (input : List ℕ) (r : Run) → length input ≤ r .pos + n → ended input (runNext n input r) ≡ true
@@ -116,14 +123,11 @@ next-last input r h g =
     let n : length input - r .count ≡ suc (length input - (r .count + 1)) = omega arith in
     rw n (simp (lt-leb _ _ h))
 
--- a run that was carried on by one step, whose answer was o
-pub step-text : (input : List ℕ) (r r′ : Run) (o : Outcome) → r .pos < length input → r .count < length input
-    → o ≡ replyOf (r .ledger) (r .journal) (commandOf input r) .outcome → r′ ≡ turn input r
-    → textFrom input r ≡ lineFor (r .count + 1) o ++ textFrom input r′
-unfolding listed
-step-text input r r′ o h g e t =
-    let line = lineFor (r .count + 1) (replyOf (r .ledger) (r .journal) (commandOf input r) .outcome) in
-    next-text input r h g ∙ ap (λ (x : List ℕ). x ++ textFrom input (turn input r)) (append-nil line) ∙ rw (e, t)
+-- a run that was carried on by one step, which was answered o and listed these members
+pub step-text : (input : List ℕ) (r r′ : Run) (o : Outcome) (members : JobSet) → r .pos < length input → r .count < length input
+    → o ≡ replyOf (r .ledger) (r .journal) (commandOf input r) .outcome → members ≡ listedBy (r .ledger) (r .journal) (commandOf input r)
+    → r′ ≡ turn input r → textFrom input r ≡ textFor (r .count + 1) o members ++ textFrom input r′
+step-text input r r′ o members h g e m t = next-text input r h g ∙ rw (e, m, t)
 
 pub step-last : (input : List ℕ) (r r′ : Run) → r .pos < length input → r .count < length input → r′ ≡ turn input r → lastFrom input r ≡ lastFrom input r′
 step-last input r r′ h g t = next-last input r h g ∙ ap (lastFrom input) (sym t)

@@ -12,8 +12,8 @@ use Rattle.codec.specs.Codec.{longestRecord}
 use Rattle.journal.specs.Journal.{capacity}
 use Rattle.ledger.specs.State.{newLedger, versionOf}
 use Rattle.ledger.specs.declared.Ledger.{Ledger}
-use Rattle.runfile.specs.Steps.{Command, journalBy, listed, nextAt, replyOf, stepAt, wordAt}
-use Rattle.text.specs.Text.{lineFor}
+use Rattle.runfile.specs.Steps.{Command, journalBy, listedBy, nextAt, replyOf, stepAt, wordAt}
+use Rattle.text.specs.Text.{lineFor, textFor}
 
 -- "reads standard input, at most 65,536 bytes"
 abbrev pub longest : ℕ
@@ -64,9 +64,9 @@ ended input r = leb (length input) (r .pos)
 abbrev pub commandOf : List ℕ → Run → Command
 commandOf input r = stepAt (versionOf (r .ledger)) input (r .pos)
 
--- what is printed for step number k: its line, and the lines that it lists
+-- what is printed for step number k: its line, and the lines of what it lists
 abbrev pub textOf : ℕ → Ledger → List ℕ → Command → List ℕ
-textOf k l journal c = lineFor k (replyOf l journal c .outcome) ++ listed l journal c
+textOf k l journal c = textFor k (replyOf l journal c .outcome) (listedBy l journal c)
 
 -- the next step carried out
 unfoldable pub turn : List ℕ → Run → Run

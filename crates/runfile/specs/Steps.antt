@@ -1,22 +1,29 @@
 -- The steps of a run file: "each a kind byte and its body; vault, job and u are one byte".
 use mathlib.Core.Bool.{cond}
-use mathlib.Core.List.{List, []}
+use mathlib.Core.List.{List}
 use Prim.Native.Nat.{_*_, _+_, ℕ}
 use lib.Dec.{eqb, ltb}
 use lib.ListN.{drop, getD, length, take}
 use Rattle.outcome.specs.declared.Outcome.{Outcome}
 use Rattle.outcome.specs.declared.Outcome.the-variants.{Refused}
 use Rattle.outcome.specs.declared.Refusal.the-variants.{Unreadable}
+use Rattle.sets.specs.Jobs.{noJobs}
+use Rattle.sets.specs.declared.job_set.JobSet.{JobSet}
 use Rattle.draw.specs.Draw.{drawOf}
 use Rattle.codec.specs.Codec.{recordSize}
 use Rattle.vaults.specs.declared.Column.the-variants.{Acknowledgements, Signatures}
-use Rattle.ledger.specs.Worlds.{Request, commit, faultyVote, generations, leftBy, preflight, propose, release, show, snapshot, stepOf}
+use Rattle.ledger.specs.Steps.{dependenciesOf, equivocatorsOf}
+use Rattle.ledger.specs.Worlds.{Request, clientPreflight, commit, dependencies, equivocating, faultyVote, generations, leftBy, preflight, propose, release}
+use Rattle.ledger.specs.Worlds.{show, snapshot, stepOf}
 use Rattle.ledger.specs.declared.Ledger.{Ledger}
 use Rattle.ledger.specs.declared.Reply.{Reply}
 use Rattle.runfile.specs.declared.Kind.{Kind}
 use Rattle.runfile.specs.declared.Kind.the-variants.{
+  ClientPreflight,
   Commit,
+  Dependencies,
   Draw,
+  Equivocating,
   FaultyAcknowledge,
   FaultySign,
   Generations,
@@ -29,7 +36,9 @@ use Rattle.runfile.specs.declared.Kind.the-variants.{
 }
 
 -- "1 propose (record); 2 preflight (vault, job); 3 commit (vault, job, signers); 4 faulty signature (vault, job); 5 faulty acknowledgement
--- (vault, job); 6 show (job); 7 draw (u); 8 generations (job)"; and document 02's 9, a snapshot, "without a body", and 10, a release "(vault, job, rival)"
+-- (vault, job); 6 show (job); 7 draw (u); 8 generations (job)"; and document 02's 9, a snapshot, "without a body", 10, a release "(vault, job, rival)", 11, a
+-- job's missing dependencies "(vault, job)", 12, a preflight from a client "(vault, job, desk in one byte)", and 13, the vaults that
+-- equivocate, "without a body"
 unfoldable pub kindOf : ℕ → Kind
 kindOf b =
     cond (eqb b 1) Propose
@@ -41,7 +50,10 @@ kindOf b =
     (cond (eqb b 7) Draw
     (cond (eqb b 8) Generations
     (cond (eqb b 9) Snapshot
-    (cond (eqb b 10) Release Unknown)))))))))
+    (cond (eqb b 10) Release
+    (cond (eqb b 11) Dependencies
+    (cond (eqb b 12) ClientPreflight
+    (cond (eqb b 13) Equivocating Unknown))))))))))))
 
 -- how long the body is, in a file of the version
 abbrev pub bodySize : ℕ → Kind → ℕ
@@ -55,6 +67,9 @@ bodySize version Draw = 1
 bodySize version Generations = 1
 bodySize version Snapshot = 0
 bodySize version Release = 3
+bodySize version Dependencies = 2
+bodySize version ClientPreflight = 3
+bodySize version Equivocating = 0
 bodySize version Unknown = 0
 
 -- 16 bits, the low byte first
@@ -79,6 +94,9 @@ commandIn version Draw input at = draw (getD input at 0)
 commandIn version Generations input at = request (generations (getD input at 0))
 commandIn version Snapshot input at = request snapshot
 commandIn version Release input at = request (release (getD input at 0) (getD input (at + 1) 0) (getD input (at + 2) 0))
+commandIn version Dependencies input at = request (dependencies (getD input at 0) (getD input (at + 1) 0))
+commandIn version ClientPreflight input at = request (clientPreflight (getD input at 0) (getD input (at + 1) 0) (getD input (at + 2) 0))
+commandIn version Equivocating input at = request equivocating
 commandIn version Unknown input at = unreadable
 
 -- the kind of the step at pos, where its body is all there: "2: kind unknown or body cut short"
@@ -102,6 +120,9 @@ endOf version Draw pos size = pos + bodySize version Draw + 1
 endOf version Generations pos size = pos + bodySize version Generations + 1
 endOf version Snapshot pos size = pos + bodySize version Snapshot + 1
 endOf version Release pos size = pos + bodySize version Release + 1
+endOf version Dependencies pos size = pos + bodySize version Dependencies + 1
+endOf version ClientPreflight pos size = pos + bodySize version ClientPreflight + 1
+endOf version Equivocating pos size = pos + bodySize version Equivocating + 1
 endOf version Unknown pos size = size
 
 abbrev pub nextAt : ℕ → List ℕ → ℕ → ℕ
@@ -122,6 +143,23 @@ journalBy l journal (request q) = leftBy l journal q
 journalBy l journal (draw u) = journal
 journalBy l journal unreadable = journal
 
--- the further lines of a command's text: none of these has any
-unfoldable pub listed : Ledger → List ℕ → Command → List ℕ
-listed l journal c = []
+-- ---- what a command lists
+
+-- the numbers that a request lists: of kind 11 the jobs that are missing, of kind 13 the vaults that equivocate
+abbrev pub listedIn : Ledger → List ℕ → Request → JobSet
+listedIn l journal (propose bytes) = noJobs
+listedIn l journal (preflight v job) = noJobs
+listedIn l journal (commit v job signers) = noJobs
+listedIn l journal (faultyVote column v job) = noJobs
+listedIn l journal (show job) = noJobs
+listedIn l journal (generations job) = noJobs
+listedIn l journal snapshot = noJobs
+listedIn l journal (release v job rival) = noJobs
+listedIn l journal (dependencies v job) = dependenciesOf l journal v job .members
+listedIn l journal (clientPreflight v job client) = noJobs
+listedIn l journal equivocating = equivocatorsOf l journal .members
+
+abbrev pub listedBy : Ledger → List ℕ → Command → JobSet
+listedBy l journal (request q) = listedIn l journal q
+listedBy l journal (draw u) = noJobs
+listedBy l journal unreadable = noJobs

@@ -13,5 +13,8 @@ pub enum Kind {
     Generations,
     Snapshot,
     Release,
+    Dependencies,
+    ClientPreflight,
+    Equivocating,
     Unknown,
 }

@@ -78,6 +78,13 @@ pub fn merger(from: Entry, second: Entry, to: Entry) -> Job
     job(1, 2, 1, [from, second, NONE, NONE, to, NONE, NONE, NONE])
 }
 
+// Four tapes to one.
+pub fn merger_four(from: Entry, second: Entry, third: Entry, fourth: Entry, to: Entry) -> Job
+    ensures { λ r. ⌜ r ≡ jobWith 1 4 1 (from ∷ second ∷ third ∷ fourth ∷ to ∷ unused ∷ unused ∷ unused ∷ []) ⌝ }
+{
+    job(1, 4, 1, [from, second, third, fourth, to, NONE, NONE, NONE])
+}
+
 // One tape to two.
 pub fn split(from: Entry, to: Entry, second: Entry) -> Job
     ensures { λ r. ⌜ r ≡ jobWith 1 1 2 (from ∷ unused ∷ unused ∷ unused ∷ to ∷ second ∷ unused ∷ unused ∷ []) ⌝ }

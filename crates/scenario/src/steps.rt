@@ -1,6 +1,6 @@
 // Each kind of step, carried out and printed. Jobs are proposed as version 1 records.
 ghost use mathlib.Core.Path.{_≡_};
-ghost use Rattle.ledger.specs.Steps.{commitOf, faultyVoteOf, journalAfter, preflightOf, proposeOf, releaseOf};
+ghost use Rattle.ledger.specs.Steps.{clientPreflightOf, commitOf, faultyVoteOf, journalAfter, preflightOf, proposeOf, releaseOf};
 ghost use Rattle.vaults.specs.declared.Column.the-variants.{Acknowledgements, Signatures};
 ghost use Rattle.codec.specs.Codec.{written};
 ghost use lib.ListN.{replicate};
@@ -9,6 +9,7 @@ use ledger::Reply;
 use libc::STDOUT_FILENO;
 use outcome::Outcome;
 use record::Job;
+use sets::JobSet;
 use vaults::Column;
 
 fn figures(first: u64, second: u64) {
@@ -84,6 +85,43 @@ pub fn release(l: Ledger, journal: &[u8], vault: u8, job: u8, rival: u8) -> Ledg
     named(b"release", vault, job);
     argument(rival as u64);
     report(b"", operations::release(l, journal, vault, job, rival))
+}
+
+fn listed(members: JobSet) {
+    for k in 0..128 {
+        if members.has(k) {
+            io::print_decimal(STDOUT_FILENO, k as u64);
+            io::write_all(STDOUT_FILENO, b"\n");
+        }
+    }
+}
+
+// Its line, and the jobs that it lists.
+pub fn dependencies(l: Ledger, journal: &[u8], vault: u8, job: u8) {
+    named(b"dependencies", vault, job);
+    let listing = operations::dependencies(l, journal, vault, job);
+    let outcome = listing.outcome;
+    line(b"", outcome);
+    listed(listing.members);
+}
+
+pub fn client_preflight(l: Ledger, journal: &[u8], vault: u8, job: u8, client: u8) -> Ledger
+    ensures { λ r. ⌜ r ≡ clientPreflightOf l (now (journal .entry)) vault job client .ledger ⌝ }
+{
+    named(b"client-preflight", vault, job);
+    argument(client as u64);
+    report(
+        b"",
+        operations::client_preflight(l, journal, vault, job, client),
+    )
+}
+
+// Its line, and the vaults that it lists.
+pub fn equivocating(l: Ledger, journal: &[u8]) {
+    let listing = operations::equivocating(l, journal);
+    let outcome = listing.outcome;
+    line(b"equivocating", outcome);
+    listed(listing.members);
 }
 
 pub fn sign(l: Ledger, journal: &[u8], vault: u8, job: u8) -> Ledger

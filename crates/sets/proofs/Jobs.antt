@@ -3,20 +3,20 @@
 use mathlib.Core.Bool.{Bool, _&&_, _||_, cond, false, not, true, true≢false}
 use mathlib.Core.Logic.{_≢_, _⊎_, inl, inr, ⊎-elim}
 use mathlib.Core.Path.{_∙_, _≡_, ap, ap₂, refl, sym}
-use Prim.Native.Nat.{_+_, _-_, _<_, _^_, _≤_, suc, ℕ}
+use Prim.Native.Nat.{_+_, _-_, _<_, _^_, _≤_, suc, zero, zero-le, ℕ}
 use native.Mathlib.Omega.{arith}
 use lib.Bits.{and-le-r, bitAnd, or-lt}
 use lib.Count.{ones}
 use lib.Dec.{eqb, ltb}
 use borrow.Author.Tests.{eqb-false, eqb-true, le-ltb, lt-ltb, ltb-false, ltb-true}
-use Rattle.base.proofs.Reflect.{by-test, reflect-as, reflect-or, reflect-true, reflects-same}
+use Rattle.base.proofs.Reflect.{by-cases, by-test, reflect-as, reflect-or, reflect-true, reflects-same}
 use Rattle.base.proofs.Search.{reflect-any, sum-append, sum-from, sum-same}
 use Rattle.base.specs.Reflect.{Reflects}
 use Rattle.base.specs.Search.{Every, Some, anyBelow, sumFrom}
 use Rattle.sets.proofs.Bits.{bit-of-has, has-common, has-none, has-union, has-with-other, has-with-same, has-without-other, has-without-same}
 use Rattle.sets.proofs.Bits.{members-same, ones-counts, ones-with, reflect-some, with-again, with-lt, without-absent, without-lt}
 use Rattle.sets.specs.Bits.{bit, hasBit, withBit, withoutBit}
-use Rattle.sets.specs.Jobs.{InWords, changeAt, jobCount, jobHas, jobUnion, jobWith, jobWithout, jobsMeet, noJobs}
+use Rattle.sets.specs.Jobs.{InWords, changeAt, jobCount, jobHas, jobUnion, jobWith, jobWithout, jobsBelow, jobsCommon, jobsMeet, noJobs}
 use Rattle.sets.specs.declared.job_set.JobSet.{JobSet}
 
 -- ---- the word of a job
@@ -120,6 +120,10 @@ pub job-union-has : (a b : JobSet) (i : ℕ) → jobHas (jobUnion a b) i ≡ (jo
 unfolding jobHas jobUnion
 job-union-has a b i = word-cases i (λ l. simp (l, has-union)) (λ l h. simp (l, h, has-union)) (λ l h. simp (l, h))
 
+pub jobs-common-has : (a b : JobSet) (i : ℕ) → jobHas (jobsCommon a b) i ≡ (jobHas a i && jobHas b i)
+unfolding jobHas jobsCommon
+jobs-common-has a b i = word-cases i (λ l. simp (l, has-common)) (λ l h. simp (l, h, has-common)) (λ l h. simp (l, h))
+
 -- words have a bit in common
 abbrev Common : ℕ → ℕ → Type 0
 Common x y = Some 64 (λ i. hasBit (bitAnd x y) i ≡ true)
@@ -203,6 +207,45 @@ union-words a b u v = record {
   high-fits = or-lt 64 (a .high) (b .high) (u .high-fits) (v .high-fits);
 }
 
+pub common-words : (a b : JobSet) → InWords b → InWords (jobsCommon a b)
+unfolding jobsCommon
+common-words a b w = record {
+  low-fits = omega (arith, and-le-r (a .low) (b .low), w .low-fits);
+  high-fits = omega (arith, and-le-r (a .high) (b .high), w .high-fits);
+}
+
+-- ---- the jobs below n that pass
+
+pub jobs-below-words : (n : ℕ) (p : ℕ → Bool) → InWords (jobsBelow n p)
+unfolding jobsBelow
+jobs-below-words zero p = no-jobs-words
+jobs-below-words (suc n) p =
+    by-cases (λ b. InWords (cond b (jobWith (jobsBelow n p) n) (jobsBelow n p))) (p n) (λ _. with-words _ n (jobs-below-words n p)) (λ _. jobs-below-words n p)
+
+one-more : (n : ℕ) (p : ℕ → Bool) (s : JobSet) (i : ℕ) → i < 128 → jobHas s i ≡ (ltb i n && p i)
+    → jobHas (cond (p n) (jobWith s n) s) i ≡ (ltb i (suc n) && p i)
+one-more n p s i h r = by-test (eqb i n) last other
+  where
+    last : eqb i n ≡ true → jobHas (cond (p n) (jobWith s n) s) i ≡ (ltb i (suc n) && p i)
+    last e =
+        let at : n ≡ i = sym (eqb-true i n e) in
+        let r′ : jobHas s i ≡ false = r ∙ simp (le-ltb i n (omega arith)) in
+        rw at (by-cases (λ b. p i ≡ b → jobHas (cond b (jobWith s i) s) i ≡ (ltb i (suc i) && b)) (p i)
+        (λ _ q. job-with-same s i h ∙ sym (simp (lt-ltb i (suc i) (omega arith)))) (λ _ q. r′ ∙ sym (simp (lt-ltb i (suc i) (omega arith)))) refl)
+
+    other : eqb i n ≡ false → jobHas (cond (p n) (jobWith s n) s) i ≡ (ltb i (suc n) && p i)
+    other e =
+        let ne = eqb-false i n e in
+        let past : (ltb i n && p i) ≡ (ltb i (suc n) && p i) = by-test (ltb i n)
+        (λ a. simp (a, lt-ltb i (suc n) (omega (arith, ltb-true i n a))))
+        (λ a. simp (a, le-ltb i (suc n) (omega (arith, ltb-false i n a)))) in
+        by-cases (λ b. jobHas (cond b (jobWith s n) s) i ≡ (ltb i (suc n) && p i)) (p n) (λ _. job-with-other s n i ne ∙ (r ∙ past)) (λ _. r ∙ past)
+
+pub has-jobs-below : (n : ℕ) (p : ℕ → Bool) (i : ℕ) → i < 128 → jobHas (jobsBelow n p) i ≡ (ltb i n && p i)
+unfolding jobsBelow
+has-jobs-below zero p i h = has-no-jobs i ∙ simp (le-ltb i 0 (omega arith))
+has-jobs-below (suc n) p i h = one-more n p (jobsBelow n p) i h (has-jobs-below n p i h)
+
 -- sets with the same members are equal
 pub jobs-same : (a b : JobSet) → InWords a → InWords b → Every 128 (λ i. jobHas a i ≡ jobHas b i) → a ≡ b
 jobs-same a b u v h = ap₂ (λ (x y : ℕ). record { low = x; high = y }) low high
@@ -240,3 +283,51 @@ job-count-counts s w = ap₂ (λ (x y : ℕ). x + y) low high ∙ sym (sum-appen
         ∙ sum-same (λ i. bit (s .high) i) (λ i. member s (64 + i)) 0 64
         (λ i _ l. at (s .high) i (64 + i) (in-high s i (omega arith)))
         ∙ sym (sum-from (member s) 64 0 64)
+
+-- ---- a set within another
+
+-- each member of a is one of b
+abbrev pub Within : JobSet → JobSet → Type 0
+Within a b = (i : ℕ) → jobHas a i ≡ true → jobHas b i ≡ true
+
+member-le : (a b : JobSet) → Within a b → (i : ℕ) → member a i ≤ member b i
+member-le a b h i =
+    by-cases (λ x. jobHas a i ≡ x → cond x 1 0 ≤ member b i) (jobHas a i) (λ _ e. simp (h i e) (omega arith)) (λ _ e. zero-le) refl
+
+sums-le : (f g : ℕ → ℕ) → ((i : ℕ) → f i ≤ g i) → (n k : ℕ) → sumFrom f n k ≤ sumFrom g n k
+unfolding sumFrom
+sums-le f g h n zero = zero-le
+sums-le f g h n (suc k) = omega (arith, h n, sums-le f g h (suc n) k)
+
+-- sums that are the same, of terms that are not larger
+sums-tight : (f g : ℕ → ℕ) → ((i : ℕ) → f i ≤ g i) → (n k : ℕ) → sumFrom g n k ≤ sumFrom f n k → (i : ℕ) → n ≤ i → i < n + k → g i ≡ f i
+unfolding sumFrom
+sums-tight f g h n zero q i a b = absurd (omega arith)
+sums-tight f g h n (suc k) q i a b =
+    by-test (eqb i n)
+    (λ e. rw (eqb-true i n e) (omega (arith, h n, sums-le f g h (suc n) k)))
+    (λ e.
+    let past : suc n ≤ i = omega (arith, eqb-false i n e) in
+    sums-tight f g h (suc n) k (omega (arith, h n, q)) i past (omega arith))
+
+pub count-within : (a b : JobSet) → InWords a → InWords b → Within a b → jobCount a ≤ jobCount b
+count-within a b u v h =
+    omega (arith, job-count-counts a u, job-count-counts b v, sums-le (member a) (member b) (member-le a b h) 0 128)
+
+-- a set that is within another of no more members is that set
+pub within-same : (a b : JobSet) → InWords a → InWords b → Within a b → jobCount b ≤ jobCount a → b ≡ a
+within-same a b u v h q = jobs-same b a v u (λ i l. same i (jobHas b i) (jobHas a i) refl refl
+    (sums-tight (member a) (member b) (member-le a b h) 0 128 (omega (arith, job-count-counts a u, job-count-counts b v, q)) i zero-le (omega arith)))
+  where
+    same : (i : ℕ) (x y : Bool) → jobHas b i ≡ x → jobHas a i ≡ y → member b i ≡ member a i → x ≡ y
+    same i true true ex ey e = refl
+    same i false false ex ey e = refl
+    same i true false ex ey e = let z : _≡_ {A = ℕ} 1 0 = simp (ex, ey) at e in absurd (omega arith)
+    same i false true ex ey e = let z : _≡_ {A = ℕ} 0 1 = simp (ex, ey) at e in absurd (omega arith)
+
+-- one member more at most
+pub count-with : (s : JobSet) (i : ℕ) → i < 128 → jobCount (jobWith s i) ≤ suc (jobCount s)
+count-with s i h =
+    by-test (jobHas s i)
+    (λ e. let q : jobCount (jobWith s i) ≡ jobCount s = ap jobCount (job-with-again s i e) in omega (arith, q))
+    (λ e. omega (arith, job-count-with s i h e))

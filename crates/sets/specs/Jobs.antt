@@ -1,7 +1,7 @@
 -- Sets of jobs in two words: job j is bit j of the low word, or bit j - 64 of the high one. No job of 128 or more is a
 -- member of any set.
-use mathlib.Core.Bool.{Bool, false, cond, not, _||_}
-use Prim.Native.Nat.{ℕ, _+_, _-_, _^_, _<_}
+use mathlib.Core.Bool.{Bool, _&&_, _||_, cond, false, not}
+use Prim.Native.Nat.{_+_, _-_, _<_, _^_, suc, zero, ℕ}
 use lib.Dec.{eqb, ltb}
 use lib.Bits.{bitAnd, bitOr}
 use lib.Count.{ones}
@@ -11,6 +11,10 @@ use Rattle.sets.specs.declared.job_set.JobSet.{JobSet}
 -- the set with no member
 unfoldable pub noJobs : JobSet
 noJobs = record { low = 0; high = 0 }
+
+-- the set has no member
+unfoldable pub isEmpty : JobSet → Bool
+isEmpty s = eqb (s .low) 0 && eqb (s .high) 0
 
 -- the job is a member
 unfoldable pub jobHas : JobSet → ℕ → Bool
@@ -33,6 +37,15 @@ jobWithout s job = changeAt withoutBit s job
 -- the members of a and those of b
 unfoldable pub jobUnion : JobSet → JobSet → JobSet
 jobUnion a b = record { low = bitOr (a .low) (b .low); high = bitOr (a .high) (b .high) }
+
+-- the members of a that are members of b
+unfoldable pub jobsCommon : JobSet → JobSet → JobSet
+jobsCommon a b = record { low = bitAnd (a .low) (b .low); high = bitAnd (a .high) (b .high) }
+
+-- the jobs below n that pass
+unfoldable pub jobsBelow : ℕ → (ℕ → Bool) → JobSet
+jobsBelow zero p = noJobs
+jobsBelow (suc n) p = cond (p n) (jobWith (jobsBelow n p) n) (jobsBelow n p)
 
 -- some job is a member of both
 unfoldable pub jobsMeet : JobSet → JobSet → Bool

@@ -1,6 +1,6 @@
 // A set of jobs. A journal books at most 128, so two words hold every set.
 ghost use mathlib.Core.Path.{_≡_};
-ghost use Rattle.sets.specs.Jobs.{noJobs, jobHas, jobWith, jobWithout, jobUnion, jobsMeet, jobCount};
+ghost use Rattle.sets.specs.Jobs.{isEmpty, jobCount, jobHas, jobUnion, jobWith, jobWithout, jobsCommon, jobsMeet, noJobs};
 use super::words;
 
 // Jobs 0 to 63 are the bits of `low`, and 64 to 127 those of `high`. No method asks anything of its arguments: a job of
@@ -15,6 +15,15 @@ impl JobSet {
         ensures { λ r. ⌜ r ≡ noJobs ⌝ }
     {
         JobSet { low: 0, high: 0 }
+    }
+
+    pub fn is_empty(self) -> bool
+        ensures { λ r. ⌜ r ≡ isEmpty self ⌝ }
+    {
+        if self.low != 0 {
+            return false;
+        }
+        self.high == 0
     }
 
     // Whether the job is a member.
@@ -75,6 +84,16 @@ impl JobSet {
         JobSet {
             low: self.low | other.low,
             high: self.high | other.high,
+        }
+    }
+
+    // The members that both sets have.
+    pub fn common(self, other: JobSet) -> JobSet
+        ensures { λ r. ⌜ r ≡ jobsCommon self other ⌝ }
+    {
+        JobSet {
+            low: self.low & other.low,
+            high: self.high & other.high,
         }
     }
 

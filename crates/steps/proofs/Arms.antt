@@ -1,8 +1,8 @@
 -- Each arm of the decision is its command's: the vault and the job that were read are those that the command names.
-use mathlib.Core.Bool.{Bool, Bool·beq, false, true}
+use mathlib.Core.Bool.{Bool, Bool·beq, false, true, true≢false}
 use mathlib.Core.List.{List}
 use mathlib.Core.Path.{_∙_, _≡_, ap, refl, subst, sym}
-use Prim.Native.Nat.{_+_, _≤_, ℕ}
+use Prim.Native.Nat.{_%_, _+_, _≤_, ℕ}
 use native.Mathlib.Omega.{arith}
 use lib.Dec.{ltb}
 use lib.ListN.{drop, getD, length, take}
@@ -13,28 +13,34 @@ use Rattle.outcome.specs.declared.Refusal.the-variants.{NoVault, NotBooked, Wro
 use Rattle.outcome.specs.declared.Verdict.{Verdict}
 use Rattle.outcome.specs.declared.Verdict.the-variants.{Pass}
 use Rattle.sets.specs.Bits.{hasBit}
+use Rattle.sets.specs.declared.job_set.JobSet.{JobSet}
 use Rattle.codec.proofs.Sizes.{place-whole}
 use Rattle.codec.specs.Codec.{recordSize}
 use Rattle.journal.proofs.Booked.{reflect-booked}
-use Rattle.journal.specs.Journal.{capacity, insideOf, isBooked, jobAt}
+use Rattle.journal.specs.Journal.{capacity, insideOf, isBooked, isWhole, jobAt}
 use Rattle.generations.specs.Memo.{Memo}
 use Rattle.index.proofs.Tables.{records-part}
 use Rattle.index.specs.Index.{Indexed, IndexedRecords}
 use Rattle.ledger.proofs.Gates.{passed-rest, passed-test}
-use Rattle.ledger.specs.Decisions.{committing, gated, proposal, releasing}
+use Rattle.ledger.specs.Decisions.{clientPreflighting, committing, gated, gatedListing, listing, proposal, releasing, requiring, unlisted}
 use Rattle.ledger.specs.Given.{Aged, Known, Searchable}
+use Rattle.ledger.specs.Holders.{heldSomewhere}
 use Rattle.ledger.specs.Steps.{gateOf}
 use Rattle.vaults.specs.declared.Column.the-variants.{Acknowledgements, Signatures}
 use Rattle.vaults.specs.declared.Votes.{Votes}
-use Rattle.ledger.specs.Worlds.{commit, faultyVote, generations, preflight, propose, release, show, snapshot}
+use Rattle.ledger.specs.Worlds.{clientPreflight, commit, dependencies, equivocating, faultyVote, generations, preflight, propose, release, show, snapshot}
 use Rattle.ledger.specs.declared.Change.the-variants.{Nothing}
 use Rattle.ledger.specs.declared.Decision.{Decision}
+use Rattle.ledger.specs.declared.Listing.{Listing}
+use Rattle.vaults.specs.Vaults.{newVault}
 use Rattle.vaults.specs.declared.Vault.{Vault}
 use Rattle.runfile.specs.Steps.{Command, commandIn, draw, request, unreadable, wordAt}
 use Rattle.runfile.specs.declared.Kind.{Kind}
-use Rattle.runfile.specs.declared.Kind.the-variants.{Commit, Draw, FaultyAcknowledge, FaultySign, Generations, Preflight, Propose}
-use Rattle.runfile.specs.declared.Kind.the-variants.{Release, Show, Snapshot, Unknown}
-use Rattle.steps.specs.Decided.{Answered, bookedOr, decidedBy, gateBy}
+use Rattle.runfile.specs.declared.Kind.the-variants.{ClientPreflight, Commit, Dependencies, Draw, Equivocating, FaultyAcknowledge, FaultySign, Generations}
+use Rattle.runfile.specs.declared.Kind.the-variants.{Preflight, Propose, Release, Show, Snapshot, Unknown}
+use Rattle.steps.specs.Decided.{Answered, aged, alone, bookedOr, decidedBy, gateBy, isListing, isNaming, naming, required, surveyed}
+use Rattle.steps.specs.Kept.{Found, Right, Still, namedBy, unknownYet}
+use Rattle.steps.specs.declared.Remembered.{Remembered}
 use Rattle.reading.specs.Reading.{Asked, jobOf, vaultOf}
 use Rattle.steps.specs.declared.Books.{Books}
 use Rattle.reading.specs.declared.Step.{Step}
@@ -52,15 +58,14 @@ searched version journal booked numbers sets records i =
     }
 
 -- a job whose gate passes is booked
-pub known-behind : (w : View) (journal : List ℕ) (v : ℕ) (faulty : Bool) (job : ℕ) (g : Verdict) → g ≡ gateBy w journal v faulty job
-    → Known g (w .booked) job
+pub known-behind : (s : Settings) (booked : ℕ) (journal : List ℕ) (v : ℕ) (faulty : Bool) (job : ℕ) (g : Verdict) → g ≡ gateBy s booked journal v faulty job
+    → Known g booked job
 unfolding gateOf
-known-behind w journal v faulty job g h = record {
+known-behind s booked journal v faulty job g h = record {
   below = λ p.
-      let vault = passed-rest (ltb v (w .settings .n)) _ NoVault (sym h ∙ p) in
-      let kind = passed-rest (Bool·beq (hasBit (w .settings .faulty) v) faulty) _ WrongVault vault in
-      reflect-booked (w .settings .version) journal (w .booked) job .sound
-      (passed-test (isBooked (w .settings .version) journal (w .booked) job) Pass NotBooked kind) .below;
+      let vault = passed-rest (ltb v (s .n)) _ NoVault (sym h ∙ p) in
+      let kind = passed-rest (Bool·beq (hasBit (s .faulty) v) faulty) _ WrongVault vault in
+      reflect-booked (s .version) journal booked job .sound (passed-test (isBooked (s .version) journal booked job) Pass NotBooked kind) .below;
 }
 
 -- the command of a kind with this vault and this job
@@ -75,6 +80,9 @@ again version Draw v job input at = draw job
 again version Generations v job input at = request (generations job)
 again version Snapshot v job input at = request snapshot
 again version Release v job input at = request (release v job (getD input (at + 2) 0))
+again version Dependencies v job input at = request (dependencies v job)
+again version ClientPreflight v job input at = request (clientPreflight v job (getD input (at + 2) 0))
+again version Equivocating v job input at = request equivocating
 again version Unknown v job input at = unreadable
 
 module _ (version : ℕ) (input : List ℕ) (at : ℕ) where
@@ -90,6 +98,9 @@ module _ (version : ℕ) (input : List ℕ) (at : ℕ) where
   same-command Generations = refl
   same-command Snapshot = refl
   same-command Release = refl
+  same-command Dependencies = refl
+  same-command ClientPreflight = refl
+  same-command Equivocating = refl
   same-command Unknown = refl
 
 module _ (w : View) (journal input : List ℕ) (s : Step) (a : Asked (w .settings .version) input s) where
@@ -126,19 +137,82 @@ pub with-rival : (g : Verdict) (state : Vault) (version : ℕ) (journal : List �
     → r ≡ gated g (releasing state version journal booked signers job x) → r ≡ gated g (releasing state version journal booked signers job y)
 with-rival g state version journal booked signers job x y r e h = rw e at h
 
+-- with the client that was read
+pub with-client : (g : Verdict) (state : Vault) (version : ℕ) (journal : List ℕ) (booked history signers v job x y : ℕ) (r : Decision) → x ≡ y
+    → r ≡ gated g (clientPreflighting state version journal booked x history signers v job)
+    → r ≡ gated g (clientPreflighting state version journal booked y history signers v job)
+with-client g state version journal booked history signers v job x y r e h = rw e at h
+
 pub drawn : (o o′ : Outcome) → o ≡ o′ → _≡_ {A = Decision} (record { outcome = o; change = Nothing }) (record { outcome = o′; change = Nothing })
 drawn o o′ e = rw e
 
-pub ruleset arms = (searched, known-behind, told, record-whole, regated, with-record, with-signers, with-rival, drawn)
+pub ruleset arms = (searched, known-behind, told, record-whole, regated, with-record, with-signers, with-rival, with-client, drawn)
 
 -- ---- generations
-module _ (a : Books) (order journal memo : List ℕ) (job : ℕ) (b : Bool) (e : b ≡ isBooked (a .settings .version) journal (a .booked) job) where
-  pub aged : (d : Decision) → b ≡ true → Aged (a .settings) (a .vaults) order (a .arrivals) journal (a .booked) memo job d
-      → Answered a order journal memo job (d .outcome)
+module _ (a : Books) (order journal memo : List ℕ) (job : ℕ) (b : Bool) (e : b ≡ isBooked (a .settings .version) journal (a .booked) job) (r : Listing) where
+  pub age-found : (d : Decision) → b ≡ true → Aged (a .settings) (a .vaults) order (a .arrivals) journal (a .booked) memo job d → r ≡ alone (d .outcome)
+      → Answered a order journal memo (alone (aged a order journal job .outcome)) r
   unfolding bookedOr
-  aged d t h = record { outcome = simp (sym e ∙ t) (ap (λ (d : Decision). d .outcome) (h .decision)); right = h .right; size = h .size }
+  age-found d t h q = record {
+    told = q ∙ ap alone (simp (sym e ∙ t) (ap (λ (d : Decision). d .outcome) (h .decision)));
+    right = h .right;
+    size = h .size;
+  }
 
   pub unbooked : b ≡ false → Memo (jobAt (a .settings .version) journal (a .booked)) order (a .arrivals) memo → length memo ≡ capacity
-      → Answered a order journal memo job (Refused NotBooked)
+      → r ≡ alone (Refused NotBooked) → Answered a order journal memo (alone (aged a order journal job .outcome)) r
   unfolding bookedOr
-  unbooked f m z = record { outcome = simp (sym e ∙ f); right = m; size = z }
+  unbooked f m z q = record { told = q ∙ ap alone (simp (sym e ∙ f)); right = m; size = z }
+
+-- ---- missing dependencies
+pub required-so : (a : Books) (journal : List ℕ) (v job : ℕ) (g : Verdict) (r : Listing) → g ≡ gateBy (a .settings) (a .booked) journal v false job
+    → r ≡ gatedListing g
+    (requiring (getD (a .vaults) (v % 16) newVault) (heldSomewhere (a .settings) (a .vaults)) (a .settings .version) journal (a .booked) job)
+    → r ≡ required a journal v job
+required-so a journal v job g r e h = rw e at h
+
+-- ---- the vaults that equivocate
+module _ (a : Books) (journal : List ℕ) (b : Bool) (e : b ≡ isWhole (a .settings .version) journal (a .booked)) (r : Listing) where
+  pub named-so : b ≡ true → r ≡ listing (a .named) → r ≡ naming a journal
+  unfolding bookedOr
+  named-so t q = simp (sym e ∙ t) q
+
+  pub unnamed : b ≡ false → r ≡ unlisted NotBooked → r ≡ naming a journal
+  unfolding bookedOr
+  unnamed f q = simp (sym e ∙ f) q
+
+module _ (s : Settings) (votes : List Votes) (journal : List ℕ) (booked : ℕ) (kind : Kind) where
+  pub already-known : (kept : Remembered) → Right s votes journal booked kept → kept .known ≡ true → Found s votes journal booked kind kept
+  already-known kept h t = record { right = h; known = λ _. t }
+
+  pub known-now : (r : JobSet) → r ≡ namedBy s votes journal booked → Found s votes journal booked kind (record { known = true; vaults = r })
+  known-now r q = record { right = record { are = λ _. q }; known = λ _. refl }
+
+  pub not-asked : (kept : Remembered) (b : Bool) → b ≡ isNaming kind → b ≡ false → Right s votes journal booked kept → Found s votes journal booked kind kept
+  not-asked kept b e f h = record { right = h; known = λ t. absurd (true≢false (sym t ∙ (sym e ∙ f))) }
+
+module _ (kept : Remembered) (booked signatures booked′ signatures′ : ℕ) where
+  pub still-known : booked ≡ booked′ → signatures ≡ signatures′ → Still kept booked signatures booked′ signatures′ kept
+  still-known a b = record { same = λ _. (refl, a, b) }
+
+  pub not-known : (r : Remembered) → r ≡ unknownYet → Still kept booked signatures booked′ signatures′ r
+  not-known r e = record { same = λ t. absurd (true≢false (sym t ∙ ap (λ (x : Remembered). x .known) e)) }
+
+pub ruleset names = (named-so, unnamed, already-known, known-now, not-asked, still-known, not-known)
+
+-- ---- one of the three
+module _ (a : Books) (order journal memo : List ℕ) (kind : Kind) (v job : ℕ) (b : Bool) (e : b ≡ isListing kind) (r : Listing) where
+  pub look-required : b ≡ true → r ≡ required a journal v job → Memo (jobAt (a .settings .version) journal (a .booked)) order (a .arrivals) memo
+      → length memo ≡ capacity → Answered a order journal memo (surveyed a order journal kind v job) r
+  look-required t q m z = record { told = q ∙ simp (sym e ∙ t); right = m; size = z }
+
+  module _ (f : b ≡ false) (n : Bool) (d : n ≡ isNaming kind) where
+    pub look-named : n ≡ true → r ≡ naming a journal → Memo (jobAt (a .settings .version) journal (a .booked)) order (a .arrivals) memo
+        → length memo ≡ capacity → Answered a order journal memo (surveyed a order journal kind v job) r
+    look-named t q m z = record { told = q ∙ simp (sym e ∙ f, sym d ∙ t); right = m; size = z }
+
+    pub look-aged : n ≡ false → Answered a order journal memo (alone (aged a order journal job .outcome)) r
+        → Answered a order journal memo (surveyed a order journal kind v job) r
+    look-aged g h = record { told = h .told ∙ simp (sym e ∙ f, sym d ∙ g); right = h .right; size = h .size }
+
+pub ruleset looks = (look-required, look-named, look-aged)

@@ -10,10 +10,13 @@ use Rattle.base.proofs.Reflect.{by-cases}
 use Rattle.codec.specs.Codec.{recordSize}
 use Rattle.outcome.specs.declared.Verdict.{Verdict}
 use Rattle.outcome.specs.declared.Verdict.the-variants.{Fail, Pass}
+use Rattle.outcome.specs.declared.Refusal.the-variants.{NoClient}
+use Rattle.quota.specs.Quota.{isClient}
 use Rattle.sets.specs.Jobs.{jobHas}
 use Rattle.ledger.proofs.Writes.{writes}
-use Rattle.ledger.specs.Decisions.{admissionAt, answering, committing, consent, consenting, gated, isBook, preflighting, proposal}
-use Rattle.ledger.specs.Decisions.{receiving, releasing, snapshotting, supersession, voting}
+use Rattle.ledger.specs.Decisions.{admissionAt, answering, clientPreflighting, committing, consent, consenting}
+use Rattle.ledger.specs.Decisions.{countedConsent, counting, gated, isBook, preflighting, proposal}
+use Rattle.ledger.specs.Decisions.{receiving, refusing, releasing, snapshotting, supersession, voting, withinQuota}
 use Rattle.ledger.specs.Given.{Writable}
 use Rattle.vaults.specs.Vaults.{holding, vaultPreflight}
 use Rattle.ledger.specs.declared.Change.{Change}
@@ -24,8 +27,8 @@ use Rattle.ledger.specs.declared.Decision.{Decision}
 use Rattle.vaults.specs.declared.Vault.{Vault}
 use Rattle.runfile.specs.Steps.{commandIn}
 use Rattle.runfile.specs.declared.Kind.{Kind}
-use Rattle.runfile.specs.declared.Kind.the-variants.{Commit, Draw, FaultyAcknowledge, FaultySign, Generations, Preflight, Propose}
-use Rattle.runfile.specs.declared.Kind.the-variants.{Release, Show, Snapshot, Unknown}
+use Rattle.runfile.specs.declared.Kind.the-variants.{ClientPreflight, Commit, Dependencies, Draw, Equivocating, FaultyAcknowledge, FaultySign, Generations}
+use Rattle.runfile.specs.declared.Kind.the-variants.{Preflight, Propose, Release, Show, Snapshot, Unknown}
 use Rattle.steps.specs.Decided.{decidedBy}
 use Rattle.steps.specs.declared.View.{View}
 
@@ -58,7 +61,21 @@ released : (state : Vault) (version : ℕ) (journal : List ℕ) (booked signers 
 unfolding releasing
 released state version journal booked signers job rival = behind (supersession state version journal booked job rival) _ (record { none = refl })
 
-ruleset quiet = (behind, signed, received, released)
+counted : (c : Consent) (next : Vault) (client history signers v : ℕ) → Bookless (counting c next client history signers v)
+counted Already next client history signers v = record { none = refl }
+counted Fresh next client history signers v = record { none = refl }
+counted (Denied why) next client history signers v = record { none = refl }
+
+requested : (state : Vault) (version : ℕ) (journal : List ℕ) (booked client history signers v job : ℕ)
+    → Bookless (clientPreflighting state version journal booked client history signers v job)
+unfolding clientPreflighting countedConsent
+requested state version journal booked client history signers v job =
+    let admission = admissionAt state version journal booked job in
+    let answer = vaultPreflight state (withinQuota history admission) job in
+    by-cases (λ b. Bookless (cond b (countedConsent state admission client history signers v job) (refusing NoClient))) (isClient client)
+    (λ e. counted (answer .consent) (answer .vault) client history signers v) (λ e. record { none = refl })
+
+ruleset quiet = (behind, signed, received, released, requested)
 
 module _ (w : View) (journal input : List ℕ) (at : ℕ) where
   abbrev version : ℕ
@@ -82,6 +99,9 @@ module _ (w : View) (journal input : List ℕ) (at : ℕ) where
   books Generations = inr (search quiet)
   books Snapshot = inr (search quiet)
   books Release = inr (search quiet)
+  books Dependencies = inr (search quiet)
+  books ClientPreflight = inr (search quiet)
+  books Equivocating = inr (search quiet)
   books Unknown = inr (search quiet)
 
   unbooked : (d : Decision) → Bookless d → Writable (d .change) (w .booked) version journal bytes

@@ -19,7 +19,7 @@ use Rattle.ledger.proofs.Writes.{is-book, unwritten}
 use Rattle.ledger.specs.Decisions.{isBook}
 use Rattle.ledger.specs.Given.{Writable}
 use Rattle.ledger.specs.declared.Change.{Change}
-use Rattle.ledger.specs.declared.Change.the-variants.{Book, Hold, Nothing, Record, Release, See, Sign}
+use Rattle.ledger.specs.declared.Change.the-variants.{Book, Count, Grant, Hold, Nothing, Record, Release, See, Sign}
 use Rattle.steps.specs.Stored.{Stored, bookedAfter}
 
 module _ (change : Change) (r : Bool) (booked at version : ℕ) (journal input : List ℕ) (e : r ≡ isBook change) (t : r ≡ true)
@@ -73,6 +73,8 @@ same-booked (Hold state) r n e t = refl
 same-booked (Release state) r n e t = refl
 same-booked (Record column) r n e t = refl
 same-booked (See seen) r n e t = refl
+same-booked (Count history) r n e t = refl
+same-booked (Grant grant) r n e t = refl
 
 pub unstored : (change : Change) (r : Bool) (booked version : ℕ) (journal bytes numbers sets records : List ℕ) → r ≡ isBook change → r ≡ false
     → Indexed version journal booked numbers sets records → Stored change booked version journal bytes journal numbers sets records

@@ -1,3 +1,4 @@
 pub mod Decided
+pub mod Kept
 pub mod Stored
 pub mod Turned

@@ -7,22 +7,19 @@ use Rattle.codec.specs.Codec.{recordSize}
 use Rattle.generations.specs.Memo.{Memo}
 use Rattle.journal.specs.Journal.{capacity, jobAt}
 use Rattle.ledger.specs.declared.Decision.{Decision}
+use Rattle.ledger.specs.declared.Listing.{Listing}
 use Rattle.runfile.specs.Steps.{commandIn}
-use Rattle.text.specs.Text.{Put, lineFor, longestLine}
-use Rattle.steps.specs.Decided.{decidedBy, surveyed}
+use Rattle.text.specs.Text.{Put, longestText, textFor}
+use Rattle.steps.specs.Decided.{alone, decidedBy, surveyed}
 use Rattle.steps.specs.Stored.{Stored}
 use Rattle.steps.specs.declared.Books.{Books}
 use Rattle.reading.specs.declared.Step.{Step}
 use Rattle.steps.specs.declared.Told.{Told}
 use Rattle.steps.specs.declared.View.{View}
 
--- a step's text is its line, as long as no kind of step lists more
-abbrev pub longestText : ℕ
-longestText = longestLine
-
 -- the step's text stands at the cursor, which moves on to r
-pub record Said (number : ℕ) (d : Decision) (out : List ℕ) (at : ℕ) (out′ : List ℕ) (r : ℕ) : Type 0 where
-  pub text : Put out at (lineFor number (d .outcome)) out′ r
+pub record Said (number : ℕ) (answer : Listing) (out : List ℕ) (at : ℕ) (out′ : List ℕ) (r : ℕ) : Type 0 where
+  pub text : Put out at (textFor number (answer .outcome) (answer .members)) out′ r
   pub short : r ≤ at + longestText
 
 -- what a step decides that was read
@@ -36,11 +33,11 @@ recordIn version input s = take (recordSize version) (drop (s .at) input)
 pub record CarriedOut (input : List ℕ) (s : Step) (w : View) (at : ℕ) (journal out : List ℕ) (r : Told)
     (journal′ numbers′ sets′ records′ out′ : List ℕ) : Type 0 where
   pub change-is : r .change ≡ decisionAt w journal input s .change
-  pub said : Said (s .number) (decisionAt w journal input s) out at out′ (r .at)
+  pub said : Said (s .number) (alone (decisionAt w journal input s .outcome)) out at out′ (r .at)
   pub stored : Stored (r .change) (w .booked) (w .settings .version) journal (recordIn (w .settings .version) input s) journal′ numbers′ sets′ records′
 
 -- a step that looks at all vaults: nothing changes but the memo, which stays right
 pub record Surveyed (a : Books) (s : Step) (at : ℕ) (order journal out memo′ out′ : List ℕ) (r : ℕ) : Type 0 where
-  pub said : Said (s .number) (surveyed a order journal (s .job)) out at out′ r
+  pub said : Said (s .number) (surveyed a order journal (s .kind) (s .vault) (s .job)) out at out′ r
   pub right : Memo (jobAt (a .settings .version) journal (a .booked)) order (a .arrivals) memo′
   pub size : length memo′ ≡ capacity

@@ -1,10 +1,11 @@
 // The parts of a turn of the run: a step is decided, its text written, and its record stored. The ledger's own change is left to the run.
 ghost use Prim.Native.Nat.{_+_, _<_, _≤_};
 ghost use lib.ListN.{length};
-ghost use Rattle.index.specs.Index.{Indexed};
+ghost use Rattle.index.specs.Index.{Indexed, IndexedEntries};
 ghost use Rattle.generations.specs.Memo.{Ready};
 ghost use Rattle.reading.specs.Reading.{Asked};
-ghost use Rattle.steps.specs.Turned.{CarriedOut, Surveyed, longestText};
+ghost use Rattle.steps.specs.Turned.{CarriedOut, Surveyed};
+ghost use Rattle.text.specs.Text.{longestText};
 use crate::Books;
 use crate::Told;
 use crate::View;
@@ -71,12 +72,14 @@ pub fn survey(
     at: usize,
 ) -> usize
     requires { ⌜ (books .settings .n ≤ 16)
+        × IndexedEntries (books .settings .version) (now journal) (books .booked) (now numbers) (now sets)
         × Ready (books .settings .version) (now journal) (books .booked) (now numbers) (now sets) (now order) (books .arrivals) (now memo)
         × (step .number < 1000000)
         × (at + longestText ≤ length (now out)) ⌝ }
     ensures { λ r. ⌜ Surveyed books step at (now (order .entry)) (now (journal .entry)) (now (out .entry))
         (now (memo .exit)) (now (out .exit)) r ⌝ }
 {
-    let outcome = deciding::age(books, order, numbers, sets, journal, memo, step.job);
-    text::write_line(out, at, step.number, outcome)
+    let listing = deciding::look(step, books, order, numbers, sets, journal, memo);
+    let outcome = listing.outcome;
+    text::write_text(out, at, step.number, outcome, listing.members)
 }

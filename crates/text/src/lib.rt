@@ -1,15 +1,17 @@
-// What is printed for a step: its line, in decimal.
+// What is printed for a step: its line, in decimal, and the numbers that it lists.
 mod digits;
+mod listing;
 
 ghost use mathlib.Core.Path.{_≡_};
 ghost use Prim.Native.Nat.{_+_, _<_, _≤_};
 ghost use lib.ListN.{length};
-ghost use Rattle.text.specs.Text.{Put, lineFor, lineOf, longestLine};
+ghost use Rattle.text.specs.Text.{Put, lineFor, lineOf, longestLine, longestText, textFor};
 pub use digits::write_number;
 use outcome::Outcome;
+use sets::JobSet;
 
-// No line has more bytes.
-pub const LONGEST: usize = 23;
+// No text of a step has more bytes: a line, and a list of 128 numbers.
+pub const LONGEST: usize = 663;
 
 fn wide(x: u8) -> u32
     ensures { λ r. ⌜ (r ≡ x) × (r < 256) ⌝ }
@@ -35,4 +37,13 @@ pub fn write_line(out: &mut [u8], at: usize, step: u32, outcome: Outcome) -> usi
     ensures { λ r. ⌜ Put (now (out .entry)) at (lineFor step outcome) (now (out .exit)) r × (r ≤ at + longestLine) ⌝ }
 {
     write_figures(out, at, step, wide(outcome.number()), outcome.value())
+}
+
+// The text of a step: its line, and the numbers that it lists.
+pub fn write_text(out: &mut [u8], at: usize, step: u32, outcome: Outcome, members: JobSet) -> usize
+    requires { ⌜ (step < 1000000) × (at + longestText ≤ length (now out)) ⌝ }
+    ensures { λ r. ⌜ Put (now (out .entry)) at (textFor step outcome members) (now (out .exit)) r × (r ≤ at + longestText) ⌝ }
+{
+    let end = write_line(out, at, step, outcome);
+    listing::write_list(out, end, members)
 }

@@ -1,6 +1,8 @@
 //! Jobs that can't both be done, and faulty vaults that sign them all.
 
 use super::build::Builder;
+use super::dependencies::ask_around;
+use super::equivocation::sign_for_rivals;
 use super::records::*;
 use super::releases::{outvote, release_around};
 use super::traffic::{look_at_all, odd_commit, repeat};
@@ -186,6 +188,7 @@ fn contest(builder: &mut Builder, rivals: &[Bytes]) {
     if builder.random.chance(30) {
         outvote(builder, &jobs);
         release_around(builder, &jobs);
+        sign_for_rivals(builder, &jobs);
         return settle(builder, &jobs);
     }
     let first = jobs[0];
@@ -208,6 +211,7 @@ fn contest(builder: &mut Builder, rivals: &[Bytes]) {
         }
     }
     hopeful_commits(builder, &jobs, &asked);
+    sign_for_rivals(builder, &jobs);
     settle(builder, &jobs);
 }
 
@@ -233,6 +237,9 @@ fn settle(builder: &mut Builder, jobs: &[u8]) {
     }
     if builder.random.chance(60) {
         release_around(builder, jobs);
+    }
+    if builder.random.chance(40) {
+        ask_around(builder, jobs);
     }
     for job in jobs {
         builder.sign_around(*job, 60);

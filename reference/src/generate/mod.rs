@@ -4,9 +4,12 @@
 
 mod build;
 mod chains;
+mod clients;
 mod conflicts;
 mod damage;
+mod dependencies;
 mod edges;
+mod equivocation;
 mod orphans;
 mod records;
 mod releases;

@@ -1,6 +1,7 @@
 //! Commits at vaults that lack the parent, then preflights there.
 
 use super::build::Builder;
+use super::dependencies::ask_around;
 use super::records::*;
 use super::traffic::look_at_all;
 use crate::record::Tape;
@@ -80,6 +81,7 @@ fn after(builder: &mut Builder, parent: u8, child: u8, without: &[u8]) {
         }
     }
     builder.random.shuffle(&mut jobs);
+    ask_around(builder, &jobs);
     for job in &jobs {
         for vault in without {
             let _ = builder.sign(*vault, *job);

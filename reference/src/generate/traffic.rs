@@ -1,6 +1,9 @@
 //! Traffic that makes sense, with its repeats and small mistakes.
 
 use super::build::Builder;
+use super::clients::{busy_client, odd_request};
+use super::dependencies::{odd_question, scattered};
+use super::equivocation::ask;
 use super::records::{new_accession, new_migration, some_tapes};
 use super::releases::odd_release;
 use crate::settings::MOST_VAULTS;
@@ -17,7 +20,7 @@ pub fn traffic(builder: &mut Builder) {
 
 pub fn action(builder: &mut Builder) {
     let job = recent_job(builder);
-    match builder.random.below(26) {
+    match builder.random.below(31) {
         0..=2 => {
             let record = new_accession(builder);
             builder.push(record);
@@ -42,6 +45,11 @@ pub fn action(builder: &mut Builder) {
         17 => misplaced(builder, job),
         18 | 19 => visit(builder),
         20 => odd_release(builder, job),
+        21..=23 => odd_question(builder, job),
+        24 => scattered(builder),
+        25 => odd_request(builder, job),
+        26 if builder.random.chance(40) => busy_client(builder),
+        27 => ask(builder),
         _ => look(builder, job),
     }
 }

@@ -13,7 +13,7 @@ pub fn wild(builder: &mut Builder) {
         let mut last: Vec<u8> = (0..builder.random.below(6))
             .map(|_| builder.random.byte())
             .collect();
-        let unknown = KINDS.len() as u8 + 1;
+        let unknown = KINDS[KINDS.len() - 1].0 + 1;
         let kinds = [0, 1, 2, 3, unknown, unknown + 1, 128, 255];
         last.insert(0, *builder.random.pick(&kinds));
         builder.bytes.extend(last);
@@ -58,7 +58,7 @@ fn any_step(builder: &mut Builder) -> Step {
             builder.random.below(bound + 1) as u8
         }
     };
-    let first = if kind < kind::SHOW || kind == kind::RELEASE {
+    let first = if kind < kind::SHOW || kind >= kind::RELEASE {
         near(builder, n)
     } else {
         near(builder, booked.max(n))
@@ -71,10 +71,10 @@ fn any_step(builder: &mut Builder) -> Step {
         _ => builder.random.word() as u16 & builder.random.word() as u16,
     };
     let [low, high] = signers.to_le_bytes();
-    let third = if kind == kind::RELEASE {
-        near(builder, booked)
-    } else {
-        low
+    let third = match kind {
+        kind::RELEASE => near(builder, booked),
+        kind::CLIENT_PREFLIGHT => near(builder, 8),
+        _ => low,
     };
     let bytes = [kind, first, job, third, high];
     decode(builder.version(), &bytes)

@@ -1,6 +1,6 @@
 use Rattle.books.proofs.apply.Statement.{statement}
 use Rattle.books.proofs.apply.Tie as tie
-use Rattle.ledger.specs.State.{applied, booking, visited, voted, withVault}
+use Rattle.ledger.specs.State.{applied, booking, counted, visited, voted, withVault}
 use borrow.Author.Needs.{needs}
 
 returns : tie.Need-returns
@@ -31,11 +31,23 @@ returns-7 : tie.Need-returns-7
 unfolding applied visited
 returns-7 c = simp (c .before .before .change5 .given .1, c .following .ensures)
 
+returns-8 : tie.Need-returns-8
+unfolding applied counted
+returns-8 c = simp (c .before .before .change6 .given .1, c .place .ensures .0)
+
+returns-9 : tie.Need-returns-9
+unfolding applied counted voted withVault
+returns-9 c =
+    let told = c .before .before .before .before in
+    simp (told .before .change7 .given .1, c .with4 .ensures, c .before .place2 .ensures .0)
+
 pub apply-spec : {M : Type 1} → statement M
 apply-spec =
     tie.close
     (tie.spec (λ c. search needs) (λ c. search needs) (λ c. search needs) (λ c. search needs) (λ c. search needs) (λ c. search needs)
     (λ c. search needs) (λ c. search needs) (λ c κs. search needs) (λ c. search needs) (λ c. search needs) (λ c. search needs) (λ c. search needs)
     (λ c. search needs) (λ c κs. search needs) (λ c. search needs) (λ c. search needs) (λ c κs. search needs) (λ c. search needs) (λ c. search needs)
-    (λ c. search needs) (λ c. search needs) (λ c κs. search needs) (λ c. search needs) (λ c. search needs) (λ c. search needs)
-    (λ c κs. search (needs)) returns returns-2 returns-3 returns-4 returns-5 returns-6 returns-7)
+    (λ c. search needs) (λ c. search needs) (λ c κs. search needs) (λ c. search needs) (λ c. search needs) (λ c. search needs) (λ c κs. search needs)
+    (λ c. search needs) (λ c κs. search needs) (λ c. search needs) (λ c. search needs) (λ c. search needs) (λ c κs. search needs) (λ c. search needs)
+    (λ c. search needs) (λ c κs. search needs) (λ c. search needs) (λ c. search needs) (λ c. search needs) (λ c. search needs) returns returns-2
+    returns-3 returns-4 returns-5 returns-6 returns-7 returns-8 returns-9)

@@ -23,4 +23,5 @@ figures-spec =
     (λ c. search by) (λ c. search by) (λ c. search by) (λ c. search by) (λ c. search by) (λ c. search by) (λ c. search by) (λ c. search by)
     (λ c. search by) (λ c. search by) (λ c. search by) (λ c. search by) (λ c. search by) (λ c. search by) (λ c. search by) (λ c. search by)
     (λ c. search by) (λ c. search by) (λ c. search by) (λ c. search by) (λ c. search by) (λ c. search by) (λ c. search by) (λ c. search by)
-    (λ c. search by) (λ c. search by) (λ c. search by) (λ c. search by) (λ c. search by) (λ c. search by) (λ c. search by))
+    (λ c. search by) (λ c. search by) (λ c. search by) (λ c. search by) (λ c. search by) (λ c. search by) (λ c. search by)
+    (λ c. search by) (λ c. search by) (λ c. search by) (λ c. search by) (λ c. search by) (λ c. search by))

@@ -14,5 +14,6 @@ decide-spec =
     (λ c κs. search by) (λ c. search by) (λ c κs. search by) (λ c κs. search by) (λ c. search by) (λ c κs. search by) (λ c κs. search by)
     (λ c. search by) (λ c κs. search by) (λ c. search by) (λ c κs. search by) (λ c. search by) (λ c κs. search by) (λ c. search by)
     (λ c κs. search by) (λ c. search by) (λ c κs. search by) (λ c. search by) (λ c κs. search by) (λ c. search by) (λ c κs. search by)
-    (λ c. search by) (λ c. search by) (λ c. search by) (λ c. search by) (λ c. search by) (λ c. search by) (λ c. search by) (λ c. search by)
-    (λ c. search by) (λ c. search by) (λ c. search by))
+    (λ c. search by) (λ c κs. search by) (λ c. search by) (λ c κs. search by) (λ c κs. search by) (λ c. search by) (λ c κs. search by)
+    (λ c. search by) (λ c κs. search by) (λ c. search by) (λ c. search by) (λ c. search by) (λ c. search by) (λ c. search by) (λ c. search by)
+    (λ c. search by) (λ c. search by) (λ c. search by) (λ c. search by) (λ c. search by) (λ c. search by) (λ c. search by) (λ c. search by))
