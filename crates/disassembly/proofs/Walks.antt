@@ -10,14 +10,14 @@ use borrow.Author.Tests.{le-leb, lt-leb}
 use Rattle.rows.specs.Table.{row}
 use Rattle.rows.specs.Writing.{textBy}
 use Rattle.runfile.specs.Run.{longest, opens, opensUpTo, versionIn}
-use Rattle.runfile.specs.declared.Kind.{Kind}
+use Rattle.runfile.specs.Steps.{isUnknown, kindAt}
 use Rattle.text.proofs.Writing.{then}
 use Rattle.text.specs.Text.{Put}
 use Rattle.reading.specs.Reading.{Read}
 use Rattle.reading.specs.declared.Step.{Step}
 use Rattle.notation.proofs.Views.{opened-of}
 use Rattle.notation.specs.Lines.{lineOf}
-use Rattle.notation.specs.Files.{headerLine, isKnown, sayable, wholeFrom}
+use Rattle.notation.specs.Files.{headerLine, sayable, wholeFrom}
 use Rattle.disassembly.specs.Rows.{LineAt, Stands}
 use Rattle.disassembly.specs.declared.Line.{Line}
 
@@ -42,20 +42,20 @@ module _ {version : ℕ} {input : List ℕ} where
       unfolding wholeFrom
       walk-over h = sym (lead ∙ rw (le-leb (length input) pos h)) ∙ now .same
 
-      module _ (here : pos < length input) (s : Step) (read : Read version input pos 0 s) (b : Bool) (is : b ≡ isKnown (s .kind)) where
-        known : b ≡ isKnown (Rattle.runfile.specs.Steps.kindAt version input pos)
-        known = is ∙ ap isKnown (read .kind-is)
+      module _ (here : pos < length input) (s : Step) (read : Read version input pos 0 s) (b : Bool) (is : b ≡ isUnknown (s .kind)) where
+        unknown : isUnknown (kindAt version input pos) ≡ b
+        unknown = sym (is ∙ ap isUnknown (read .kind-is))
 
-        pub walk-turn : b ≡ true → Walking version input (left - 1) (s .end)
+        pub walk-turn : b ≡ false → Walking version input (left - 1) (s .end)
         unfolding wholeFrom
-        walk-turn t = record {
-          same = sym (lead ∙ rw (lt-leb (length input) pos here, sym known ∙ t, sym (read .end-is))) ∙ now .same;
+        walk-turn f = record {
+          same = sym (lead ∙ rw (lt-leb (length input) pos here, unknown ∙ f, sym (read .end-is))) ∙ now .same;
           inside = read .inside;
         }
 
-        pub walk-stop : b ≡ false → false ≡ wholeFrom (length input) version input 9
+        pub walk-stop : b ≡ true → false ≡ wholeFrom (length input) version input 9
         unfolding wholeFrom
-        walk-stop f = sym (lead ∙ rw (lt-leb (length input) pos here, sym known ∙ f)) ∙ now .same
+        walk-stop t = sym (lead ∙ rw (lt-leb (length input) pos here, unknown ∙ t)) ∙ now .same
 
 pub ruleset walks = (walk-begun, walk-none, walk-over, walk-turn, walk-stop)
 

@@ -7,12 +7,11 @@ ghost use mathlib.Core.Path.{_≡_};
 ghost use Prim.Native.Nat.{_+_, _-_, _<_, _≤_};
 ghost use lib.ListN.{drop, length, take};
 ghost use Rattle.disassembly.specs.Rows.{LineAt, longestLine};
-ghost use Rattle.notation.specs.Files.{headerLine, isKnown, sayable, wholeFrom};
+ghost use Rattle.notation.specs.Files.{headerLine, sayable, wholeFrom};
 ghost use Rattle.notation.specs.Lines.{lineOf};
 ghost use Rattle.runfile.specs.Run.{longest, opens, versionIn};
 ghost use Rattle.text.specs.Text.{Put};
 ghost use Rattle.words.specs.Room.{rowRoom};
-use runfile::Kind;
 
 // A buffer of this size takes any line: two hundred characters for each of the longest row, and the line's end.
 pub const LINE: usize = 36001;
@@ -61,24 +60,6 @@ pub fn header_line(input: &[u8], buffer: &mut [u8], out: &mut [u8]) -> usize
     put_end(out, end)
 }
 
-fn is_known(kind: Kind) -> bool
-    ensures { λ r. ⌜ r ≡ isKnown kind ⌝ }
-{
-    match kind {
-        Kind::Propose => true,
-        Kind::Preflight => true,
-        Kind::Commit => true,
-        Kind::FaultySign => true,
-        Kind::FaultyAcknowledge => true,
-        Kind::Show => true,
-        Kind::Draw => true,
-        Kind::Generations => true,
-        Kind::Snapshot => true,
-        Kind::Release => true,
-        Kind::Unknown => false,
-    }
-}
-
 // No step is answered 2.
 fn is_whole(input: &[u8], version: u16) -> bool
     requires { ⌜ (9 ≤ length (now input)) × (length (now input) ≤ longest) ⌝ }
@@ -93,11 +74,10 @@ fn is_whole(input: &[u8], version: u16) -> bool
         left -= 1;
         let step = reading::step_at(version, input, pos, 0);
         let kind = step.kind;
-        if is_known(kind) {
-            pos = step.end;
-            continue;
+        if reading::is_unknown(kind) {
+            return false;
         }
-        return false;
+        pos = step.end;
     }
     input.len() <= pos
 }

@@ -45,23 +45,23 @@ module _ {text before after : List ℕ} {end : ℕ} {r : Parsed} (at : ℕ) wher
     by-row : (p : Said) → stepRead version (drop at text) ≡ p → ReadTo p text end before after r → ReadTo (stepRead version (drop at text)) text end before after r
     by-row p e d = rw e d
 
-    pub shape-chosen : (s : Shape) → s ≡ scan (unseen k) (drop at text) → 2 ≤ k → k ≤ 3 → k < 14 → ReadTo (proposalRead version k s (drop at text)) text end before after r
+    pub shape-chosen : (s : Shape) → s ≡ scan (unseen k) (drop at text) → 2 ≤ k → k ≤ 3 → k < rows → ReadTo (proposalRead version k s (drop at text)) text end before after r
         → ReadTo (stepRead version (drop at text)) text end before after r
     unfolding stepRead
     shape-chosen s e a b c d =
         by-row (proposalRead version k s (drop at text))
-        (rw (sym is, lt-leb 14 k c, le-ltb k 2 a, le-leb k 3 b, sym e)) d
+        (rw (sym is, lt-leb rows k c, le-ltb k 2 a, le-leb k 3 b, sym e)) d
 
     pub raw-chosen : k ≡ 4 → ReadTo (readBy (rawRow version) (drop at text)) text end before after r → ReadTo (stepRead version (drop at text)) text end before after r
     unfolding stepRead
     raw-chosen e d = by-row (readBy (rawRow version) (drop at text)) (rw (sym is, e)) d
 
-    pub own-chosen : 3 < k → k < 14 → (k ≡ 4 → ⊥) → ReadTo (readBy (row k) (drop at text)) text end before after r
+    pub own-chosen : 3 < k → k < rows → (k ≡ 4 → ⊥) → ReadTo (readBy (row k) (drop at text)) text end before after r
         → ReadTo (stepRead version (drop at text)) text end before after r
     unfolding stepRead
     own-chosen a b c d =
         let two : 2 ≤ k = omega arith in
-        by-row (readBy (row k) (drop at text)) (rw (sym is, lt-leb 14 k b, le-ltb k 2 two, lt-leb k 3 a, ne-eqb k 4 c)) d
+        by-row (readBy (row k) (drop at text)) (rw (sym is, lt-leb rows k b, le-ltb k 2 two, lt-leb k 3 a, ne-eqb k 4 c)) d
 
 module _ (text out : List ℕ) (at end : ℕ) (r : Parsed) (h : at ≤ length text) (g : end ≤ length out) where
   pub many-inputs : (version k : ℕ) (s : Shape) → 4 < s .inputs → r ≡ record { reason = 9; next = at; end = end }
@@ -74,14 +74,14 @@ module _ (text out : List ℕ) (at end : ℕ) (r : Parsed) (h : at ≤ length te
   unfolding proposalRead
   many-outputs version k s l e = rw (e, lt-leb (s .outputs) 4 l, and-false (leb (s .inputs) 4)) (not-read text out at end tooMany h g)
 
-  pub no-word : (version k : ℕ) → k ≡ rowFor (drop at text) → 14 ≤ k → r ≡ record { reason = 7; next = at; end = end }
+  pub no-word : (version k : ℕ) → k ≡ rowFor (drop at text) → rows ≤ k → r ≡ record { reason = 7; next = at; end = end }
       → ReadTo (stepRead version (drop at text)) text end out out r
   unfolding stepRead
-  no-word version k is l e = rw (e, sym is, le-leb 14 k l) (not-read text out at end noWord h g)
+  no-word version k is l e = rw (e, sym is, le-leb rows k l) (not-read text out at end noWord h g)
 
-  pub second-header : (version k : ℕ) → k ≡ rowFor (drop at text) → k < 14 → k < 2 → r ≡ record { reason = 10; next = at; end = end }
+  pub second-header : (version k : ℕ) → k ≡ rowFor (drop at text) → k < rows → k < 2 → r ≡ record { reason = 10; next = at; end = end }
       → ReadTo (stepRead version (drop at text)) text end out out r
   unfolding stepRead
-  second-header version k is l m e = rw (e, sym is, lt-leb 14 k l, lt-ltb k 2 m) (not-read text out at end secondHeader h g)
+  second-header version k is l m e = rw (e, sym is, lt-leb rows k l, lt-ltb k 2 m) (not-read text out at end secondHeader h g)
 
 pub ruleset reads = (few-read, shape-chosen, raw-chosen, own-chosen, many-inputs, many-outputs, no-word, second-header)

@@ -101,33 +101,33 @@ pub ruleset comparisons = (compare-begun, compare-end, compare-hidden, compare-s
 -- ---- the table
 pub record Looking (l : List ℕ) (k : ℕ) : Type 0 where
   pub same : k + firstOf (drop k table) l ≡ rowFor l
-  pub within : k ≤ 14
+  pub within : k ≤ rows
 
 pub look-begun : (l : List ℕ) → Looking l 0
 unfolding rowFor
 look-begun l = record { same = omega arith; within = omega arith }
 
 module _ {l : List ℕ} {k : ℕ} (now : Looking l k) where
-  row-first : k < 14 → firstOf (drop k table) l ≡ cond (begins (row k) l) 0 (suc (firstOf (drop (k + 1) table) l))
+  row-first : k < rows → firstOf (drop k table) l ≡ cond (begins (row k) l) 0 (suc (firstOf (drop (k + 1) table) l))
   unfolding firstOf row
   row-first h =
       let e : k + 1 ≡ suc k = omega arith in
       rw e (ap (λ (t : List (List ℕ)). firstOf t l) (drop-cons table k [] h))
 
-  pub look-found : (b : Bool) (s : List ℕ) → k < 14 → s ≡ row k → b ≡ begins s l → b ≡ true → k ≡ rowFor l
+  pub look-found : (b : Bool) (s : List ℕ) → k < rows → s ≡ row k → b ≡ begins s l → b ≡ true → k ≡ rowFor l
   look-found b s h q e t =
       let z : firstOf (drop k table) l ≡ 0 = row-first h ∙ rw (ap (λ (r : List ℕ). begins r l) (sym q) ∙ sym e ∙ t) in
       omega (arith, now .same, z)
 
-  pub look-next : (b : Bool) (s : List ℕ) → k < 14 → s ≡ row k → b ≡ begins s l → b ≡ false → Looking l (k + 1)
+  pub look-next : (b : Bool) (s : List ℕ) → k < rows → s ≡ row k → b ≡ begins s l → b ≡ false → Looking l (k + 1)
   look-next b s h q e t =
       let z : firstOf (drop k table) l ≡ suc (firstOf (drop (k + 1) table) l) = row-first h ∙ rw (ap (λ (r : List ℕ). begins r l) (sym q) ∙ sym e ∙ t) in
       record { same = omega (arith, now .same, z); within = omega arith }
 
-  pub look-none : 14 ≤ k → 14 ≡ rowFor l
+  pub look-none : rows ≤ k → rows ≡ rowFor l
   unfolding firstOf
   look-none h =
-      let e : k ≡ 14 = omega arith in
+      let e : k ≡ rows = omega arith in
       rw e at (now .same)
 
 -- what was put at the front of a buffer

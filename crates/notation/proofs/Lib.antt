@@ -1,4 +1,5 @@
 pub mod FileIn
+pub mod Lengths
 pub mod RoundTrips
 pub mod Shapes
 pub mod Sound

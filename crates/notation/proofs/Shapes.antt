@@ -17,8 +17,9 @@ use Rattle.codec.specs.Codec.{AreBytes, leAt, recordSize, saysTrimmed}
 use Rattle.rows.proofs.RoundTrip.{row-in}
 use Rattle.rows.specs.Items.{Form, between, constant, fitsAs, formOf, hexadecimal, isPlain, literal, members, number, plain, textAs, width}
 use Rattle.rows.specs.Table.{accession, half, letters, migration, row, shaped, times, trimmedRow}
-use Rattle.rows.specs.Writing.{endsNext, fits, readable, textBy, widths}
+use Rattle.rows.specs.Writing.{endsNext, fits, longestBy, readable, textBy, widths}
 use Rattle.text.specs.Text.{decimal, digits}
+use Rattle.notation.specs.Files.{perByte}
 use Rattle.notation.specs.Lines.{closes, counted, mark, proposalRead, scan, unseen}
 use Rattle.notation.specs.declared.Shape.{Shape}
 
@@ -132,17 +133,21 @@ all-good : ℕ → ℕ → Bool
 all-good version trimmed =
     allBelow 5 (λ o. isGood version accession 0 o trimmed) && allBelow 5 (λ i. allBelow 5 (λ o. isGood version migration i o trimmed))
 
--- and any proposal's row has the bytes of a record
-all-wide : ℕ → ℕ → Bool
-all-wide version trimmed =
-    allBelow 2 (λ m. allBelow 5 (λ i. allBelow 5 (λ o. eqb (widths (shaped version (accession + m) i o trimmed)) (recordSize version + 1))))
+-- and any proposal's row has the bytes of a step, and not too many characters for them
+isSized : ℕ → ℕ → ℕ → ℕ → ℕ → Bool
+isSized version trimmed m i o =
+    let r = shaped version (accession + m) i o trimmed in
+    eqb (widths r) (recordSize version + 1) && ltb (longestBy r) (perByte * (recordSize version + 1))
+
+all-sized : ℕ → ℕ → Bool
+all-sized version trimmed = allBelow 2 (λ m. allBelow 5 (λ i. allBelow 5 (λ o. isSized version trimmed m i o)))
 
 checked : (allBelow 2 (all-good 1) && allBelow 2 (all-good 2)) ≡ true
 unfolding all-good isGood allBelow sameList shaped half times trimmedRow row saysTrimmed simple readable endsNext marks formOf unseen mark counted closes between
 checked = refl
 
-measured : (allBelow 2 (all-wide 1) && allBelow 2 (all-wide 2)) ≡ true
-unfolding all-wide allBelow shaped half times trimmedRow row saysTrimmed recordSize widths formOf
+measured : (allBelow 2 (all-sized 1) && allBelow 2 (all-sized 2)) ≡ true
+unfolding all-sized isSized allBelow shaped half times trimmedRow row saysTrimmed recordSize widths longestBy formOf
 measured = refl
 
 -- only whether any frames are trimmed counts
@@ -207,14 +212,23 @@ module _ (version trimmed : ℕ) (v : Version version) where
         let look : scan (unseen k) (textBy r s ++ (10 ∷ t)) ≡ x = scan-row r s (unseen k) (10 ∷ t) fr (a .0) ∙ at-end x t in
         rw (e, look, d .0, same) (row-in r s (10 ∷ t) b nr fr (c .0) refl)
 
-  -- a record's bytes, and the step's kind
-  pub wide : (m i o : ℕ) → m < 2 → i ≤ 4 → o ≤ 4 → widths (shaped version (accession + m) i o trimmed) ≡ recordSize version + 1
-  unfolding all-wide
-  wide m i o h p q =
-      let r : ℕ → ℕ → ℕ → Bool = λ m i o. eqb (widths (shaped version (accession + m) i o (said trimmed))) (recordSize version + 1) in
-      rw (shaped-said version (accession + m) i o trimmed)
-      (eqb-true _ _
-      (all-at (r m i) 5
-      (all-at (λ i. allBelow 5 (r m i)) 5
-      (all-at (λ m. allBelow 5 (λ i. allBelow 5 (r m i))) 2 (in-table all-wide measured version (said trimmed) v (said-lt trimmed)) m h) i (omega arith))
-      o (omega arith)))
+  module _ (m i o : ℕ) (h : m < 2) (p : i ≤ 4) (q : o ≤ 4) where
+    sized : isSized version (said trimmed) m i o ≡ true
+    unfolding all-sized
+    sized =
+        let r = isSized version (said trimmed) in
+        all-at (r m i) 5
+        (all-at (λ i. allBelow 5 (r m i)) 5
+        (all-at (λ m. allBelow 5 (λ i. allBelow 5 (r m i))) 2 (in-table all-sized measured version (said trimmed) v (said-lt trimmed)) m h) i (omega arith))
+        o (omega arith)
+
+    -- a record's bytes, and the step's kind
+    pub wide : widths (shaped version (accession + m) i o trimmed) ≡ recordSize version + 1
+    unfolding isSized
+    wide = rw (shaped-said version (accession + m) i o trimmed) (eqb-true _ _ (and-true _ _ sized .0))
+
+    pub brief : longestBy (shaped version (accession + m) i o trimmed) < perByte * (recordSize version + 1)
+    unfolding isSized
+    brief =
+        let r = shaped version (accession + m) i o (said trimmed) in
+        rw (shaped-said version (accession + m) i o trimmed) (ltb-true _ _ (and-true (eqb (widths r) (recordSize version + 1)) _ sized .1))

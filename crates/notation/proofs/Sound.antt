@@ -43,10 +43,10 @@ by-row version c r is l e h k n f =
     record { are = read-bytes r l; known = rw b k; size = rw b (read-size r l f ∙ n) }
 
 -- the rows of the kinds from 2 on
-by-own : (P : ℕ → Type 0) → P 5 → P 6 → P 7 → P 8 → P 9 → P 10 → P 11 → P 12 → P 13 → (k : ℕ) → 4 < k → k < rows → P k
-by-own P p5 p6 p7 p8 p9 p10 p11 p12 p13 k h g =
-    is 5 h p5 (λ a. is 6 a p6 (λ b. is 7 b p7 (λ c. is 8 c p8 (λ d. is 9 d p9 (λ e. is 10 e p10 (λ f. is 11 f p11 (λ i. is 12 i p12 (λ j. is 13 j p13 (λ l.
-    absurd (omega arith))))))))))
+by-own : (P : ℕ → Type 0) → P 5 → P 6 → P 7 → P 8 → P 9 → P 10 → P 11 → P 12 → P 13 → P 14 → P 15 → P 16 → (k : ℕ) → 4 < k → k < rows → P k
+by-own P p5 p6 p7 p8 p9 p10 p11 p12 p13 p14 p15 p16 k h g =
+    is 5 h p5 (λ a. is 6 a p6 (λ b. is 7 b p7 (λ c. is 8 c p8 (λ d. is 9 d p9 (λ e. is 10 e p10 (λ f. is 11 f p11 (λ i. is 12 i p12 (λ j. is 13 j p13
+    (λ l. is 14 l p14 (λ m. is 15 m p15 (λ o. is 16 o p16 (λ q. absurd (omega arith)))))))))))))
   where
     is : (n : ℕ) → n ≤ k → P n → (suc n ≤ k → P k) → P k
     is n l p f = by-test (eqb k n) (λ e. rw (eqb-true k n e) p) (λ e. f (omega (arith, eqb-false k n e)))
@@ -63,6 +63,8 @@ module _ (version : ℕ) (v : Version version) (l : List ℕ) where
       (by-row version 5 (row 8) _ l refl (omega arith) refl refl) (by-row version 6 (row 9) _ l refl (omega arith) refl refl)
       (by-row version 7 (row 10) _ l refl (omega arith) refl refl) (by-row version 8 (row 11) _ l refl (omega arith) refl refl)
       (by-row version 9 (row 12) _ l refl (omega arith) refl refl) (by-row version 10 (row 13) _ l refl (omega arith) refl refl)
+      (by-row version 11 (row 14) _ l refl (omega arith) refl refl) (by-row version 12 (row 15) _ l refl (omega arith) refl refl)
+      (by-row version 13 (row 16) _ l refl (omega arith) refl refl)
 
   raw-fine : Version version → Fine (readBy (rawRow version) l)
   unfolding rawRow row widths formOf kindOf times recordSize saysTrimmed

@@ -23,11 +23,13 @@ use Rattle.notation.specs.Lines.{begins, closes, firstOf, hasShape, line
 use Rattle.notation.proofs.Shapes.{Version, good-accession, good-migration, proposal-in, said, wide}
 
 -- what is true of each kind is true of all that are known
-pub by-kind : (P : ℕ → Type 0) → P 1 → P 2 → P 3 → P 4 → P 5 → P 6 → P 7 → P 8 → P 9 → P 10 → (b : ℕ) → isKnown (kindOf b) ≡ true → P b
+pub by-kind : (P : ℕ → Type 0) → P 1 → P 2 → P 3 → P 4 → P 5 → P 6 → P 7 → P 8 → P 9 → P 10 → P 11 → P 12 → P 13 → (b : ℕ)
+    → isKnown (kindOf b) ≡ true → P b
 unfolding kindOf
-by-kind P p1 p2 p3 p4 p5 p6 p7 p8 p9 p10 b h =
-    is 1 p1 (λ e1. is 2 p2 (λ e2. is 3 p3 (λ e3. is 4 p4 (λ e4. is 5 p5 (λ e5. is 6 p6 (λ e6. is 7 p7 (λ e7. is 8 p8 (λ e8. is 9 p9 (λ e9. is 10 p10 (λ e10.
-    absurd (true≢false (sym h ∙ simp (e1, e2, e3, e4, e5, e6, e7, e8, e9, e10)))))))))))))
+by-kind P p1 p2 p3 p4 p5 p6 p7 p8 p9 p10 p11 p12 p13 b h =
+    is 1 p1 (λ e1. is 2 p2 (λ e2. is 3 p3 (λ e3. is 4 p4 (λ e4. is 5 p5 (λ e5. is 6 p6 (λ e6. is 7 p7 (λ e7. is 8 p8 (λ e8. is 9 p9 (λ e9. is 10 p10
+    (λ e10. is 11 p11 (λ e11. is 12 p12 (λ e12. is 13 p13 (λ e13.
+    absurd (true≢false (sym h ∙ simp (e1, e2, e3, e4, e5, e6, e7, e8, e9, e10, e11, e12, e13))))))))))))))))
   where
     is : (k : ℕ) → P k → (eqb b k ≡ false → P b) → P b
     is k p f = by-test (eqb b k) (λ e. rw (eqb-true b k e) p) f
@@ -218,3 +220,9 @@ module _ (version : ℕ) (v : Version version) (t : List ℕ) where
       (word-of 12 (letters "\tsnapshot") [] (9 ∷ body) t refl (record { row-is = refl; start = refl; stays = refl })))
       (λ body bs n. row-read 13 (10 ∷ body) refl refl refl refl refl refl bs n
       (word-of 13 (letters "\nrelease ") (letters "vault # job # rival #") (10 ∷ body) t refl (record { row-is = refl; start = refl; stays = refl })))
+      (λ body bs n. row-read 14 (11 ∷ body) refl refl refl refl refl refl bs n
+      (word-of 14 (letters "\u{b}dependencies ") (letters "vault # job #") (11 ∷ body) t refl (record { row-is = refl; start = refl; stays = refl })))
+      (λ body bs n. row-read 15 (12 ∷ body) refl refl refl refl refl refl bs n
+      (word-of 15 (letters "\u{c}client-preflight ") (letters "vault # job # client #") (12 ∷ body) t refl (record { row-is = refl; start = refl; stays = refl })))
+      (λ body bs n. row-read 16 (13 ∷ body) refl refl refl refl refl refl bs n
+      (word-of 16 (letters "\requivocating") [] (13 ∷ body) t refl (record { row-is = refl; start = refl; stays = refl })))

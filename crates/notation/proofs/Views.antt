@@ -15,8 +15,8 @@ use Rattle.federation.specs.Federation.{isKnown as isKnownVersion, isLawfulUpTo
 use Rattle.runfile.specs.Run.{isHeader, longest, opened, opens, opensUpTo, versionIn}
 use Rattle.runfile.specs.Steps.{bodySize, endOf, kindAt, kindOf, nextAt, wordAt}
 use Rattle.runfile.specs.declared.Kind.{Kind}
-use Rattle.runfile.specs.declared.Kind.the-variants.{Commit, Draw, FaultyAcknowledge, FaultySign, Generations, Preflight, Propose}
-use Rattle.runfile.specs.declared.Kind.the-variants.{Release, Show, Snapshot, Unknown}
+use Rattle.runfile.specs.declared.Kind.the-variants.{ClientPreflight, Commit, Dependencies, Draw, Equivocating, FaultyAcknowledge, FaultySign, Generations}
+use Rattle.runfile.specs.declared.Kind.the-variants.{Preflight, Propose, Release, Show, Snapshot, Unknown}
 use Rattle.notation.specs.Files.{bytesAt, isKnown}
 use Rattle.notation.proofs.Shapes.{Version}
 
@@ -106,6 +106,9 @@ end-known version Draw pos size h = refl
 end-known version Generations pos size h = refl
 end-known version Snapshot pos size h = refl
 end-known version Release pos size h = refl
+end-known version Dependencies pos size h = refl
+end-known version ClientPreflight pos size h = refl
+end-known version Equivocating pos size h = refl
 end-known version Unknown pos size h = absurd (true≢false (sym h))
 
 pub record Known (version : ℕ) (input : List ℕ) (pos : ℕ) : Type 0 where

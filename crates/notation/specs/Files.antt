@@ -1,8 +1,8 @@
 -- A whole text: the header's line, then a line for each step; blank lines and comments are passed over.
-use mathlib.Core.Bool.{Bool, _&&_, _||_, cond, false, true}
+use mathlib.Core.Bool.{Bool, _&&_, _||_, cond, not, true}
 use mathlib.Core.List.{List, [], _++_, _∷_}
 use mathlib.Core.Path.{_≡_}
-use Prim.Native.Nat.{_+_, _-_, suc, zero, ℕ}
+use Prim.Native.Nat.{_*_, _+_, _-_, _≤_, suc, zero, ℕ}
 use lib.Dec.{eqb, leb, ltb}
 use lib.ListN.{drop, getD, length, take}
 use Rattle.codec.specs.Codec.{AreBytes}
@@ -10,10 +10,8 @@ use Rattle.rows.specs.Reading.{Parsed, readBy}
 use Rattle.rows.specs.Table.{accession, letters, row}
 use Rattle.rows.specs.Writing.{textBy}
 use Rattle.runfile.specs.Run.{headerSize, longest, opens, versionIn}
-use Rattle.runfile.specs.Steps.{kindAt, nextAt}
+use Rattle.runfile.specs.Steps.{isUnknown, kindAt, nextAt}
 use Rattle.runfile.specs.declared.Kind.{Kind}
-use Rattle.runfile.specs.declared.Kind.the-variants.{Commit, Draw, FaultyAcknowledge, FaultySign, Generations, Preflight, Propose}
-use Rattle.runfile.specs.declared.Kind.the-variants.{Release, Show, Snapshot, Unknown}
 use Rattle.notation.specs.Lines.{closes, lineOf, moreText, rowFor, stepRead, wrong}
 
 -- ---- why a text is wrong, after the reasons of its lines
@@ -95,17 +93,7 @@ assembled text = finished (madeFrom (length text) (record { reason = 0; line = 1
 
 -- ---- a file written
 abbrev pub isKnown : Kind → Bool
-isKnown Propose = true
-isKnown Preflight = true
-isKnown Commit = true
-isKnown FaultySign = true
-isKnown FaultyAcknowledge = true
-isKnown Show = true
-isKnown Draw = true
-isKnown Generations = true
-isKnown Snapshot = true
-isKnown Release = true
-isKnown Unknown = false
+isKnown k = not (isUnknown k)
 
 -- the bytes of the step at pos
 abbrev pub bytesAt : ℕ → List ℕ → ℕ → List ℕ
@@ -134,6 +122,14 @@ headerLine input = textBy (row (versionIn input - 1)) (take 6 (drop 3 input))
 unfoldable pub disassembled : List ℕ → List ℕ
 disassembled input = headerLine input ++ (10 ∷ linesFrom (length input) (versionIn input) input headerSize)
 
+-- ---- how long a text can be: a line and its end have at most so many characters for each byte of their step
+abbrev pub perByte : ℕ
+perByte = 20
+
+-- the text of any file fits a buffer of this size
+abbrev pub longestText : ℕ
+longestText = perByte * longest
+
 -- ---- the statements
 -- a text that makes exactly these bytes
 pub record Makes (text bytes : List ℕ) : Type 0 where
@@ -143,6 +139,8 @@ pub record Makes (text bytes : List ℕ) : Type 0 where
 pub record RoundTrips : Type 0 where
   -- the text of a run file assembles to the same bytes
   pub file : (input : List ℕ) → AreBytes input → sayable input ≡ true → Makes (disassembled input) input
+  -- and is no longer than this, so that a buffer which takes the longest text takes it
+  pub short : (input : List ℕ) → AreBytes input → sayable input ≡ true → length (disassembled input) ≤ perByte * length input
   -- what assembles is a run file that has no refusal 1 or 2 in it
   pub sound : (text : List ℕ) → assembled text .reason ≡ 0 → AreBytes (assembled text .bytes) × (sayable (assembled text .bytes) ≡ true)
   -- so it disassembles to a text that assembles to the same bytes

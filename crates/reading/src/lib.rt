@@ -4,7 +4,7 @@ ghost use Prim.Native.Nat.{_+_, _<_, _≤_};
 ghost use lib.ListN.{drop, getD, length, take};
 ghost use Rattle.codec.specs.Codec.{recordSize};
 ghost use Rattle.runfile.specs.Run.{longest};
-ghost use Rattle.runfile.specs.Steps.{wordAt};
+ghost use Rattle.runfile.specs.Steps.{isUnknown, wordAt};
 ghost use Rattle.reading.specs.Reading.{Read, formed, operationOf, unread};
 use runfile::Kind;
 
@@ -197,4 +197,26 @@ pub fn step_at(version: u16, input: &[u8], pos: usize, number: u32) -> Step
         return operation.step(input, number, at, end);
     }
     unreadable(input, number, at)
+}
+
+// Refusal 2: a step of this kind can't be read.
+pub fn is_unknown(kind: Kind) -> bool
+    ensures { λ r. ⌜ r ≡ isUnknown kind ⌝ }
+{
+    match kind {
+        Kind::Propose => false,
+        Kind::Preflight => false,
+        Kind::Commit => false,
+        Kind::FaultySign => false,
+        Kind::FaultyAcknowledge => false,
+        Kind::Show => false,
+        Kind::Draw => false,
+        Kind::Generations => false,
+        Kind::Snapshot => false,
+        Kind::Release => false,
+        Kind::Dependencies => false,
+        Kind::ClientPreflight => false,
+        Kind::Equivocating => false,
+        Kind::Unknown => true,
+    }
 }

@@ -49,7 +49,7 @@ ends-row (i ∷ is) s rest e h =
     rw (append-assoc (textAs (formOf i) i (leAt s 0 w)) (textBy is (drop w s)) rest)
     (shows-end (formOf i) i (leAt s 0 w) (endsNext is) (textBy is (drop w s) ++ rest) h (ends-row is (drop w s) rest e))
 
-bytes-after : (s : List ℕ) (w : ℕ) → AreBytes s → AreBytes (drop w s)
+pub bytes-after : (s : List ℕ) (w : ℕ) → AreBytes s → AreBytes (drop w s)
 bytes-after s w b i = rw getD-drop (b (w + i))
 
 empty : (s : List ℕ) → length s ≡ 0 → s ≡ []

@@ -32,13 +32,16 @@ table =
     ∷ letters "\u{8}generations job #"
     ∷ letters "\tsnapshot"
     ∷ letters "\nrelease vault # job # rival #"
+    ∷ letters "\u{b}dependencies vault # job #"
+    ∷ letters "\u{c}client-preflight vault # job # client #"
+    ∷ letters "\requivocating"
     ∷ []
 
 unfoldable pub row : ℕ → List ℕ
 row k = getD table k []
 
 abbrev pub rows : ℕ
-rows = 14
+rows = 17
 
 -- the rows of the proposals, and how far a kind's row stands behind its number
 abbrev pub accession : ℕ

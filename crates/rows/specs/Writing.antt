@@ -1,7 +1,7 @@
 -- A step written by a row.
 use mathlib.Core.List.{List, [], _++_, _∷_}
 use mathlib.Core.Bool.{Bool, _&&_, _||_, cond, false, not, true}
-use Prim.Native.Nat.{_+_, ℕ}
+use Prim.Native.Nat.{_*_, _+_, suc, ℕ}
 use lib.Dec.{eqb}
 use lib.ListN.{drop}
 use Rattle.codec.specs.Codec.{leAt}
@@ -20,6 +20,20 @@ fits (i ∷ is) s = fitsAs (formOf i) i (leAt s 0 (width (formOf i))) && fits is
 unfoldable pub widths : List ℕ → ℕ
 widths [] = 0
 widths (i ∷ is) = width (formOf i) + widths is
+
+-- ---- how many characters an item can have, and all items of a row: a number three for each byte and one more, a set two digits and a comma for
+-- each of sixteen vaults
+abbrev pub longestAs : Form → ℕ
+longestAs constant = 0
+longestAs (number w) = suc (3 * w)
+longestAs members = 48
+longestAs hexadecimal = 2
+longestAs plain = 1
+longestAs literal = 1
+
+unfoldable pub longestBy : List ℕ → ℕ
+longestBy [] = 0
+longestBy (i ∷ is) = longestAs (formOf i) + longestBy is
 
 -- ---- a row that can be read again: what follows a number or a set can't be taken for a part of it
 abbrev pub ends : ℕ → Bool

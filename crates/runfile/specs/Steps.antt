@@ -1,5 +1,5 @@
 -- The steps of a run file: "each a kind byte and its body; vault, job and u are one byte".
-use mathlib.Core.Bool.{cond}
+use mathlib.Core.Bool.{Bool, cond, false, true}
 use mathlib.Core.List.{List}
 use Prim.Native.Nat.{_*_, _+_, ℕ}
 use lib.Dec.{eqb, ltb}
@@ -104,6 +104,23 @@ unfoldable pub kindAt : ℕ → List ℕ → ℕ → Kind
 kindAt version input pos =
     let kind = kindOf (getD input pos 0) in
     cond (ltb (pos + bodySize version kind) (length input)) kind Unknown
+
+-- refusal 2
+abbrev pub isUnknown : Kind → Bool
+isUnknown Propose = false
+isUnknown Preflight = false
+isUnknown Commit = false
+isUnknown FaultySign = false
+isUnknown FaultyAcknowledge = false
+isUnknown Show = false
+isUnknown Draw = false
+isUnknown Generations = false
+isUnknown Snapshot = false
+isUnknown Release = false
+isUnknown Dependencies = false
+isUnknown ClientPreflight = false
+isUnknown Equivocating = false
+isUnknown Unknown = true
 
 abbrev pub stepAt : ℕ → List ℕ → ℕ → Command
 stepAt version input pos = commandIn version (kindAt version input pos) input (pos + 1)

@@ -12,7 +12,7 @@ ghost use Rattle.words.specs.Room.{arrow, longestRow, rowRoom};
 pub const ROOM: usize = 2048;
 
 // How many rows there are.
-pub const ROWS: usize = 14;
+pub const ROWS: usize = 17;
 
 pub fn put(out: &mut [u8], at: usize, s: &[u8]) -> usize
     requires { ⌜ at + length (now s) ≤ length (now out) ⌝ }
@@ -68,6 +68,9 @@ pub fn put_row(out: &mut [u8], k: usize) -> usize
         11 => put(out, 0, b"\x08generations job #"),
         12 => put(out, 0, b"\x09snapshot"),
         13 => put(out, 0, b"\x0arelease vault # job # rival #"),
+        14 => put(out, 0, b"\x0bdependencies vault # job #"),
+        15 => put(out, 0, b"\x0cclient-preflight vault # job # client #"),
+        16 => put(out, 0, b"\x0dequivocating"),
         _ => 0,
     }
 }

@@ -1,10 +1,10 @@
 -- Each turn looks at the next row of the table.
 use Rattle.lines.proofs.Choices.{Looking, front-is, look-found, look-next, lookups}
-use lib.ListN.{drop}
 use Rattle.lines.proofs.choice.row_for.Statement.{statement}
 use Rattle.lines.proofs.choice.row_for.Tie as tie
 use Prim.Native.Nat.{_-_}
-use lib.ListN.{length}
+use Rattle.rows.specs.Table.{rows}
+use lib.ListN.{drop, length}
 use mathlib.Core.Path.{_≡_}
 use native.Mathlib.Omega.{arith}
 use borrow.Author.Needs.{needs}
@@ -15,7 +15,7 @@ abbrev Inv-loop : tie.InvT-loop
 Inv-loop text at row₀ k₀ row k = Looking (drop at text) k × (length row ≡ length row₀)
 
 abbrev μ-loop : tie.MeasureT-loop
-μ-loop text at row₀ k₀ row k = 14 - k
+μ-loop text at row₀ k₀ row k = rows - k
 
 returns : tie.Need-returns Inv-loop μ-loop
 returns c =
