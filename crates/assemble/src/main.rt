@@ -2,9 +2,6 @@
 use libc::STDIN_FILENO;
 use libc::STDOUT_FILENO;
 
-// A byte more than the longest text that is taken: more than twice what the text of the longest run file has.
-const TEXT: usize = 2097153;
-
 fn print(words: &[u8]) {
     io::write_all(STDOUT_FILENO, words);
 }
@@ -30,9 +27,8 @@ fn print_reason(reason: u8) {
 }
 
 fn assemble(text: &[u8]) {
-    let mut buffer = [0u8; words::ROOM];
     let mut out = [0u8; assembly::OUT];
-    let made = assembly::assemble(text, &mut buffer, &mut out);
+    let made = assembly::assemble(text, &mut out);
     if made.reason == 0 {
         print(lines::front(&out, made.end));
         return;
@@ -44,14 +40,10 @@ fn assemble(text: &[u8]) {
     print(b"\n");
 }
 
-fn text_buffer() -> [u8; TEXT] {
-    [0; TEXT]
-}
-
 fn main() {
-    let mut text = text_buffer();
+    let mut text = assembly::text_buffer();
     let n = io::read_full(STDIN_FILENO, &mut text);
-    if n < TEXT {
+    if n < assembly::TEXT {
         assemble(&text[..n]);
         return;
     }

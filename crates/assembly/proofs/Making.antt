@@ -12,7 +12,6 @@ use Rattle.base.proofs.Reflect.{by-test}
 use Rattle.rows.proofs.Sound.{if-fine}
 use Rattle.rows.specs.Reading.{Parsed as Read}
 use Rattle.runfile.specs.Run.{longest, versionIn}
-use Rattle.words.specs.Room.{longestRow}
 use Rattle.notation.specs.Files.{Made as Said, afterLine, assembled, finished, headerRead, isNone, lineOver, lineRead, madeFrom, noHeader, skipBlanks, taken, tooLong}
 use Rattle.notation.specs.Lines.{moreText, stepRead}
 use Rattle.parsing.specs.Took.{ReadTo}
@@ -20,7 +19,7 @@ use Rattle.parsing.specs.declared.Parsed.{Parsed}
 use Rattle.lines.proofs.Headers.{line-read}
 use Rattle.lines.specs.LineTo.{LineTo}
 use Rattle.parsing.proofs.Turns.{at-end}
-use Rattle.assembly.specs.Assembles.{Assembles, Judged, ending}
+use Rattle.assembly.specs.Assembles.{Assembles, Judged, ending, fileRoom}
 use Rattle.assembly.specs.declared.Made.{Made}
 
 -- ---- a line judged
@@ -125,7 +124,7 @@ pub record Making (text : List ℕ) (left at end line : ℕ) (out : List ℕ) : 
   pub inside : at ≤ length text
   pub few : end ≤ longest
   pub lines : line + left ≤ length text + 1
-  pub size : longest + 4 * longestRow + 3 ≤ length out
+  pub size : fileRoom ≤ length out
 
 module _ (n : ℕ) (m : Said) (l : List ℕ) (full : isNone l ≡ false) where
   blank-next : lineOver (skipBlanks l) ≡ true
@@ -174,7 +173,7 @@ stopped text end line w out h n q =
     rw (q, ne-eqb w 0 n) (record { reason-is = refl; line-is = refl; bytes-are = refl; inside = h })
 
 module _ {text : List ℕ} where
-  pub making-begun : (out : List ℕ) → longest + 4 * longestRow + 3 ≤ length out → Making text (length text) 0 0 1 out
+  pub making-begun : (out : List ℕ) → fileRoom ≤ length out → Making text (length text) 0 0 1 out
   making-begun out h = record { remains = refl; inside = omega arith; few = omega arith; lines = omega arith; size = h }
 
   module _ {left at end line : ℕ} {out : List ℕ} (now : Making text left at end line out) where

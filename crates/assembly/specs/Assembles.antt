@@ -2,14 +2,19 @@
 use mathlib.Core.Bool.{Bool, cond}
 use mathlib.Core.List.{List}
 use mathlib.Core.Path.{_≡_}
-use Prim.Native.Nat.{_≤_, ℕ}
+use Prim.Native.Nat.{_*_, _+_, _≤_, ℕ}
 use lib.Dec.{eqb, leb}
 use lib.ListN.{drop, length, take}
 use Rattle.notation.specs.Files.{Made as Said, lineOver, noHeader, skipBlanks, tooLong}
 use Rattle.notation.specs.Lines.{moreText}
 use Rattle.runfile.specs.Run.{longest}
 use Rattle.parsing.specs.declared.Parsed.{Parsed}
+use Rattle.words.specs.Room.{longestRow}
 use Rattle.assembly.specs.declared.Made.{Made}
+
+-- what a buffer must have in which a file is made: a line more than the longest file
+abbrev pub fileRoom : ℕ
+fileRoom = longest + 4 * longestRow + 3
 
 pub record Assembles (said : Said) (out : List ℕ) (r : Made) : Type 0 where
   pub reason-is : r .reason ≡ said .reason

@@ -4,34 +4,30 @@ mod places;
 ghost use mathlib.Core.Path.{_≡_};
 ghost use Prim.Native.Nat.{_*_, _+_, _<_, _≤_};
 ghost use lib.ListN.{drop, length, take};
-ghost use Rattle.assembly.specs.Assembles.{Assembles, Judged, ending};
+ghost use Rattle.assembly.specs.Assembles.{Assembles, Judged, ending, fileRoom};
 ghost use Rattle.lines.specs.LineTo.{LineTo};
-ghost use Rattle.notation.specs.Files.{assembled, lineRead};
-ghost use Rattle.runfile.specs.Run.{longest, versionIn};
+ghost use Rattle.notation.specs.Files.{assembled, lineRead, longestText};
 ghost use Rattle.words.specs.Room.{longestRow, rowRoom};
 use parsing::Parsed;
 
 // A buffer of this size takes the longest file and the longest line.
 pub const OUT: usize = 66259;
 
+// One byte more than the longest text that is taken, to see that there are too many.
+pub const TEXT: usize = 2097153;
+
+// The text of any run file is taken.
+pub fn text_buffer() -> [u8; TEXT]
+    ensures { λ r. ⌜ longestText < length r ⌝ }
+{
+    [0; TEXT]
+}
+
 // What has been made of a text: why it is wrong, if it is, and in which line, and how many bytes the file has.
 pub struct Made {
     pub reason: u8,
     pub line: u64,
     pub end: usize,
-}
-
-fn low(x: u8) -> u16
-    ensures { λ r. ⌜ (r ≡ x) × (r < 256) ⌝ }
-{
-    x as u16
-}
-
-// The version that the file's header says; bytes past the end count as 0.
-fn version_in(file: &[u8]) -> u16
-    ensures { λ r. ⌜ r ≡ versionIn (now (file .entry)) ⌝ }
-{
-    low(places::byte_at(file, 3)) + 256 * low(places::byte_at(file, 4))
 }
 
 // A line after the file's first bytes: the header where there are none.
@@ -43,7 +39,7 @@ fn line_read(text: &[u8], at: usize, buffer: &mut [u8], out: &mut [u8], end: usi
         return lines::header_read(text, at, buffer, out);
     }
     lines::step_read(
-        version_in(lines::front(out, end)),
+        reading::word_at(lines::front(out, end), 3),
         text,
         at,
         buffer,
@@ -85,10 +81,9 @@ fn finish(line: u64, end: usize) -> Made
     verdict(0, line, end)
 }
 
-// The run file that a text says stands at the front of `out` afterwards; or the first line that is wrong, and why. `buffer` has room for a
-// row, and `out` for a line more than the longest file.
-pub fn assemble(text: &[u8], buffer: &mut [u8], out: &mut [u8]) -> Made
-    requires { ⌜ (rowRoom ≤ length (now buffer)) × (longest + 4 * longestRow + 3 ≤ length (now out)) ⌝ }
+// Line by line. `buffer` has room for a row, and `out` for a line more than the longest file.
+fn make(text: &[u8], buffer: &mut [u8], out: &mut [u8]) -> Made
+    requires { ⌜ (rowRoom ≤ length (now buffer)) × (fileRoom ≤ length (now out)) ⌝ }
     ensures { λ r. ⌜ Assembles (assembled (now (text .entry))) (now (out .exit)) r ⌝ }
 {
     let mut left = text.len();
@@ -116,4 +111,13 @@ pub fn assemble(text: &[u8], buffer: &mut [u8], out: &mut [u8]) -> Made
         line += 1;
     }
     finish(line, end)
+}
+
+// The run file that a text says stands at the front of `out` afterwards; or the lines before the first that is wrong, whose number is handed
+// back, and why.
+pub fn assemble(text: &[u8], out: &mut [u8; OUT]) -> Made
+    ensures { λ r. ⌜ Assembles (assembled (now (text .entry))) (now (out .exit)) r × (length (now (out .exit)) ≡ fileRoom) ⌝ }
+{
+    let mut buffer = [0u8; words::ROOM];
+    make(text, &mut buffer, out)
 }

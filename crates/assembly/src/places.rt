@@ -2,18 +2,8 @@
 ghost use mathlib.Core.Bool.{_||_};
 ghost use mathlib.Core.Path.{_≡_};
 ghost use Prim.Native.Nat.{_≤_};
-ghost use lib.ListN.{drop, getD, length};
+ghost use lib.ListN.{drop, length};
 ghost use Rattle.notation.specs.Files.{afterLine, isBlank, lineOver, skipBlanks};
-
-// Bytes past the end count as 0.
-pub(crate) fn byte_at(file: &[u8], at: usize) -> u8
-    ensures { λ r. ⌜ r ≡ getD (now (file .entry)) at 0 ⌝ }
-{
-    if at < file.len() {
-        return file[at];
-    }
-    0
-}
 
 fn is_blank(c: u8) -> bool
     ensures { λ r. ⌜ r ≡ isBlank c ⌝ }

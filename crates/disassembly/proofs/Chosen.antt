@@ -5,21 +5,19 @@ use mathlib.Core.Path.{_∙_, _≡_, ap, refl, sym}
 use Prim.Native.Nat.{_+_, _-_, _<_, _≤_, suc, zero, ℕ}
 use native.Mathlib.Omega.{arith}
 use lib.Dec.{eqb, leb, ltb}
-use lib.ListN.{List·getD-eq-default, drop, getD, length, take}
+use lib.ListN.{drop, getD, length, take}
 use lib.Seq.{getD-drop}
 use borrow.Author.Tests.{eq-eqb, eqb-true, le-leb, leb-true, lt-leb, ne-eqb}
 use Rattle.base.proofs.Reflect.{and-false, and-true, by-test}
 use Rattle.codec.specs.Codec.{leAt}
 use Rattle.rows.specs.Table.{accession, rawRow, row, shaped}
-use Rattle.rows.specs.Writing.{fits, textBy}
+use Rattle.printing.specs.Member.{itemRoom}
+use Rattle.rows.specs.Writing.{fits, longestBy, textBy}
 use Rattle.text.proofs.Writing.{made, then}
 use Rattle.text.specs.Text.{Put}
-use Rattle.notation.specs.Lines.{hasShape, lineOf, proposalRow, rowOf, shapedFor}
+use Rattle.notation.specs.Lines.{hasShape, proposalRow, rowOf, shapedFor}
 use Rattle.words.specs.Room.{longestRow, rowRoom}
 use Rattle.disassembly.specs.Rows.{Stands}
-
-pub no-byte : (step : List ℕ) (at : ℕ) → length step ≤ at → 0 ≡ getD step at 0
-no-byte step at h = sym (List·getD-eq-default step 0 {n = at} h)
 
 -- ---- its shape
 module _ (s : List ℕ) where
@@ -48,7 +46,7 @@ module _ (s : List ℕ) where
     unfolding hasShape
     of-neither n z k u = rw (low, ne-eqb (getD s 1 0) 0 (λ x. z (f ∙ x)), ne-eqb (getD s 1 0) 1 (λ x. u (k ∙ x)))
 
-pub ruleset shapes = (no-byte, too-many, of-accession, of-migration, of-neither)
+pub ruleset shapes = (too-many, of-accession, of-migration, of-neither)
 
 -- a shape has few entries
 pub few-inputs : (s : List ℕ) (i : ℕ) → hasShape s ≡ true → i ≡ getD s 3 0 → i ≤ 4
@@ -103,8 +101,22 @@ module _ (version : ℕ) (s : List ℕ) {p : List ℕ} {r : ℕ} where
 
 pub ruleset choices = (few-inputs, few-outputs, stands, shaped-stands, by-shape, by-bytes, by-bytes-too, of-proposal, of-kind)
 
--- ---- the line
-pub line-put : {o p q f : List ℕ} {r e : ℕ} {b : List ℕ} {n : ℕ} (version : ℕ) (s : List ℕ) → Stands (rowOf version s) b n → f ≡ take n b → Put o 0 (textBy f s) p e
-    → Put p e (10 ∷ []) q r → Put o 0 (lineOf version s ++ (10 ∷ [])) q r
-unfolding lineOf
-line-put version s d e w x = then (rw (e ∙ d .row-is) at w) x
+-- ---- a line made by a row that stands at the front of a buffer, and its end
+module _ {f b : List ℕ} {n : ℕ} (t : List ℕ) (d : Stands t b n) (e : f ≡ take n b) where
+  -- there is room for it
+  pub row-room : (start size : ℕ) → start + longestBy t + itemRoom ≤ size → start + longestBy f + itemRoom ≤ size
+  row-room start size h = rw (e ∙ d .row-is) h
+
+  module _ (start r : ℕ) (h : r ≤ start + longestBy f) where
+    pub row-end : r ≤ start + longestBy t
+    row-end = rw (e ∙ d .row-is) at h
+
+    pub end-room : (size : ℕ) → start + longestBy t + itemRoom ≤ size → r + 1 ≤ size
+    end-room size l = omega (arith, row-end, l)
+
+    pub line-end : (q : ℕ) → q ≡ r + 1 → q ≤ start + longestBy t + 1
+    line-end q i = omega (arith, row-end, i)
+
+  pub line-put : {o p q : List ℕ} {start at r : ℕ} (s : List ℕ) → Put o start (textBy f s) p at → Put p at (10 ∷ []) q r
+      → Put o start (textBy t s ++ (10 ∷ [])) q r
+  line-put s w x = then (rw (e ∙ d .row-is) at w) x

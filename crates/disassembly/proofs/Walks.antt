@@ -1,4 +1,4 @@
--- The steps of a file one after another, and the header's line.
+-- The steps of a file one after another: each can be read.
 use mathlib.Core.Bool.{Bool, _&&_, cond, false, true}
 use mathlib.Core.List.{List, [], _++_, _∷_}
 use mathlib.Core.Path.{_∙_, _≡_, ap, refl, sym}
@@ -7,19 +7,12 @@ use native.Mathlib.Omega.{arith}
 use lib.Dec.{leb}
 use lib.ListN.{drop, length, take}
 use borrow.Author.Tests.{le-leb, lt-leb}
-use Rattle.rows.specs.Table.{row}
-use Rattle.rows.specs.Writing.{textBy}
-use Rattle.runfile.specs.Run.{longest, opens, opensUpTo, versionIn}
+use Rattle.runfile.specs.Run.{longest, opens, versionIn}
 use Rattle.runfile.specs.Steps.{isUnknown, kindAt}
-use Rattle.text.proofs.Writing.{then}
-use Rattle.text.specs.Text.{Put}
 use Rattle.reading.specs.Reading.{Read}
 use Rattle.reading.specs.declared.Step.{Step}
 use Rattle.notation.proofs.Views.{opened-of}
-use Rattle.notation.specs.Lines.{lineOf}
-use Rattle.notation.specs.Files.{headerLine, sayable, wholeFrom}
-use Rattle.disassembly.specs.Rows.{LineAt, Stands}
-use Rattle.disassembly.specs.declared.Line.{Line}
+use Rattle.notation.specs.Files.{sayable, wholeFrom}
 
 pub record Walking (version : ℕ) (input : List ℕ) (left pos : ℕ) : Type 0 where
   pub same : wholeFrom left version input pos ≡ wholeFrom (length input) version input 9
@@ -76,28 +69,3 @@ module _ (input : List ℕ) (a : Bool) (e : a ≡ opens input) where
   open-few t = opened-of input (sym e ∙ t) .few
 
 pub ruleset sayings = (say-whole, say-not, open-long, open-few)
-
--- ---- the header
-pub header-put : {o p q f s b : List ℕ} {r e n : ℕ} (input : List ℕ) (k v : ℕ) → v ≡ versionIn input → k ≡ v - 1 → Stands (row k) b n → f ≡ take n b
-    → s ≡ take 6 (drop 3 input) → Put o 0 (textBy f s) p e → Put p e (10 ∷ []) q r → Put o 0 (headerLine input ++ (10 ∷ [])) q r
-unfolding headerLine
-header-put input k v i j d e g w x = then (rw (e ∙ d .row-is, g, j, i) at w) x
-
--- ---- a step's line
-module _ (version : ℕ) (input : List ℕ) (pos : ℕ) (r : Line) where
-  pub line-long : (before after : List ℕ) → longest < length input → r ≡ record { end = length input; written = 0 } → LineAt version input pos before after r
-  line-long before after h e = rw e (record { onward = λ l. l; next = λ l. absurd (omega arith); wrote = λ l. absurd (omega arith) })
-
-  pub line-over : (before after : List ℕ) → length input ≤ pos → r ≡ record { end = length input; written = 0 } → LineAt version input pos before after r
-  line-over before after h e = rw e (record { onward = λ l. l; next = λ l m. absurd (omega arith); wrote = λ l m. absurd (omega arith) })
-
-  pub line-here : {before after p : List ℕ} {w : ℕ} (s : Step) → Read version input pos 0 s → p ≡ take (s .end - pos) (drop pos input)
-      → Put before 0 (lineOf version p ++ (10 ∷ [])) after w → r ≡ record { end = s .end; written = w } → LineAt version input pos before after r
-  line-here s d e w q =
-      rw q (record {
-        onward = λ l. d .onward;
-        next = λ l m. d .end-is;
-        wrote = λ l m. rw (e ∙ ap (λ (k : ℕ). take (k - pos) (drop pos input)) (d .end-is)) at w;
-      })
-
-pub ruleset lines-at = (line-long, line-over, line-here)

@@ -2,33 +2,24 @@
 ghost use mathlib.Core.Bool.{true};
 ghost use mathlib.Core.Path.{_≡_};
 ghost use Prim.Native.Nat.{_<_, _≤_};
-ghost use lib.ListN.{getD, length};
+ghost use lib.ListN.{length};
 ghost use Rattle.disassembly.specs.Rows.{Stands};
 ghost use Rattle.notation.specs.Lines.{hasShape, proposalRow, rowOf, shapedFor};
 ghost use Rattle.rows.specs.Table.{rawRow};
 ghost use Rattle.words.specs.Room.{rowRoom};
 
-fn byte_at(step: &[u8], at: usize) -> u8
-    ensures { λ r. ⌜ r ≡ getD (now (step .entry)) at 0 ⌝ }
-{
-    if at < step.len() {
-        return step[at];
-    }
-    0
-}
-
 // An accession has no inputs, and there are four entries at most on either side.
 fn has_shape(step: &[u8]) -> bool
     ensures { λ r. ⌜ r ≡ hasShape (now (step .entry)) ⌝ }
 {
-    if byte_at(step, 4) > 4 {
+    if reading::byte_at(step, 4) > 4 {
         return false;
     }
-    if byte_at(step, 1) == 0 {
-        return byte_at(step, 3) == 0;
+    if reading::byte_at(step, 1) == 0 {
+        return reading::byte_at(step, 3) == 0;
     }
-    if byte_at(step, 1) == 1 {
-        return byte_at(step, 3) <= 4;
+    if reading::byte_at(step, 1) == 1 {
+        return reading::byte_at(step, 3) <= 4;
     }
     false
 }
@@ -46,9 +37,9 @@ fn shaped_row(version: u16, step: &[u8], buffer: &mut [u8]) -> usize
     words::put_shaped(
         buffer,
         version,
-        2 + wide(byte_at(step, 1)),
-        byte_at(step, 3),
-        byte_at(step, 4),
+        2 + wide(reading::byte_at(step, 1)),
+        reading::byte_at(step, 3),
+        reading::byte_at(step, 4),
         printing::value_at(step, 101, 4),
     )
 }
@@ -80,7 +71,7 @@ pub(crate) fn row_of(version: u16, step: &[u8], buffer: &mut [u8]) -> usize
     requires { ⌜ rowRoom ≤ length (now buffer) ⌝ }
     ensures { λ r. ⌜ Stands (rowOf version (now (step .entry))) (now (buffer .exit)) r ⌝ }
 {
-    let kind = byte_at(step, 0);
+    let kind = reading::byte_at(step, 0);
     if kind == 1 {
         return proposal_row(version, step, buffer);
     }

@@ -1,63 +1,67 @@
-// A run file written as a text, line by line.
+// A run file written as a text.
 mod choice;
 
 ghost use mathlib.Core.Bool.{true};
 ghost use mathlib.Core.List.{_++_, [], _∷_};
 ghost use mathlib.Core.Path.{_≡_};
-ghost use Prim.Native.Nat.{_+_, _-_, _<_, _≤_};
+ghost use Prim.Native.Nat.{_*_, _+_, _-_, _≤_};
 ghost use lib.ListN.{drop, length, take};
-ghost use Rattle.disassembly.specs.Rows.{LineAt, longestLine};
-ghost use Rattle.notation.specs.Files.{headerLine, sayable, wholeFrom};
-ghost use Rattle.notation.specs.Lines.{lineOf};
-ghost use Rattle.runfile.specs.Run.{longest, opens, versionIn};
+ghost use Rattle.disassembly.specs.Printed.{printed, textRoom};
+ghost use Rattle.notation.specs.Files.{headerLine, linesFrom, longestText, perByte, sayable, wholeFrom};
+ghost use Rattle.notation.specs.Lines.{lineOf, rowOf};
+ghost use Rattle.printing.specs.Member.{itemRoom};
+ghost use Rattle.rows.specs.Writing.{longestBy};
+ghost use Rattle.runfile.specs.Run.{headerSize, longest, opens, versionIn};
 ghost use Rattle.text.specs.Text.{Put};
-ghost use Rattle.words.specs.Room.{rowRoom};
 
-// A buffer of this size takes any line: two hundred characters for each of the longest row, and the line's end.
-pub const LINE: usize = 36001;
+// A buffer of this size takes any text: twenty characters for each byte of the longest file, and room for an item while it is written.
+pub const TEXT: usize = 1310920;
 
-// Where the first step stands.
-pub const HEADER: usize = 9;
-
-fn put_end(out: &mut [u8], at: usize) -> usize
-    requires { ⌜ at < length (now out) ⌝ }
-    ensures { λ r. ⌜ Put (now (out .entry)) at (10 ∷ []) (now (out .exit)) r × (r ≡ at + 1) ⌝ }
+fn part(input: &[u8], pos: usize, end: usize) -> &[u8]
+    requires { ⌜ (pos ≤ end) × (end ≤ length (now input)) ⌝ }
+    ensures { λ r. ⌜ now r ≡ take (end - pos) (drop pos (now (input .entry))) ⌝ }
 {
-    out[at] = b'\n';
-    at + 1
+    &input[pos..end]
 }
 
-// The line of a step and its end, at the front of `out`.
-pub fn line_of(version: u16, step: &[u8], buffer: &mut [u8], out: &mut [u8]) -> usize
-    requires { ⌜ (rowRoom ≤ length (now buffer)) × (longestLine ≤ length (now out)) ⌝ }
-    ensures { λ r. ⌜ Put (now (out .entry)) 0 (lineOf version (now (step .entry)) ++ (10 ∷ [])) (now (out .exit)) r ⌝ }
+// The line of a step and its end.
+fn put_line(version: u16, step: &[u8], out: &mut [u8], start: usize) -> usize
+    requires { ⌜ start + longestBy (rowOf version (now step)) + itemRoom ≤ length (now out) ⌝ }
+    ensures { λ r. ⌜ Put (now (out .entry)) start (lineOf version (now (step .entry)) ++ (10 ∷ [])) (now (out .exit)) r
+        × (r ≤ start + longestBy (rowOf version (now (step .entry))) + 1) ⌝ }
 {
-    let n = choice::row_of(version, step, buffer);
-    let end = printing::write_row(lines::front(buffer, n), step, out, 0);
-    put_end(out, end)
+    let mut buffer = [0u8; words::ROOM];
+    let n = choice::row_of(version, step, &mut buffer);
+    let end = printing::write_row(lines::front(&buffer, n), step, out, start);
+    words::put(out, end, b"\n")
 }
 
-fn behind(input: &[u8]) -> &[u8]
-    requires { ⌜ 9 ≤ length (now input) ⌝ }
-    ensures { λ r. ⌜ now r ≡ take 6 (drop 3 (now (input .entry))) ⌝ }
+// The header's line and its end, at the front of `out`.
+fn put_header(version: u16, input: &[u8], out: &mut [u8]) -> usize
+    requires { ⌜ (version ≡ versionIn (now input)) × (opens (now input) ≡ true) × (textRoom ≤ length (now out)) ⌝ }
+    ensures { λ r. ⌜ Put (now (out .entry)) 0 (headerLine (now (input .entry)) ++ (10 ∷ [])) (now (out .exit)) r × (r ≤ perByte * headerSize) ⌝ }
 {
-    &input[3..9]
+    let mut buffer = [0u8; words::ROOM];
+    let n = words::put_row(&mut buffer, (version - 1) as usize);
+    let end = printing::write_row(lines::front(&buffer, n), part(input, 3, 9), out, 0);
+    words::put(out, end, b"\n")
 }
 
-// The header's line and its end, at the front of `out`, of a file that can be said.
-pub fn header_line(input: &[u8], buffer: &mut [u8], out: &mut [u8]) -> usize
-    requires { ⌜ (9 ≤ length (now input)) × (rowRoom ≤ length (now buffer)) × (longestLine ≤ length (now out)) ⌝ }
-    ensures { λ r. ⌜ Put (now (out .entry)) 0 (headerLine (now (input .entry)) ++ (10 ∷ [])) (now (out .exit)) r ⌝ }
+// The lines of all steps.
+fn put_lines(version: u16, input: &[u8], out: &mut [u8], start: usize) -> usize
+    requires { ⌜ (version ≡ versionIn (now input)) × (sayable (now input) ≡ true) × (start ≤ perByte * headerSize) × (textRoom ≤ length (now out)) ⌝ }
+    ensures { λ r. ⌜ Put (now (out .entry)) start (linesFrom (length (now (input .entry))) version (now (input .entry)) headerSize) (now (out .exit)) r
+        × (r ≤ longestText) ⌝ }
 {
-    let version = reading::word_at(input, 3) as usize;
-    if version == 0 {
-        let n = words::put_row(buffer, 0);
-        let end = printing::write_row(lines::front(buffer, n), behind(input), out, 0);
-        return put_end(out, end);
+    let mut end = start;
+    let mut pos = 9;
+    while pos < input.len() {
+        let step = reading::step_at(version, input, pos, 0);
+        let next = step.end;
+        end = put_line(version, part(input, pos, next), out, end);
+        pos = next;
     }
-    let n = words::put_row(buffer, version - 1);
-    let end = printing::write_row(lines::front(buffer, n), behind(input), out, 0);
-    put_end(out, end)
+    end
 }
 
 // No step is answered 2.
@@ -92,44 +96,19 @@ pub fn is_sayable(input: &[u8]) -> bool
     false
 }
 
-// How far the lines of a file have come, and how much of the buffer the last one takes.
-pub struct Line {
-    pub end: usize,
-    pub written: usize,
-}
-
-fn part(input: &[u8], pos: usize, end: usize) -> &[u8]
-    requires { ⌜ (pos ≤ end) × (end ≤ length (now input)) ⌝ }
-    ensures { λ r. ⌜ now r ≡ take (end - pos) (drop pos (now (input .entry))) ⌝ }
+// The text of a file stands at the front of `out` afterwards; or, where a text can't say the file, a comment that says so.
+pub fn disassemble(input: &[u8], out: &mut [u8; TEXT]) -> usize
+    ensures { λ r. ⌜ Put (now (out .entry)) 0 (printed (now (input .entry))) (now (out .exit)) r
+        × (r ≤ longestText) × (length (now (out .exit)) ≡ textRoom) ⌝ }
 {
-    &input[pos..end]
-}
-
-fn at_line(end: usize, written: usize) -> Line
-    ensures { λ r. ⌜ r ≡ record { end = end; written = written } ⌝ }
-{
-    Line { end, written }
-}
-
-// The line of the step at `pos` and its end, at the front of `out`; nothing where no step is left, or the file is too long.
-pub fn line_at(version: u16, input: &[u8], pos: usize, buffer: &mut [u8], out: &mut [u8]) -> Line
-    requires { ⌜ (rowRoom ≤ length (now buffer)) × (longestLine ≤ length (now out)) ⌝ }
-    ensures { λ r. ⌜ LineAt version (now (input .entry)) pos (now (out .entry)) (now (out .exit)) r ⌝ }
-{
-    if input.len() > 65536 {
-        return at_line(input.len(), 0);
+    if is_sayable(input) {
+        let version = reading::word_at(input, 3);
+        let start = put_header(version, input, out);
+        return put_lines(version, input, out, start);
     }
-    if input.len() <= pos {
-        return at_line(input.len(), 0);
-    }
-    let step = reading::step_at(version, input, pos, 0);
-    let written = line_of(version, part(input, pos, step.end), buffer, out);
-    at_line(step.end, written)
-}
-
-// The version that a file's header says.
-pub fn version_in(input: &[u8]) -> u16
-    ensures { λ r. ⌜ r ≡ versionIn (now (input .entry)) ⌝ }
-{
-    reading::word_at(input, 3)
+    words::put(
+        out,
+        0,
+        b"# no text can say this file: it has a refusal 1 or 2 in it\n",
+    )
 }

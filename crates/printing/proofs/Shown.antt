@@ -10,6 +10,7 @@ use lib.Seq.{getD-drop, length-sets, sets}
 use borrow.Author.Tests.{eq-eqb, le-ltb, lt-ltb, ne-eqb}
 use Rattle.codec.proofs.Numbers.{sets-append}
 use Rattle.codec.specs.Codec.{leAt}
+use Rattle.rows.proofs.Lengths.{item-few}
 use Rattle.rows.proofs.Numbers.{above}
 use Rattle.rows.specs.Items.{between, fitsAs, formOf, hexadecimal, literal, members, number, hexDigit, isPlain, listed, setText, textAs, width}
 use Rattle.rows.specs.Table.{letters}
@@ -17,7 +18,7 @@ use Rattle.sets.specs.Bits.{hasBit}
 use Rattle.text.proofs.Writing.{then}
 use Rattle.text.specs.Text.{Put, decimal}
 use Rattle.words.proofs.Copies.{put-none}
-use Rattle.printing.specs.Member.{member}
+use Rattle.printing.specs.Member.{Shown, member}
 
 -- ---- the value of some bytes
 module _ (s : List ℕ) (at : ℕ) where
@@ -99,35 +100,38 @@ module _ (i v : ℕ) where
 pub ruleset fitting = (no-plain, fits-constant, fits-plain, fits-other)
 
 -- ---- what is written
-module _ (i v : ℕ) {o p : List ℕ} {at r : ℕ} where
-  pub shows-byte : i ≡ 35 → Put o at (decimal v) p r → Put o at (textAs (formOf i) i v) p r
-  unfolding formOf
-  shows-byte e w = rw e w
+module _ (i v : ℕ) {o p : List ℕ} {at r : ℕ} (fit : v < 256 ^ width (formOf i)) where
+  so : Put o at (textAs (formOf i) i v) p r → Shown i v o at p r
+  so w = record { put = w; few = omega (arith, w .moved, item-few (formOf i) i v fit) }
 
-  pub shows-frames : i ≡ 36 → Put o at (decimal v) p r → Put o at (textAs (formOf i) i v) p r
+  pub shows-byte : i ≡ 35 → Put o at (decimal v) p r → Shown i v o at p r
   unfolding formOf
-  shows-frames e w = rw e w
+  shows-byte e w = so (rw e w)
 
-  pub shows-set : i ≡ 64 → Put o at (setText v) p r → Put o at (textAs (formOf i) i v) p r
+  pub shows-frames : i ≡ 36 → Put o at (decimal v) p r → Shown i v o at p r
   unfolding formOf
-  shows-set e w = rw e w
+  shows-frames e w = so (rw e w)
 
-  pub shows-hex : i ≡ 37 → Put o at (hexDigit (v / 16) ∷ hexDigit (v % 16) ∷ []) p r → Put o at (textAs (formOf i) i v) p r
+  pub shows-set : i ≡ 64 → Put o at (setText v) p r → Shown i v o at p r
   unfolding formOf
-  shows-hex e w = rw e w
+  shows-set e w = so (rw e w)
 
-  pub shows-plain : i ≡ 63 → Put o at (v ∷ []) p r → Put o at (textAs (formOf i) i v) p r
+  pub shows-hex : i ≡ 37 → Put o at (hexDigit (v / 16) ∷ hexDigit (v % 16) ∷ []) p r → Shown i v o at p r
   unfolding formOf
-  shows-plain e w = rw e w
+  shows-hex e w = so (rw e w)
+
+  pub shows-plain : i ≡ 63 → Put o at (v ∷ []) p r → Shown i v o at p r
+  unfolding formOf
+  shows-plain e w = so (rw e w)
 
   pub shows-literal : 32 ≤ i → (i ≡ 35 → ⊥) → (i ≡ 36 → ⊥) → (i ≡ 64 → ⊥) → (i ≡ 37 → ⊥) → (i ≡ 63 → ⊥) → Put o at (i ∷ []) p r
-      → Put o at (textAs (formOf i) i v) p r
+      → Shown i v o at p r
   unfolding formOf
-  shows-literal h a b d e f w = rw (le-ltb i 32 h, ne-eqb i 35 a, ne-eqb i 36 b, ne-eqb i 64 d, ne-eqb i 37 e, ne-eqb i 63 f) w
+  shows-literal h a b d e f w = so (rw (le-ltb i 32 h, ne-eqb i 35 a, ne-eqb i 36 b, ne-eqb i 64 d, ne-eqb i 37 e, ne-eqb i 63 f) w)
 
-pub shows-nothing : (i v : ℕ) (o : List ℕ) (at : ℕ) → i < 32 → Put o at (textAs (formOf i) i v) o at
+pub shows-nothing : (i v : ℕ) (o : List ℕ) (at : ℕ) → i < 32 → Shown i v o at o at
 unfolding formOf
-shows-nothing i v o at h = rw (lt-ltb i 32 h) (put-none o at)
+shows-nothing i v o at h = record { put = rw (lt-ltb i 32 h) (put-none o at); few = omega arith }
 
 -- a value fits its width
 pub set-below : (i v : ℕ) → i ≡ 64 → v < 256 ^ width (formOf i) → v < 65536

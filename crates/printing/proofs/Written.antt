@@ -10,7 +10,7 @@ use Rattle.codec.proofs.Numbers.{sets-append}
 use Rattle.codec.specs.Codec.{leAt}
 use Rattle.parsing.proofs.Turns.{at-end, at-place}
 use Rattle.rows.specs.Items.{fitsAs, formOf, textAs, width}
-use Rattle.rows.specs.Writing.{fits, textBy}
+use Rattle.rows.specs.Writing.{fits, longestAs, longestBy, textBy}
 use Rattle.text.specs.Text.{Put}
 
 -- ---- fitting
@@ -47,7 +47,7 @@ pub record Writing (row s before : List ℕ) (start i at end : ℕ) (out : List 
   pub moves : end + length (textBy (drop i row) (drop at s)) ≡ start + length (textBy row s)
   pub within : i ≤ length row
   pub few : at ≤ 4 * i
-  pub room : end ≤ start + 200 * i
+  pub room : end + longestBy (drop i row) ≤ start + longestBy row
   pub size : length out ≡ length before
 
 pub write-begun : (row s before : List ℕ) (start : ℕ) → Writing row s before start 0 0 start before
@@ -55,8 +55,9 @@ write-begun row s before start = record { puts = refl; moves = refl; within = om
 
 module _ {row s before : List ℕ} {start i at end : ℕ} {out : List ℕ} (now : Writing row s before start i at end out) where
   pub write-turn : (v w r : ℕ) (out₁ : List ℕ) → i < length row → w ≡ width (formOf (getD row i 0)) → w ≤ 4 → v ≡ leAt (drop at s) 0 w
-      → Put out end (textAs (formOf (getD row i 0)) (getD row i 0) v) out₁ r → r ≤ end + 200 → Writing row s before start (i + 1) (at + w) r out₁
-  unfolding textBy
+      → Put out end (textAs (formOf (getD row i 0)) (getD row i 0) v) out₁ r → r ≤ end + longestAs (formOf (getD row i 0))
+      → Writing row s before start (i + 1) (at + w) r out₁
+  unfolding textBy longestBy
   write-turn v w r out₁ here wide l is p k =
       let x = getD row i 0 in
       let b = textAs (formOf x) x v in
@@ -68,7 +69,7 @@ module _ {row s before : List ℕ} {start i at end : ℕ} {out : List ℕ} (now 
         moves = omega (arith, p .moved, length-append b t, ap length whole, now .moves);
         within = omega arith;
         few = omega (arith, now .few);
-        room = omega (arith, now .room);
+        room = omega (arith, now .room, ap longestBy (at-place row i here));
         size = rw (p .wrote) (length-sets out end b ∙ now .size);
       }
 

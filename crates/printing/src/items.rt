@@ -3,8 +3,8 @@ ghost use mathlib.Core.List.{[], _∷_};
 ghost use mathlib.Core.Path.{_≡_};
 ghost use Prim.Native.Nat.{_%_, _+_, _/_, _<_, _^_, _≤_};
 ghost use lib.ListN.{length};
-ghost use Rattle.rows.specs.Items.{fitsAs, formOf, hexDigit, isPlain, setText, textAs, width};
-ghost use Rattle.printing.specs.Member.{member};
+ghost use Rattle.rows.specs.Items.{fitsAs, formOf, hexDigit, isPlain, setText, width};
+ghost use Rattle.printing.specs.Member.{Shown, itemRoom, member};
 ghost use Rattle.text.specs.Text.{Put};
 
 // The value can be said: a byte that is not shown is the row's, and a label has its characters.
@@ -74,8 +74,8 @@ fn put_member(out: &mut [u8], at: usize, first: bool, vault: u8) -> usize
 }
 
 fn put_set(out: &mut [u8], at: usize, set: u16) -> usize
-    requires { ⌜ at + 200 ≤ length (now out) ⌝ }
-    ensures { λ r. ⌜ Put (now (out .entry)) at (setText set) (now (out .exit)) r × (r ≤ at + 200) ⌝ }
+    requires { ⌜ at + itemRoom ≤ length (now out) ⌝ }
+    ensures { λ r. ⌜ Put (now (out .entry)) at (setText set) (now (out .exit)) r ⌝ }
 {
     if set == 0 {
         return words::put(out, at, b"none");
@@ -96,8 +96,8 @@ fn put_set(out: &mut [u8], at: usize, set: u16) -> usize
 }
 
 pub(crate) fn write(i: u8, value: u32, out: &mut [u8], at: usize) -> usize
-    requires { ⌜ (value < 256 ^ width (formOf i)) × (at + 200 ≤ length (now out)) ⌝ }
-    ensures { λ r. ⌜ Put (now (out .entry)) at (textAs (formOf i) i value) (now (out .exit)) r × (r ≤ at + 200) ⌝ }
+    requires { ⌜ (value < 256 ^ width (formOf i)) × (at + itemRoom ≤ length (now out)) ⌝ }
+    ensures { λ r. ⌜ Shown i value (now (out .entry)) at (now (out .exit)) r ⌝ }
 {
     if i < 32 {
         return at;

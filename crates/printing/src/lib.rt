@@ -5,7 +5,8 @@ ghost use mathlib.Core.Path.{_≡_};
 ghost use Prim.Native.Nat.{_*_, _+_, _<_, _^_, _≤_};
 ghost use lib.ListN.{drop, getD, length};
 ghost use Rattle.codec.specs.Codec.{leAt};
-ghost use Rattle.rows.specs.Writing.{fits, textBy};
+ghost use Rattle.rows.specs.Writing.{fits, longestBy, textBy};
+ghost use Rattle.printing.specs.Member.{itemRoom};
 ghost use Rattle.text.specs.Text.{Put};
 
 fn wide(x: u8) -> u32
@@ -66,11 +67,11 @@ pub fn fits(row: &[u8], step: &[u8]) -> bool
     true
 }
 
-// Writes the step where there is room for the longest text of each character of the row.
+// The step as the row writes it, where there is room for the longest text of each character of the row, and for one more.
 pub fn write_row(row: &[u8], step: &[u8], out: &mut [u8], start: usize) -> usize
-    requires { ⌜ (length (now row) ≤ 2048) × (start + 200 * length (now row) ≤ length (now out)) ⌝ }
+    requires { ⌜ (length (now row) ≤ 2048) × (start + longestBy (now row) + itemRoom ≤ length (now out)) ⌝ }
     ensures { λ r. ⌜ Put (now (out .entry)) start (textBy (now (row .entry)) (now (step .entry))) (now (out .exit)) r
-        × (r ≤ start + 200 * length (now (row .entry))) ⌝ }
+        × (r ≤ start + longestBy (now (row .entry))) ⌝ }
 {
     let mut end = start;
     let mut at = 0;

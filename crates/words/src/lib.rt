@@ -48,7 +48,7 @@ fn put_byte(out: &mut [u8], at: usize, b: u8) -> usize
     at + 1
 }
 
-// The table: a row for each kind of line. What its characters stand for is said in specs/ of the crate `rows`.
+// The table, a row for each kind of line. What its characters stand for is said in specs/ of the crate `rows`.
 pub fn put_row(out: &mut [u8], k: usize) -> usize
     requires { ⌜ 64 ≤ length (now out) ⌝ }
     ensures { λ r. ⌜ Put (now (out .entry)) 0 (row k) (now (out .exit)) r × (r ≤ 64) ⌝ }

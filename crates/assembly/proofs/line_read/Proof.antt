@@ -12,7 +12,7 @@ returns-2 c =
     let version = step .before .before .before in
     let start = version .before .before .before .before .before .before .before in
     step-line (start .args .at) (start .args .end) _ _ (version .before .before .before .if1 .left) (omega (arith, start .pre .2))
-    (version .before .front .ensures .0) (version .version-in .ensures) (step .step-read .ensures)
+    (version .before .front .ensures .0) (version .word-at .ensures) (step .step-read .ensures)
 
 pub line-read-spec : {M : Type 1} → statement M
 line-read-spec =

@@ -21,7 +21,7 @@ loop-again c =
     let wide = value .before in
     let turn = wide .before .before in
     write-turn (turn .before .loop .inv) _ _ _ _ (turn .loop-test .taken) (wide .width .ensures .0) (wide .width .ensures .1) (value .value-at .ensures .0)
-    (put .write .ensures .0) (put .write .ensures .1)
+    (put .write .ensures .put) (put .write .ensures .few)
 
 pub write-row-spec : {M : Type 1} → statement M
 write-row-spec =

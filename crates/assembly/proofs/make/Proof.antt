@@ -1,7 +1,7 @@
 -- Each turn takes a line.
 use Rattle.assembly.proofs.Making.{Making, line-turn, makes}
-use Rattle.assembly.proofs.assemble.Statement.{statement}
-use Rattle.assembly.proofs.assemble.Tie as tie
+use Rattle.assembly.proofs.make.Statement.{statement}
+use Rattle.assembly.proofs.make.Tie as tie
 use Prim.Native.Nat.{_-_}
 use lib.ListN.{length}
 use mathlib.Core.Path.{_≡_}
@@ -30,7 +30,7 @@ loop-again-2 c =
       search needs,
     )
 
-pub assemble-spec : {M : Type 1} → statement M
-assemble-spec =
+pub make-spec : {M : Type 1} → statement M
+make-spec =
     tie.close
     (tie.spec Inv-loop μ-loop (λ c. search by) (λ c κs. search by) (λ c. search by) (λ c. search by) (λ c. search by) (λ c. search by) (λ c κs. search by) (λ c κs. search by) (λ c κs. search by) (λ c. search by) (λ c. search by) (λ c. search by) (λ c κs. search by) (λ c κs. search by) (λ c κs. search by) (λ c. search by) (λ c. search by) (λ c. search by) (λ c κs. search by) (λ c. search by) (λ c. search by) loop-again-2 (λ c κs. search by) (λ c. search by) (λ c. search by) (λ c. search by))
