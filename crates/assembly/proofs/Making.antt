@@ -12,7 +12,8 @@ use Rattle.base.proofs.Reflect.{by-test}
 use Rattle.rows.proofs.Sound.{if-fine}
 use Rattle.rows.specs.Reading.{Parsed as Read}
 use Rattle.runfile.specs.Run.{longest, versionIn}
-use Rattle.notation.specs.Files.{Made as Said, afterLine, assembled, finished, headerRead, isNone, lineOver, lineRead, madeFrom, noHeader, skipBlanks, taken, tooLong}
+use Rattle.notation.specs.Files.{Made as Said, afterLine, assembled, finished, headerRead, isNone, lineOver, lineRead, madeFrom, noHeader, skipBlanks, taken}
+use Rattle.notation.specs.Files.{tooLong}
 use Rattle.notation.specs.Lines.{moreText, stepRead}
 use Rattle.parsing.specs.Took.{ReadTo}
 use Rattle.parsing.specs.declared.Parsed.{Parsed}
@@ -93,8 +94,10 @@ module _ (m : Said) (p : Read) where
   unfolding taken
   left-out =
       if-fine (λ (x : Said). (x .reason ≡ 0 → ⊥) → x ≡ record { reason = x .reason; line = m .line; bytes = m .bytes }) (eqb (p .reason) 0) _ _
-      (λ a. if-fine (λ (x : Said). (x .reason ≡ 0 → ⊥) → x ≡ record { reason = x .reason; line = m .line; bytes = m .bytes }) (lineOver (skipBlanks (p .rest))) _ _
-      (λ b. if-fine (λ (x : Said). (x .reason ≡ 0 → ⊥) → x ≡ record { reason = x .reason; line = m .line; bytes = m .bytes }) (leb (length (m .bytes ++ p .bytes)) longest) _ _
+      (λ a. if-fine (λ (x : Said). (x .reason ≡ 0 → ⊥) → x ≡ record { reason = x .reason; line = m .line; bytes = m .bytes })
+      (lineOver (skipBlanks (p .rest))) _ _
+      (λ b. if-fine (λ (x : Said). (x .reason ≡ 0 → ⊥) → x ≡ record { reason = x .reason; line = m .line; bytes = m .bytes })
+      (leb (length (m .bytes ++ p .bytes)) longest) _ _
       (λ c r. absurd (r refl)) (λ c r. refl))
       (λ b r. refl))
       (λ a r. refl)
@@ -116,7 +119,8 @@ judged-so {text} {before} {after} {end} {p} said line w l j h =
     let q : p .end ≡ length (take end before ++ said .bytes) =
     l .ends z ∙ sym (length-append (take end before) (said .bytes) ∙ ap (λ (k : ℕ). k + length (said .bytes)) (length-take-le end before h)) in
     j .is ∙ rw (l .reason-is, l .rest-is z, q, e)
-    (reasons (lineOver (skipBlanks (said .rest))) (leb (length (take end before ++ said .bytes)) longest) line (take end before ++ said .bytes) (take end before)))
+    (reasons (lineOver (skipBlanks (said .rest))) (leb (length (take end before ++ said .bytes)) longest) line (take end before ++ said .bytes)
+    (take end before)))
     (λ e. j .is ∙ rw (l .reason-is, e))
 
 pub record Making (text : List ℕ) (left at end line : ℕ) (out : List ℕ) : Type 0 where
@@ -188,7 +192,8 @@ module _ {text : List ℕ} where
         rw e (ended text end line out (omega (arith, now .few, now .size))
         (sym (now .remains) ∙ ap (madeFrom left (making line (take end out))) (at-end text at h (now .inside)) ∙ made-end left _))
 
-    module _ (some : 0 < left) (here : at < length text) (s : ℕ) (b : Bool) (start : drop s text ≡ skipBlanks (drop at text)) (is : b ≡ lineOver (drop s text)) where
+    module _ (some : 0 < left) (here : at < length text) (s : ℕ) (b : Bool) (start : drop s text ≡ skipBlanks (drop at text))
+        (is : b ≡ lineOver (drop s text)) where
       fuel : left ≡ suc (left - 1)
       fuel = omega arith
 
@@ -200,7 +205,8 @@ module _ {text : List ℕ} where
 
       pub blank-turn : (n : ℕ) → b ≡ true → drop n text ≡ afterLine (drop s text) → n ≤ length text → Making text (left - 1) n end (line + 1) out
       blank-turn n t e h = record {
-        remains = rw (e ∙ ap afterLine start) (sym (lead _ ∙ blank-next (left - 1) (making line (take end out)) (drop at text) (rest-full text at here) (so true t))
+        remains =
+            rw (e ∙ ap afterLine start) (sym (lead _ ∙ blank-next (left - 1) (making line (take end out)) (drop at text) (rest-full text at here) (so true t))
             ∙ now .remains);
         inside = h;
         few = now .few;
@@ -208,7 +214,8 @@ module _ {text : List ℕ} where
         size = now .size;
       }
 
-      module _ (f : b ≡ false) (p : Parsed) (after : List ℕ) (read : LineTo (lineRead (take end out) (drop s text)) text end out after p) (w : ℕ) (j : Judged text p w) where
+      module _ (f : b ≡ false) (p : Parsed) (after : List ℕ) (read : LineTo (lineRead (take end out) (drop s text)) text end out after p) (w : ℕ)
+          (j : Judged text p w) where
         from : lineRead (take end out) (skipBlanks (drop at text)) ≡ lineRead (take end out) (drop s text)
         from = ap (lineRead (take end out)) (sym start)
 

@@ -33,7 +33,8 @@ pub struct Made {
 // A line after the file's first bytes: the header where there are none.
 fn line_read(text: &[u8], at: usize, buffer: &mut [u8], out: &mut [u8], end: usize) -> Parsed
     requires { ⌜ (at ≤ length (now text)) × (rowRoom ≤ length (now buffer)) × (end + 4 * longestRow + 3 ≤ length (now out)) ⌝ }
-    ensures { λ r. ⌜ LineTo (lineRead (take end (now (out .entry))) (drop at (now (text .entry)))) (now (text .entry)) end (now (out .entry)) (now (out .exit)) r ⌝ }
+    ensures { λ r. ⌜ LineTo (lineRead (take end (now (out .entry))) (drop at (now (text .entry)))) (now (text .entry)) end (now (out .entry))
+        (now (out .exit)) r ⌝ }
 {
     if end == 0 {
         return lines::header_read(text, at, buffer, out);

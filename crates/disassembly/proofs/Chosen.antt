@@ -23,7 +23,9 @@ use Rattle.disassembly.specs.Rows.{Stands}
 module _ (s : List ℕ) where
   pub too-many : (o : ℕ) → o ≡ getD s 4 0 → 4 < o → false ≡ hasShape s
   unfolding hasShape
-  too-many o e h = sym (rw (lt-leb (getD s 4 0) 4 (omega (arith, e))) (and-false (cond (eqb (getD s 1 0) 0) (eqb (getD s 3 0) 0) (eqb (getD s 1 0) 1 && leb (getD s 3 0) 4))))
+  too-many o e h =
+      sym (rw (lt-leb (getD s 4 0) 4 (omega (arith, e)))
+      (and-false (cond (eqb (getD s 1 0) 0) (eqb (getD s 3 0) 0) (eqb (getD s 1 0) 1 && leb (getD s 3 0) 4))))
 
   module _ (o m : ℕ) (e : o ≡ getD s 4 0) (h : o ≤ 4) (f : m ≡ getD s 1 0) where
     low : leb (getD s 4 0) 4 ≡ true
@@ -58,7 +60,9 @@ few-inputs s i h e =
 
 pub few-outputs : (s : List ℕ) (o : ℕ) → hasShape s ≡ true → o ≡ getD s 4 0 → o ≤ 4
 unfolding hasShape
-few-outputs s o h e = omega (arith, e, leb-true (getD s 4 0) 4 (and-true (cond (eqb (getD s 1 0) 0) (eqb (getD s 3 0) 0) (eqb (getD s 1 0) 1 && leb (getD s 3 0) 4)) (leb (getD s 4 0) 4) h .1))
+few-outputs s o h e =
+    let counts = cond (eqb (getD s 1 0) 0) (eqb (getD s 3 0) 0) (eqb (getD s 1 0) 1 && leb (getD s 3 0) 4) in
+    omega (arith, e, leb-true (getD s 4 0) 4 (and-true counts (leb (getD s 4 0) 4) h .1))
 
 leAt-drop : (l : List ℕ) (n at k : ℕ) → leAt (drop n l) at k ≡ leAt l (n + at) k
 unfolding leAt
@@ -86,7 +90,8 @@ module _ (version : ℕ) (s : List ℕ) {p : List ℕ} {r : ℕ} where
   unfolding proposalRow
   by-bytes a e f d = rw (sym e ∙ f) d
 
-  pub by-bytes-too : (f p₁ : List ℕ) (r₁ : ℕ) (a b : Bool) → a ≡ hasShape s → a ≡ true → f ≡ take r₁ p₁ → Stands (shapedFor version s) p₁ r₁ → b ≡ fits f s → b ≡ false
+  pub by-bytes-too : (f p₁ : List ℕ) (r₁ : ℕ) (a b : Bool) → a ≡ hasShape s → a ≡ true → f ≡ take r₁ p₁ → Stands (shapedFor version s) p₁ r₁ → b ≡ fits f s
+      → b ≡ false
       → Stands (rawRow version) p r → Stands (proposalRow version s) p r
   unfolding proposalRow
   by-bytes-too f p₁ r₁ a b e t q d g u w = rw (sym e ∙ t, ap (λ (x : List ℕ). fits x s) (sym (q ∙ d .row-is)) ∙ sym g ∙ u) w

@@ -36,23 +36,27 @@ module _ {text before after : List ℕ} {end : ℕ} {r : Parsed} (at : ℕ) wher
   by-front t w h e d = rw (e ∙ made h w) at d
 
   module _ (version k : ℕ) (s : Shape) where
-    pub few-read : s .inputs ≤ 4 → s .outputs ≤ 4 → ReadTo (readBy (shaped version k (s .inputs) (s .outputs) (s .trimmed)) (drop at text)) text end before after r
+    pub few-read : s .inputs ≤ 4 → s .outputs ≤ 4
+        → ReadTo (readBy (shaped version k (s .inputs) (s .outputs) (s .trimmed)) (drop at text)) text end before after r
         → ReadTo (proposalRead version k s (drop at text)) text end before after r
     unfolding proposalRead
     few-read a b d = rw (le-leb (s .inputs) 4 a, le-leb (s .outputs) 4 b) d
 
   module _ (version k : ℕ) (is : k ≡ rowFor (drop at text)) where
-    by-row : (p : Said) → stepRead version (drop at text) ≡ p → ReadTo p text end before after r → ReadTo (stepRead version (drop at text)) text end before after r
+    by-row : (p : Said) → stepRead version (drop at text) ≡ p → ReadTo p text end before after r
+        → ReadTo (stepRead version (drop at text)) text end before after r
     by-row p e d = rw e d
 
-    pub shape-chosen : (s : Shape) → s ≡ scan (unseen k) (drop at text) → 2 ≤ k → k ≤ 3 → k < rows → ReadTo (proposalRead version k s (drop at text)) text end before after r
+    pub shape-chosen : (s : Shape) → s ≡ scan (unseen k) (drop at text) → 2 ≤ k → k ≤ 3 → k < rows
+        → ReadTo (proposalRead version k s (drop at text)) text end before after r
         → ReadTo (stepRead version (drop at text)) text end before after r
     unfolding stepRead
     shape-chosen s e a b c d =
         by-row (proposalRead version k s (drop at text))
         (rw (sym is, lt-leb rows k c, le-ltb k 2 a, le-leb k 3 b, sym e)) d
 
-    pub raw-chosen : k ≡ 4 → ReadTo (readBy (rawRow version) (drop at text)) text end before after r → ReadTo (stepRead version (drop at text)) text end before after r
+    pub raw-chosen : k ≡ 4 → ReadTo (readBy (rawRow version) (drop at text)) text end before after r
+        → ReadTo (stepRead version (drop at text)) text end before after r
     unfolding stepRead
     raw-chosen e d = by-row (readBy (rawRow version) (drop at text)) (rw (sym is, e)) d
 

@@ -93,7 +93,8 @@ module _ {row text : List ℕ} {from : ℕ} where
 
       pub compare-over : 32 ≤ getD row i 0 → (getD row i 0 ≡ 32 → ⊥) → length text ≤ at → false ≡ begins row (drop from text)
       compare-over h n l =
-          over false (ap (λ (r : List ℕ). begins r (drop at text)) (at-place row i here) ∙ ap (begins (getD row i 0 ∷ drop (i + 1) row)) (at-end text at l (now .inside))
+          over false (ap (λ (r : List ℕ). begins r (drop at text)) (at-place row i here) ∙ ap (begins (getD row i 0 ∷ drop (i + 1) row))
+          (at-end text at l (now .inside))
           ∙ lacks (getD row i 0) (drop (i + 1) row) h n)
 
 pub ruleset comparisons = (compare-begun, compare-end, compare-hidden, compare-space, compare-same, compare-other, compare-over)

@@ -17,11 +17,13 @@ use Rattle.rows.specs.Table.{accession, letters, row}
 use Rattle.rows.specs.Writing.{endsNext, fits, readable, textBy, widths}
 use Rattle.runfile.specs.Run.{headerSize, isHeader, longest, opened, opens, opensUpTo, versionIn}
 use Rattle.runfile.specs.Steps.{bodySize, kindAt, kindOf, nextAt}
-use Rattle.notation.specs.Files.{Made, Makes, afterLine, assembled, bytesAt, disassembled, finished, headerLine, headerRead, isKnown, isNone, lineOver, lineRead, linesFrom, madeFrom, sayable, skipBlanks, taken, wholeFrom}
+use Rattle.notation.specs.Files.{Made, Makes, afterLine, assembled, bytesAt, disassembled, finished, headerLine, headerRead, isKnown, isNone, lineOver}
+use Rattle.notation.specs.Files.{lineRead, linesFrom, madeFrom, sayable, skipBlanks, taken, wholeFrom}
 use Rattle.notation.specs.Lines.{begins, closes, firstOf, lineOf, rowFor, wordEnds}
 use Rattle.notation.proofs.Shapes.{Version}
 use Rattle.notation.proofs.Steps.{Reads, Word, each-kind, fixed, shown, word-of}
-use Rattle.notation.proofs.Views.{Known, Nine, Opened, bytes-are, bytes-bytes, bytes-size, first-three, headed, known-at, nine, nine-of, opened-of, opens-same, taken-to}
+use Rattle.notation.proofs.Views.{Known, Nine, Opened, bytes-are, bytes-bytes, bytes-size, first-three, headed, known-at, nine, nine-of, opened-of}
+use Rattle.notation.proofs.Views.{opens-same, taken-to}
 
 abbrev making : ℕ → List ℕ → Made
 making line bytes = record { reason = 0; line = line; bytes = bytes }

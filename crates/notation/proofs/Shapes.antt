@@ -143,7 +143,8 @@ all-sized : ℕ → ℕ → Bool
 all-sized version trimmed = allBelow 2 (λ m. allBelow 5 (λ i. allBelow 5 (λ o. isSized version trimmed m i o)))
 
 checked : (allBelow 2 (all-good 1) && allBelow 2 (all-good 2)) ≡ true
-unfolding all-good isGood allBelow sameList shaped half times trimmedRow row saysTrimmed simple readable endsNext marks formOf unseen mark counted closes between
+unfolding all-good isGood allBelow sameList shaped half times trimmedRow row saysTrimmed simple readable endsNext marks formOf unseen mark counted closes
+    between
 checked = refl
 
 measured : (allBelow 2 (all-sized 1) && allBelow 2 (all-sized 2)) ≡ true
@@ -181,7 +182,8 @@ module _ (version trimmed : ℕ) (v : Version version) where
   pub good-accession : (o : ℕ) → o ≤ 4 → isGood version accession 0 o (said trimmed) ≡ true
   unfolding all-good
   good-accession o l =
-      all-at (λ o. isGood version accession 0 o (said trimmed)) 5 (and-true _ _ (in-table all-good checked version (said trimmed) v (said-lt trimmed)) .0) o (omega arith)
+      all-at (λ o. isGood version accession 0 o (said trimmed)) 5 (and-true _ _ (in-table all-good checked version (said trimmed) v (said-lt trimmed)) .0) o
+      (omega arith)
 
   pub good-migration : (i o : ℕ) → i ≤ 4 → o ≤ 4 → isGood version migration i o (said trimmed) ≡ true
   unfolding all-good

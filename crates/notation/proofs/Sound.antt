@@ -19,7 +19,8 @@ use Rattle.rows.specs.Table.{accession, letters, migration, raw, rawRow, row, r
 use Rattle.rows.specs.Writing.{widths}
 use Rattle.runfile.specs.Run.{headerSize, longest, opens, versionIn}
 use Rattle.runfile.specs.Steps.{bodySize, kindAt, kindOf, nextAt}
-use Rattle.notation.specs.Files.{Made, afterLine, assembled, finished, headerRead, isKnown, isNone, lineOver, lineRead, madeFrom, sayable, skipBlanks, taken, wholeFrom}
+use Rattle.notation.specs.Files.{Made, afterLine, assembled, finished, headerRead, isKnown, isNone, lineOver, lineRead, madeFrom, sayable, skipBlanks}
+use Rattle.notation.specs.Files.{taken, wholeFrom}
 use Rattle.notation.specs.Lines.{proposalRead, rowFor, stepRead}
 use Rattle.notation.specs.declared.Shape.{Shape}
 use Rattle.notation.proofs.Shapes.{Version, wide}

@@ -19,7 +19,8 @@ use Rattle.rows.specs.Table.{accession, letters, migration, raw, rawRow, row, r
 use Rattle.rows.specs.Writing.{endsNext, fits, readable, textBy, widths}
 use Rattle.runfile.specs.Steps.{bodySize, kindOf}
 use Rattle.notation.specs.Files.{isKnown, lineOver, skipBlanks}
-use Rattle.notation.specs.Lines.{begins, closes, firstOf, hasShape, lineOf, proposalRead, proposalRow, rowFor, rowOf, scan, shapedFor, stepRead, unseen, wordEnds}
+use Rattle.notation.specs.Lines.{begins, closes, firstOf, hasShape, lineOf, proposalRead, proposalRow, rowFor, rowOf, scan, shapedFor, stepRead, unseen}
+use Rattle.notation.specs.Lines.{wordEnds}
 use Rattle.notation.proofs.Shapes.{Version, good-accession, good-migration, proposal-in, said, wide}
 
 -- what is true of each kind is true of all that are known
@@ -199,7 +200,8 @@ module _ (version : ℕ) (v : Version version) (t : List ℕ) where
       → Reads version (lineOf version (b ∷ body)) (b ∷ body) t
 
   pub each-kind : (b : ℕ) → isKnown (kindOf b) ≡ true → OfKind b
-  unfolding kindOf lineOf rowOf row rowFor firstOf begins wordEnds shown fixed textBy formOf skipBlanks lineOver closes widths fits leAt readable endsNext between
+  unfolding kindOf lineOf rowOf row rowFor firstOf begins wordEnds shown fixed textBy formOf skipBlanks lineOver closes widths fits leAt readable endsNext
+      between
   each-kind =
       by-kind OfKind proposal-read
       (λ body bs n. row-read 5 (2 ∷ body) refl refl refl refl refl refl bs n
@@ -223,6 +225,7 @@ module _ (version : ℕ) (v : Version version) (t : List ℕ) where
       (λ body bs n. row-read 14 (11 ∷ body) refl refl refl refl refl refl bs n
       (word-of 14 (letters "\u{b}dependencies ") (letters "vault # job #") (11 ∷ body) t refl (record { row-is = refl; start = refl; stays = refl })))
       (λ body bs n. row-read 15 (12 ∷ body) refl refl refl refl refl refl bs n
-      (word-of 15 (letters "\u{c}client-preflight ") (letters "vault # job # client #") (12 ∷ body) t refl (record { row-is = refl; start = refl; stays = refl })))
+      (word-of 15 (letters "\u{c}client-preflight ") (letters "vault # job # client #") (12 ∷ body) t refl
+      (record { row-is = refl; start = refl; stays = refl })))
       (λ body bs n. row-read 16 (13 ∷ body) refl refl refl refl refl refl bs n
       (word-of 16 (letters "\requivocating") [] (13 ∷ body) t refl (record { row-is = refl; start = refl; stays = refl })))

@@ -35,7 +35,8 @@ module _ (i : ℕ) (is l : List ℕ) where
   unfolding readBy
   went e = rw (eq-eqb (takeAs (formOf i) i l .reason) 0 e)
 
-  halted : (takeAs (formOf i) i l .reason ≡ 0 → ⊥) → readBy (i ∷ is) l ≡ record { reason = takeAs (formOf i) i l .reason; bytes = []; rest = takeAs (formOf i) i l .rest }
+  halted : (takeAs (formOf i) i l .reason ≡ 0 → ⊥)
+      → readBy (i ∷ is) l ≡ record { reason = takeAs (formOf i) i l .reason; bytes = []; rest = takeAs (formOf i) i l .rest }
   unfolding readBy
   halted e = rw (ne-eqb (takeAs (formOf i) i l .reason) 0 e)
 
@@ -45,7 +46,8 @@ module _ {row text : List ℕ} {from start : ℕ} {before : List ℕ} where
 
   module _ {i at end : ℕ} {out : List ℕ} (now : Reading row text from start before i at end out) where
     module _ (here : i < length row) (t : Token) (took : Took (takeAs (formOf (getD row i 0)) (getD row i 0) (drop at text)) text t) where
-      pub item-turn : (w e : ℕ) (out₁ : List ℕ) → t .reason ≡ 0 → w ≡ width (formOf (getD row i 0)) → w ≤ 4 → out₁ ≡ sets out end (leBytes w (t .value)) → e ≡ end + w
+      pub item-turn : (w e : ℕ) (out₁ : List ℕ) → t .reason ≡ 0 → w ≡ width (formOf (getD row i 0)) → w ≤ 4 → out₁ ≡ sets out end (leBytes w (t .value))
+          → e ≡ end + w
           → Reading row text from start before (i + 1) (t .next) e out₁
       item-turn w e out₁ z q m u v =
           let x = getD row i 0 in
@@ -89,7 +91,8 @@ module _ {row text : List ℕ} {from start : ℕ} {before : List ℕ} where
             room = omega (arith, now .few);
           }
 
-    pub row-done : length row ≤ i → start + 4 * length row ≤ length before → ReadTo (readBy row (drop from text)) text start before out (record { reason = 0; next = at; end = end })
+    pub row-done : length row ≤ i → start + 4 * length row ≤ length before
+        → ReadTo (readBy row (drop from text)) text start before out (record { reason = 0; next = at; end = end })
     unfolding readBy
     row-done h big =
         let whole : readBy (drop i row) (drop at text) ≡ record { reason = 0; bytes = []; rest = drop at text } =

@@ -11,7 +11,8 @@ use borrow.Author.Tests.{eq-eqb, le-leb, le-ltb, lt-leb, lt-ltb, ne-eqb}
 use Rattle.base.proofs.Lists.{reflect-same}
 use Rattle.base.proofs.Reflect.{and-false, refutes}
 use Rattle.base.specs.Lists.{sameList}
-use Rattle.rows.specs.Items.{Token as Said, between, fault, fine, formOf, hexIn, hexOf, isDigit, isPlain, literalIn, noByte, noLabel, noMatch, numbersIn, plainIn, saysNone, setIn, takeAs, width}
+use Rattle.rows.specs.Items.{Token as Said, between, fault, fine, formOf, hexIn, hexOf, isDigit, isPlain, literalIn, noByte, noLabel, noMatch, numbersIn}
+use Rattle.rows.specs.Items.{plainIn, saysNone, setIn, takeAs, width}
 use Rattle.rows.specs.Table.{letters}
 use Rattle.rows.proofs.Numbers.{above, within}
 use Rattle.parsing.specs.Took.{Took}
@@ -54,7 +55,8 @@ module _ (text : List ℕ) (at : ℕ) where
 
   pub none-taken : (b : Bool) (r : Token) → b ≡ saysNone (drop at text) → b ≡ true → r ≡ made 0 0 (at + 4) → Took (setIn (drop at text)) text r
   unfolding setIn
-  none-taken b r e t m = taken _ (fine 0 (drop 4 (drop at text))) r 0 0 (at + 4) m (rw (sym e ∙ t)) refl refl (sym (drop-drop 4 at text)) (long-none (sym e ∙ t))
+  none-taken b r e t m =
+      taken _ (fine 0 (drop 4 (drop at text))) r 0 0 (at + 4) m (rw (sym e ∙ t)) refl refl (sym (drop-drop 4 at text)) (long-none (sym e ∙ t))
 
   pub set-taken : (b : Bool) (r : Token) → b ≡ saysNone (drop at text) → b ≡ false → Took (numbersIn true 16 false 0 0 (drop at text)) text r
       → Took (setIn (drop at text)) text r
@@ -225,6 +227,21 @@ module _ (i : ℕ) where
 
 pub ruleset wides = (constant-wide, byte-wide, frames-wide, set-wide, hex-wide, plain-wide, literal-wide)
 
-pub ruleset singles = (short-none, none-room, none-taken, set-taken, hex-short, hex-first, hex-second, hex-taken, plain-taken, plain-other, plain-over, literal-taken, literal-other, literal-over)
+pub ruleset singles = (
+  short-none,
+  none-room,
+  none-taken,
+  set-taken,
+  hex-short,
+  hex-first,
+  hex-second,
+  hex-taken,
+  plain-taken,
+  plain-other,
+  plain-over,
+  literal-taken,
+  literal-other,
+  literal-over,
+)
 
 pub ruleset forms = (as-constant, as-byte, as-frames, as-set, as-hex, as-plain, as-literal)

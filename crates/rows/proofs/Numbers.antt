@@ -9,6 +9,7 @@ use lib.ListN.{getD}
 use borrow.Author.Tests.{le-leb, le-ltb, lt-leb, lt-ltb, ltb-false, ltb-true}
 use Rattle.base.proofs.Reflect.{and-true, by-test, or-false, reflect-false}
 use Rattle.codec.specs.Codec.{AreBytes, leAt}
+use Rattle.sets.specs.Bits.{withMember}
 use Rattle.text.specs.Text.{decimal, digits}
 use Rattle.rows.specs.Items.{between, closed, fine, hexDigit, hexOf, isDigit, numbersIn}
 use Rattle.rows.specs.Writing.{ends}
@@ -67,7 +68,9 @@ module _ (many : Bool) (bound set : ℕ) where
       let t = or-false (isDigit c) (eqb c 44) (reflect-false (isDigit c || eqb c 44) .sound h) in
       simp (t .0, t .1) (no-comma many)
     where
-      no-comma : (b : Bool) → cond (b && false) (numbersIn many bound false (Rattle.sets.specs.Bits.withMember 16 set n) 0 l) (fine (closed many set n) (c ∷ l)) ≡ fine (closed many set n) (c ∷ l)
+      no-comma : (b : Bool)
+          → cond (b && false) (numbersIn many bound false (withMember 16 set n) 0 l) (fine (closed many set n) (c ∷ l))
+          ≡ fine (closed many set n) (c ∷ l)
       no-comma true = refl
       no-comma false = refl
 

@@ -11,7 +11,8 @@ use borrow.Author.Tests.{eq-eqb, eqb-true, lt-ltb}
 use Rattle.base.proofs.Reflect.{and-true}
 use Rattle.codec.proofs.RoundTrip.{leBytes-leAt}
 use Rattle.codec.specs.Codec.{AreBytes, leAt, leBytes}
-use Rattle.rows.specs.Items.{Form, constant, fine, fitsAs, formOf, hexDigit, hexIn, hexOf, hexadecimal, literal, literalIn, members, number, plain, plainIn, takeAs, textAs, width}
+use Rattle.rows.specs.Items.{Form, constant, fine, fitsAs, formOf, hexDigit, hexIn, hexOf, hexadecimal, literal, literalIn, members, number, plain}
+use Rattle.rows.specs.Items.{plainIn, takeAs, textAs, width}
 use Rattle.rows.specs.Reading.{Parsed, onward, readBy}
 use Rattle.rows.specs.Writing.{endsAs, endsNext, fits, readable, readableAs, textBy, widths}
 use Rattle.rows.proofs.Numbers.{decimal-in, ended, endsHead, hex-in, leAt-lt}

@@ -104,7 +104,8 @@ module _ {o p : List ℕ} {at r : ℕ} where
   unfolding trimmedRow saysTrimmed
   zeros-put version trimmed v n w = rw (eq-eqb version 2 v, eq-eqb trimmed 0 n) w
 
-  pub raw-put : (version n : ℕ) {q : List ℕ} {j : ℕ} → n ≡ recordSize version → Put o at (row 4) q j → Put q j (times n (37 ∷ [])) p r → Put o at (rawRow version) p r
+  pub raw-put : (version n : ℕ) {q : List ℕ} {j : ℕ} → n ≡ recordSize version → Put o at (row 4) q j → Put q j (times n (37 ∷ [])) p r
+      → Put o at (rawRow version) p r
   unfolding rawRow
   raw-put version n e a b = then a (rw e at b)
 

@@ -10,7 +10,8 @@ use borrow.Author.Needs.{needs}
 ruleset by = (makes, needs)
 
 abbrev Inv-loop : tie.InvT-loop
-Inv-loop text buffer₀ out₀ left₀ at₀ end₀ line₀ buffer out left at end line = Making text left at end line out × (length buffer ≡ length buffer₀) × (length out ≡ length out₀)
+Inv-loop text buffer₀ out₀ left₀ at₀ end₀ line₀ buffer out left at end line =
+    Making text left at end line out × (length buffer ≡ length buffer₀) × (length out ≡ length out₀)
 
 abbrev μ-loop : tie.MeasureT-loop
 μ-loop text buffer₀ out₀ left₀ at₀ end₀ line₀ buffer out left at end line = left
@@ -23,8 +24,10 @@ loop-again-2 c =
     let skip = over .before in
     let turn = skip .before .before in
     let loop = turn .before in (
-      line-turn (loop .loop .inv .0) (turn .loop-test .taken) (skip .before .if1 .left) (skip .skip-blanks .result) _ (skip .skip-blanks .ensures .0) (over .is-over .ensures)
-          (read .before .before .before .if2 .left) _ _ (read .line-read .ensures) _ (judge .judge .ensures) (c .after-line2 .result) (c .before .if3 .left) (search needs)
+      line-turn (loop .loop .inv .0) (turn .loop-test .taken) (skip .before .if1 .left) (skip .skip-blanks .result) _ (skip .skip-blanks .ensures .0)
+          (over .is-over .ensures)
+          (read .before .before .before .if2 .left) _ _ (read .line-read .ensures) _ (judge .judge .ensures) (c .after-line2 .result) (c .before .if3 .left)
+          (search needs)
           (c .after-line2 .ensures .0) (c .after-line2 .ensures .1),
       search needs,
       search needs,
@@ -33,4 +36,7 @@ loop-again-2 c =
 pub make-spec : {M : Type 1} → statement M
 make-spec =
     tie.close
-    (tie.spec Inv-loop μ-loop (λ c. search by) (λ c κs. search by) (λ c. search by) (λ c. search by) (λ c. search by) (λ c. search by) (λ c κs. search by) (λ c κs. search by) (λ c κs. search by) (λ c. search by) (λ c. search by) (λ c. search by) (λ c κs. search by) (λ c κs. search by) (λ c κs. search by) (λ c. search by) (λ c. search by) (λ c. search by) (λ c κs. search by) (λ c. search by) (λ c. search by) loop-again-2 (λ c κs. search by) (λ c. search by) (λ c. search by) (λ c. search by))
+    (tie.spec Inv-loop μ-loop (λ c. search by) (λ c κs. search by) (λ c. search by) (λ c. search by) (λ c. search by) (λ c. search by) (λ c κs. search by)
+    (λ c κs. search by) (λ c κs. search by) (λ c. search by) (λ c. search by) (λ c. search by) (λ c κs. search by) (λ c κs. search by) (λ c κs. search by)
+    (λ c. search by) (λ c. search by) (λ c. search by) (λ c κs. search by) (λ c. search by) (λ c. search by) loop-again-2 (λ c κs. search by) (λ c. search by)
+    (λ c. search by) (λ c. search by))

@@ -18,7 +18,8 @@ returns-2 c =
     let first = put .before .before .before in
     let chosen = first .before .before .before in
     let start = chosen .before .before .before .before .before in
-    bad-header (start .args .at) (start .pre .0) _ (chosen .row-for .ensures) _ (first .if1 .left) (put .put .ensures .0) (own .own-read .ensures) _ (c .before .if2 .taken) (c .wrong2 .ensures)
+    bad-header (start .args .at) (start .pre .0) _ (chosen .row-for .ensures) _ (first .if1 .left) (put .put .ensures .0) (own .own-read .ensures) _
+    (c .before .if2 .taken) (c .wrong2 .ensures)
 
 is-lawful-requires : tie.Need-is-lawful-requires
 is-lawful-requires c κs =
@@ -27,7 +28,8 @@ is-lawful-requires c κs =
     let first = put .before .before .before in
     let chosen = first .before .before .before in
     let start = chosen .before .before .before .before .before in
-    nine-long (start .args .at) (start .pre .0) _ (chosen .row-for .ensures) _ (first .if1 .left) (put .put .ensures .0) (own .own-read .ensures) (c .before .before .if2 .left) (omega (arith, start .pre .2)) _ (c .front .ensures .0)
+    nine-long (start .args .at) (start .pre .0) _ (chosen .row-for .ensures) _ (first .if1 .left) (put .put .ensures .0) (own .own-read .ensures)
+    (c .before .before .if2 .left) (omega (arith, start .pre .2)) _ (c .front .ensures .0)
 
 returns-3 : tie.Need-returns-3
 returns-3 c =
@@ -36,7 +38,8 @@ returns-3 c =
     let first = put .before .before .before in
     let chosen = first .before .before .before in
     let start = chosen .before .before .before .before .before in
-    right-header (start .args .at) (start .pre .0) _ (chosen .row-for .ensures) _ (first .if1 .left) (put .put .ensures .0) (own .own-read .ensures) (c .before .before .before .before .if2 .left) (omega (arith, start .pre .2)) _ _ (c .before .before .front .ensures .0)
+    right-header (start .args .at) (start .pre .0) _ (chosen .row-for .ensures) _ (first .if1 .left) (put .put .ensures .0) (own .own-read .ensures)
+    (c .before .before .before .before .if2 .left) (omega (arith, start .pre .2)) _ _ (c .before .before .front .ensures .0)
     (c .before .is-lawful .ensures) (c .if3 .taken)
 
 returns-4 : tie.Need-returns-4
@@ -46,7 +49,8 @@ returns-4 c =
     let first = put .before .before .before in
     let chosen = first .before .before .before in
     let start = chosen .before .before .before .before .before in
-    unlawful-header (start .args .at) (start .pre .0) _ (chosen .row-for .ensures) _ (first .if1 .left) (put .put .ensures .0) (own .own-read .ensures) (c .before .before .before .before .before .if2 .left) (omega (arith, start .pre .2)) _ _ _
+    unlawful-header (start .args .at) (start .pre .0) _ (chosen .row-for .ensures) _ (first .if1 .left) (put .put .ensures .0) (own .own-read .ensures)
+    (c .before .before .before .before .before .if2 .left) (omega (arith, start .pre .2)) _ _ _
     (c .before .before .before .front .ensures .0) (c .before .before .is-lawful .ensures) (c .before .if3 .left) (c .wrong3 .ensures)
 
 pub header-read-spec : {M : Type 1} → statement M

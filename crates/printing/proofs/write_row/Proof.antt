@@ -26,4 +26,5 @@ loop-again c =
 pub write-row-spec : {M : Type 1} → statement M
 write-row-spec =
     tie.close
-    (tie.spec Inv-loop μ-loop (λ c. search by) (λ c. search by) (λ c κs. search by) (λ c κs. search by) (λ c κs. search by) (λ c. search by) (λ c. search by) (λ c. search by) loop-again (λ c. search by) (λ c. search by))
+    (tie.spec Inv-loop μ-loop (λ c. search by) (λ c. search by) (λ c κs. search by) (λ c κs. search by) (λ c κs. search by) (λ c. search by) (λ c. search by)
+    (λ c. search by) loop-again (λ c. search by) (λ c. search by))

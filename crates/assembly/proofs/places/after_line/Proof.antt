@@ -17,4 +17,5 @@ abbrev μ-loop : tie.MeasureT-loop
 pub after-line-spec : {M : Type 1} → statement M
 after-line-spec =
     tie.close
-    (tie.spec Inv-loop μ-loop (λ c. search by) (λ c. search by) (λ c. search by) (λ c. search by) (λ c. search by) (λ c. search by) (λ c. search by) (λ c. search by))
+    (tie.spec Inv-loop μ-loop (λ c. search by) (λ c. search by) (λ c. search by) (λ c. search by) (λ c. search by) (λ c. search by) (λ c. search by)
+    (λ c. search by))

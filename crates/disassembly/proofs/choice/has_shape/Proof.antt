@@ -9,4 +9,5 @@ ruleset by = (shapes, tests, needs)
 pub has-shape-spec : {M : Type 1} → statement M
 has-shape-spec =
     tie.close
-    (tie.spec (λ c κs. search by) (λ c. search by) (λ c κs. search by) (λ c κs. search by) (λ c. search by) (λ c κs. search by) (λ c κs. search by) (λ c. search by) (λ c. search by))
+    (tie.spec (λ c κs. search by) (λ c. search by) (λ c κs. search by) (λ c κs. search by) (λ c. search by) (λ c κs. search by) (λ c κs. search by)
+    (λ c. search by) (λ c. search by))

@@ -19,4 +19,5 @@ returns-2 c =
 pub row-of-spec : {M : Type 1} → statement M
 row-of-spec =
     tie.close
-    (tie.spec (λ c κs. search by) (λ c κs. search by) (λ c. search by) (λ c. search by) (λ c κs. search by) (λ c. search by) (λ c κs. search by) (λ c. search by) returns-2)
+    (tie.spec (λ c κs. search by) (λ c κs. search by) (λ c. search by) (λ c. search by) (λ c κs. search by) (λ c. search by) (λ c κs. search by)
+    (λ c. search by) returns-2)

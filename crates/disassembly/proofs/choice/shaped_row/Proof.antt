@@ -9,4 +9,5 @@ ruleset by = (choices, flag-true, needs)
 pub shaped-row-spec : {M : Type 1} → statement M
 shaped-row-spec =
     tie.close
-    (tie.spec (λ c κs. search by) (λ c κs. search by) (λ c. search by) (λ c κs. search by) (λ c κs. search by) (λ c κs. search by) (λ c κs. search by) (λ c. search by) (λ c. search by))
+    (tie.spec (λ c κs. search by) (λ c κs. search by) (λ c. search by) (λ c κs. search by) (λ c κs. search by) (λ c κs. search by) (λ c κs. search by)
+    (λ c. search by) (λ c. search by))

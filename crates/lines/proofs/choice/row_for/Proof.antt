@@ -34,4 +34,5 @@ loop-again c =
 pub row-for-spec : {M : Type 1} → statement M
 row-for-spec =
     tie.close
-    (tie.spec Inv-loop μ-loop (λ c. search by) (λ c κs. search by) (λ c κs. search by) (λ c κs. search by) (λ c. search by) returns (λ c. search by) (λ c. search by) loop-again (λ c. search by) (λ c. search by))
+    (tie.spec Inv-loop μ-loop (λ c. search by) (λ c κs. search by) (λ c κs. search by) (λ c κs. search by) (λ c. search by) returns (λ c. search by)
+    (λ c. search by) loop-again (λ c. search by) (λ c. search by))

@@ -13,4 +13,7 @@ returns-4 c =
     hex-taken _ _ _ _ _ (c .token4 .ensures) (omega arith) (first .hex-of .ensures) (omega arith) (second .hex-of2 .ensures) (omega arith)
 
 pub hex-spec : {M : Type 1} → statement M
-hex-spec = tie.close (tie.spec (λ c. search by) (λ c κs. search by) (λ c. search by) (λ c. search by) (λ c κs. search by) (λ c κs. search by) (λ c. search by) (λ c. search by) (λ c. search by) (λ c κs. search by) (λ c κs. search by) (λ c. search by) (λ c. search by) (λ c. search by) (λ c. search by) (λ c κs. search by) returns-4)
+hex-spec =
+    tie.close (tie.spec (λ c. search by) (λ c κs. search by) (λ c. search by) (λ c. search by) (λ c κs. search by) (λ c κs. search by) (λ c. search by)
+    (λ c. search by) (λ c. search by) (λ c κs. search by) (λ c κs. search by) (λ c. search by) (λ c. search by) (λ c. search by) (λ c. search by)
+    (λ c κs. search by) returns-4)

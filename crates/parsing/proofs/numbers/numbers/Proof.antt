@@ -18,4 +18,6 @@ abbrev μ-loop : tie.MeasureT-loop
 pub numbers-spec : {M : Type 1} → statement M
 numbers-spec =
     tie.close
-    (tie.spec Inv-loop μ-loop (λ c. search by) (λ c. search by) (λ c κs. search by) (λ c. search by) (λ c κs. search by) (λ c. search by) (λ c. search by) (λ c. search by) (λ c. search by) (λ c κs. search by) (λ c. search by) (λ c κs. search by) (λ c κs. search by) (λ c. search by) (λ c. search by) (λ c. search by) (λ c κs. search by) (λ c. search by) (λ c. search by) (λ c κs. search by) (λ c. search by) (λ c. search by))
+    (tie.spec Inv-loop μ-loop (λ c. search by) (λ c. search by) (λ c κs. search by) (λ c. search by) (λ c κs. search by) (λ c. search by) (λ c. search by)
+    (λ c. search by) (λ c. search by) (λ c κs. search by) (λ c. search by) (λ c κs. search by) (λ c κs. search by) (λ c. search by) (λ c. search by)
+    (λ c. search by) (λ c κs. search by) (λ c. search by) (λ c. search by) (λ c κs. search by) (λ c. search by) (λ c. search by))

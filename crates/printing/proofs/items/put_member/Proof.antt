@@ -8,4 +8,5 @@ ruleset by = (lists, needs)
 pub put-member-spec : {M : Type 1} → statement M
 put-member-spec =
     tie.close
-    (tie.spec (λ c κs. search by) (λ c κs. search by) (λ c. search by) (λ c. search by) (λ c κs. search by) (λ c κs. search by) (λ c κs. search by) (λ c. search by) (λ c. search by))
+    (tie.spec (λ c κs. search by) (λ c κs. search by) (λ c. search by) (λ c. search by) (λ c κs. search by) (λ c κs. search by) (λ c κs. search by)
+    (λ c. search by) (λ c. search by))

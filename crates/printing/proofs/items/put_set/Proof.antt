@@ -24,4 +24,5 @@ loop-again c =
 pub put-set-spec : {M : Type 1} → statement M
 put-set-spec =
     tie.close
-    (tie.spec Inv-loop μ-loop (λ c. search by) (λ c κs. search by) (λ c. search by) (λ c. search by) (λ c. search by) (λ c κs. search by) (λ c κs. search by) (λ c. search by) (λ c. search by) loop-again (λ c. search by) (λ c. search by) (λ c. search by) (λ c. search by) (λ c. search by))
+    (tie.spec Inv-loop μ-loop (λ c. search by) (λ c κs. search by) (λ c. search by) (λ c. search by) (λ c. search by) (λ c κs. search by) (λ c κs. search by)
+    (λ c. search by) (λ c. search by) loop-again (λ c. search by) (λ c. search by) (λ c. search by) (λ c. search by) (λ c. search by))

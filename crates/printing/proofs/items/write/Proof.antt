@@ -8,4 +8,6 @@ ruleset by = (showing, needs)
 pub write-spec : {M : Type 1} → statement M
 write-spec =
     tie.close
-    (tie.spec (λ c. search by) (λ c κs. search by) (λ c. search by) (λ c. search by) (λ c κs. search by) (λ c. search by) (λ c. search by) (λ c. search by) (λ c κs. search by) (λ c. search by) (λ c. search by) (λ c κs. search by) (λ c. search by) (λ c. search by) (λ c. search by) (λ c κs. search by) (λ c. search by) (λ c. search by) (λ c κs. search by) (λ c. search by) (λ c. search by))
+    (tie.spec (λ c. search by) (λ c κs. search by) (λ c. search by) (λ c. search by) (λ c κs. search by) (λ c. search by) (λ c. search by) (λ c. search by)
+    (λ c κs. search by) (λ c. search by) (λ c. search by) (λ c κs. search by) (λ c. search by) (λ c. search by) (λ c. search by) (λ c κs. search by)
+    (λ c. search by) (λ c. search by) (λ c κs. search by) (λ c. search by) (λ c. search by))
