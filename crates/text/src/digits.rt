@@ -80,7 +80,7 @@ fn write_large(out: &mut [u8], at: usize, n: u32) -> usize
     write_two(out, next, n % 100)
 }
 
-// Any number. Most have one digit or two, and are written without a call.
+// Any number, where there is room for the longest. Most have one digit or two, and are written without a call.
 pub fn write_number(out: &mut [u8], at: usize, n: u32) -> usize
     requires { ⌜ at + 10 ≤ length (now out) ⌝ }
     ensures { λ r. ⌜ Put (now (out .entry)) at (decimal n) (now (out .exit)) r × (r ≤ at + 10) ⌝ }

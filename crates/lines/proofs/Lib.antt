@@ -1,0 +1,4 @@
+pub mod ByRow
+pub mod Choices
+pub mod Headers
+pub mod Scans
