@@ -6,7 +6,6 @@ ghost use mathlib.Core.Path.{_≡_};
 ghost use Prim.Native.Nat.{_+_, _<_, _≤_};
 ghost use lib.ListN.{length};
 ghost use Rattle.text.specs.Text.{Put, lineFor, lineOf, longestLine, longestText, textFor};
-pub use digits::write_number;
 pub use digits::write_byte;
 pub use digits::write_number;
 pub use digits::write_some;
