@@ -52,7 +52,7 @@ use Rattle.ledger.specs.Independence.{
   OrderForgotten,
   Reached,
   ReachedByLists,
-  Ready,
+  Eligible,
   SameSet,
   fedAs,
   jobsOf,
@@ -291,17 +291,17 @@ pub order-forgotten : OrderForgotten
 order-forgotten r s h g v e same = alike r s (h .running) (g .running) (reached-kept r h) (reached-kept s g) v e same
 
 -- ---- a ready job stays ready
-can-take : (r : Register) (k : ℕ) → Ready r k → CanTake r (getD (r .table) k [])
+can-take : (r : Register) (k : ℕ) → Eligible r k → CanTake r (getD (r .table) k [])
 can-take r k h = reflect-admissible r (getD (r .table) k []) .sound (h .admissible)
 
-module _ (r : Register) (i k : ℕ) (hk : Ready r k) where
+module _ (r : Register) (i k : ℕ) (hk : Eligible r k) where
   abbrev I : Job
   I = tabled (r .table) i
 
   abbrev K : Job
   K = tabled (r .table) k
 
-  still : Apart I K → Ready (taking r i) k
+  still : Apart I K → Eligible (taking r i) k
   unfolding taking
   still h =
       let c = can-take r k hk in
@@ -318,7 +318,7 @@ module _ (r : Register) (i k : ℕ) (hk : Ready r k) where
       }
 
   -- what the one makes the other does not take: that label was made before
-  strange : Kept r → Ready r i → (x : ℕ) → In x (labels (outputTapes I)) → In x (labels (inputTapes K)) → ⊥
+  strange : Kept r → Eligible r i → (x : ℕ) → In x (labels (outputTapes I)) → In x (labels (inputTapes K)) → ⊥
   strange q hi x m n =
       let t = in-label (inputTapes K) x n in
       fresh r q i (can-take r i hi) x
@@ -335,8 +335,8 @@ pub commuting : Commuting
 unfolding taking
 commuting r reached i k hi hk h =
     let q : Kept r = reached-kept r reached in
-    let second : Ready (taking r i) k = still r i k hk h in
-    let first : Ready (taking r k) i = still r k i hi (apart-sym h) in
+    let second : Eligible (taking r i) k = still r i k hk h in
+    let first : Eligible (taking r k) i = still r k i hi (apart-sym h) in
     record {
       second = second;
       first = first;
@@ -359,7 +359,7 @@ module _ (r : Register) (c : Commit) (run : r .running ≡ true) where
   unfolding feedCommit
   feed-taken e = fed-commit ∙ rw e
 
-  feed-ready : anyIn (eqb (c .job)) (r .taken) ≡ false → Ready r (c .job) → feedAll r (fedAs c ∷ []) ≡ taking r (c .job)
+  feed-ready : anyIn (eqb (c .job)) (r .taken) ≡ false → Eligible r (c .job) → feedAll r (fedAs c ∷ []) ≡ taking r (c .job)
   unfolding feedCommit
   feed-ready e h = fed-commit ∙ rw (e, lt-ltb (c .job) (length (r .table)) (h .known), h .admissible)
 
@@ -413,8 +413,8 @@ unfolding taking
 taking-apart r k cs apart = apart
 
 -- the job k is taken: another is taken by now, or still ready
-waiting : (r : Register) (k x : ℕ) → (k ≢ x → Apart (tabled (r .table) k) (tabled (r .table) x)) → In x (r .taken) ⊎ Ready r x
-    → In x (taking r k .taken) ⊎ Ready (taking r k) x
+waiting : (r : Register) (k x : ℕ) → (k ≢ x → Apart (tabled (r .table) k) (tabled (r .table) x)) → In x (r .taken) ⊎ Eligible r x
+    → In x (taking r k .taken) ⊎ Eligible (taking r k) x
 unfolding taking
 waiting r k x apart (inl m) = inl (in-left (r .taken) (k ∷ []) x m)
 waiting r k x apart (inr g) =
@@ -423,7 +423,7 @@ waiting r k x apart (inr g) =
     (λ e. inr (still r k x g (apart (λ (f : k ≡ x). eqb-false x k e (sym f)))))
 
 -- of the jobs still to come each is taken by now, or ready
-carried : (cs : List Commit) (r : Register) → r .running ≡ true → Kept r → ((k : ℕ) → In k (jobsOf cs) → In k (r .taken) ⊎ Ready r k)
+carried : (cs : List Commit) (r : Register) → r .running ≡ true → Kept r → ((k : ℕ) → In k (jobsOf cs) → In k (r .taken) ⊎ Eligible r k)
     → ((i k : ℕ) → In i (jobsOf cs) → In k (jobsOf cs) → i ≢ k → Apart (tabled (r .table) i) (tabled (r .table) k))
     → Carried r (jobsOf cs) (feedAll r (map fedAs cs))
 carried [] r run q ready apart = record { running = run; kept = q; version = refl; table = refl; taken = λ x. ((λ m. inl m), ⊎-elim (λ m. m) (λ z. absurd z)) }
@@ -434,7 +434,7 @@ carried (c ∷ cs) r run q ready apart =
     (λ e. subst (λ (s : Register). Carried r (k ∷ jobsOf cs) (feedAll s (map fedAs cs))) (sym (feed-taken r c run e))
     (again r (feedAll r (map fedAs cs)) k (jobsOf cs) (member .sound e)
     (carried cs r run q (λ x m. ready x (inr m)) (λ i x m n. apart i x (inr m) (inr n)))))
-    (λ e. let h : Ready r k = ⊎-elim (λ m. absurd (refuted member e m)) (λ h. h) (ready k (inl refl)) in
+    (λ e. let h : Eligible r k = ⊎-elim (λ m. absurd (refuted member e m)) (λ h. h) (ready k (inl refl)) in
     subst (λ (s : Register). Carried r (k ∷ jobsOf cs) (feedAll s (map fedAs cs))) (sym (feed-ready r c run e h))
     (onward r (feedAll (taking r k) (map fedAs cs)) k (jobsOf cs)
     (carried cs (taking r k) (taking-runs r k run) (kept-take r q k (can-take r k h) (h .known))

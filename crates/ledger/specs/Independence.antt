@@ -28,7 +28,7 @@ ReachedByLists =
     → Reached (feedAll (newRegister version) (log (start n b faulty version) es))
 
 -- "both admissible now"
-pub record Ready (r : Register) (k : ℕ) : Type 0 where
+pub record Eligible (r : Register) (k : ℕ) : Type 0 where
   pub known : k < length (r .table)
   pub admissible : isAdmissible r (getD (r .table) k []) ≡ true
 
@@ -69,8 +69,8 @@ pub record CausallyIndependent (a c : Job) : Type 0 where
 
 pub record EitherWay (r : Register) (i k : ℕ) : Type 0 where
   -- "each is admissible after the other"
-  pub second : Ready (taking r i) k
-  pub first : Ready (taking r k) i
+  pub second : Eligible (taking r i) k
+  pub first : Eligible (taking r k) i
   -- "both orders end with the same jobs and standing tapes, as sets, and the same frames"
   pub alike : Alike (taking (taking r i) k) (taking (taking r k) i)
   -- none of this is a premise: a job makes a tape, so two that share no output are different; and neither makes what the other takes, since an
@@ -81,7 +81,7 @@ pub record EitherWay (r : Register) (i k : ℕ) : Type 0 where
 -- two jobs of the table, both admissible now, that meet the condition
 abbrev pub CommutingIf : (Job → Job → Type 0) → Type 0
 CommutingIf Condition =
-    (r : Register) → Reached r → (i k : ℕ) → Ready r i → Ready r k → Condition (tabled (r .table) i) (tabled (r .table) k) → EitherWay r i k
+    (r : Register) → Reached r → (i k : ℕ) → Eligible r i → Eligible r k → Condition (tabled (r .table) i) (tabled (r .table) k) → EitherWay r i k
 
 -- "share no input and no output label"
 abbrev pub Commuting : Type 0
@@ -90,7 +90,7 @@ Commuting = CommutingIf Apart
 -- two commits answered 0, at any vaults and with any signers, as the register is fed them
 abbrev pub CommitsCommute : Type 0
 CommitsCommute =
-    (r : Register) → Reached r → (i k : ℕ) → Ready r i → Ready r k → Apart (tabled (r .table) i) (tabled (r .table) k)
+    (r : Register) → Reached r → (i k : ℕ) → Eligible r i → Eligible r k → Apart (tabled (r .table) i) (tabled (r .table) k)
     → (v w signers signers′ : ℕ)
     → Alike (feed (feed r (commit v i signers) true) (commit w k signers′) true) (feed (feed r (commit w k signers′) true) (commit v i signers) true)
 
@@ -110,7 +110,7 @@ jobsOf cs = map (λ (c : Commit). c .job) cs
 
 -- the jobs are all admissible now, and no two of them touch
 pub record Batch (r : Register) (ks : List ℕ) : Type 0 where
-  pub ready : (k : ℕ) → In k ks → Ready r k
+  pub ready : (k : ℕ) → In k ks → Eligible r k
   pub apart : (i k : ℕ) → In i ks → In k ks → i ≢ k → Apart (tabled (r .table) i) (tabled (r .table) k)
 
 pub record AnyOrder (r : Register) (cs ds : List Commit) : Type 0 where
@@ -132,8 +132,8 @@ pub record Clash (r : Register) (i k : ℕ) : Type 0 where
   pub reached : Reached r
   pub empty : r .taken ≡ []
   -- both are admissible now, and they meet the paper's condition
-  pub ready : Ready r i
-  pub ready′ : Ready r k
+  pub ready : Eligible r i
+  pub ready′ : Eligible r k
   pub independent : CausallyIndependent (tabled (r .table) i) (tabled (r .table) k)
   -- an output label in common
   pub label : ℕ
