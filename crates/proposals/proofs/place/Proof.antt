@@ -7,17 +7,9 @@ use borrow.Author.Needs.{needs}
 
 ruleset by = (chain, needs)
 
-returns : tie.Need-returns
-unfolding placing
-returns c = search by depth 8
-
-returns-2 : tie.Need-returns-2
-unfolding placing
-returns-2 c = search by depth 8
-
-returns-3 : tie.Need-returns-3
-unfolding placing
-returns-3 c = search by depth 8
-
 pub place-spec : {M : Type 1} → statement M
-place-spec = tie.close (tie.spec (λ c. search needs) (λ c κs. search needs) returns (λ c. search needs) returns-2 (λ c κs. search needs) returns-3)
+unfolding placing
+place-spec =
+    tie.close
+    (tie.spec (λ c. search needs) (λ c κs. search needs) (λ c. search by depth 8) (λ c. search needs) (λ c. search by depth 8) (λ c κs. search needs)
+    (λ c. search by depth 8))

@@ -33,8 +33,8 @@ returns c =
     let t = c .before .before .before .loop-test .taken in
     let kind = c .before .before .step-at .ensures .kind-is in
     let unknown = sym (c .before .is-unknown .ensures) ∙ c .if1 .taken in
-    let bounded = omega (arith, l .inv .0, l .inv .1 .0, l .inv .1 .1 .0) in
-    (sym (l .inv .1 .1 .1 ∙ first-unread _ _ (l .pos) (l .count) t (l .inv .0) _ kind unknown), bounded)
+    let is = first-unread _ _ (l .pos) (l .count) t (l .inv .0) _ kind unknown in
+    (sym (l .inv .1 .1 .1 ∙ is), omega (arith, l .inv .0, l .inv .1 .0, l .inv .1 .1 .0))
 
 loop-less : tie.Need-loop-less Inv-loop μ-loop
 loop-less c =
