@@ -3,7 +3,7 @@ mod choice;
 mod shape;
 
 ghost use mathlib.Core.Path.{_≡_};
-ghost use Prim.Native.Nat.{_*_, _+_, _<_, _≤_};
+ghost use Prim.Native.Nat.{_*_, _+_, _≤_};
 ghost use lib.ListN.{drop, length};
 ghost use Rattle.rows.specs.Reading.{readBy};
 ghost use Rattle.rows.specs.Table.{rawRow, row};
@@ -12,7 +12,6 @@ ghost use Rattle.lines.specs.LineTo.{LineTo};
 ghost use Rattle.notation.specs.Files.{headerRead};
 ghost use Rattle.notation.specs.Lines.{proposalRead, stepRead};
 ghost use Rattle.runfile.specs.Run.{opened, opens};
-ghost use Rattle.runfile.specs.Steps.{wordAt};
 ghost use Rattle.parsing.specs.Took.{ReadTo};
 ghost use Rattle.words.specs.Room.{longestRow, rowRoom};
 pub use choice::front;
@@ -125,19 +124,6 @@ pub fn step_read(
     own_read(k, text, at, buffer, out, end)
 }
 
-fn word_at(input: &[u8], at: usize) -> u16
-    requires { ⌜ at + 1 < length (now input) ⌝ }
-    ensures { λ r. ⌜ r ≡ wordAt (now (input .entry)) at ⌝ }
-{
-    low(input[at]) + 256 * low(input[at + 1])
-}
-
-fn low(x: u8) -> u16
-    ensures { λ r. ⌜ (r ≡ x) × (r < 256) ⌝ }
-{
-    x as u16
-}
-
 // The settings of a header are lawful.
 fn is_lawful(input: &[u8]) -> bool
     requires { ⌜ 9 ≤ length (now input) ⌝ }
@@ -146,8 +132,8 @@ fn is_lawful(input: &[u8]) -> bool
     let settings = Settings {
         n: input[5],
         b: input[6],
-        faulty: word_at(input, 7),
-        version: word_at(input, 3),
+        faulty: reading::word_at(input, 7),
+        version: reading::word_at(input, 3),
     };
     settings.is_lawful()
 }

@@ -11,7 +11,7 @@ use borrow.Author.Tests.{eq-eqb, le-leb, le-ltb, lt-leb, lt-ltb, ne-eqb}
 use Rattle.base.proofs.Lists.{reflect-same}
 use Rattle.base.proofs.Reflect.{and-false, refutes}
 use Rattle.base.specs.Lists.{sameList}
-use Rattle.rows.specs.Items.{Token as Said, between, fault, fine, formOf, hexIn, hexOf, isDigit, isPlain, literalIn, noByte, noLabel, noMatch, numbersIn}
+use Rattle.rows.specs.Items.{Token as Said, between, fault, fine, formOf, hexIn, hexOf, isDigit, isPlain, lacks, literalIn, noByte, noLabel, numbersIn}
 use Rattle.rows.specs.Items.{plainIn, saysNone, setIn, takeAs, width}
 use Rattle.rows.specs.Table.{letters}
 use Rattle.rows.proofs.Numbers.{above, within}
@@ -115,15 +115,17 @@ module _ (text : List ℕ) (at : ℕ) where
       taken _ (fine 0 (drop 1 (drop at text))) r 0 0 (at + 1) e (rw (first-behind text at, eq-eqb (getD text at 0) i q)) refl refl
       (sym (drop-drop 1 at text)) (omega arith)
 
-  pub literal-other : (i : ℕ) (r : Token) → r ≡ made 6 0 at → at < length text → (getD text at 0 ≡ i → ⊥) → Took (literalIn i (drop at text)) text r
+  pub literal-other : (i w : ℕ) (r : Token) → w ≡ lacks i → r ≡ made w 0 at → at < length text → (getD text at 0 ≡ i → ⊥)
+      → Took (literalIn i (drop at text)) text r
   unfolding literalIn
-  literal-other i r e h q =
-      taken _ (fault noMatch (drop at text)) r 6 0 at e (rw (first-behind text at, ne-eqb (getD text at 0) i q)) refl refl refl (omega arith)
+  literal-other i w r a e h q =
+      taken _ (fault (lacks i) (drop at text)) r w 0 at e (rw (first-behind text at, ne-eqb (getD text at 0) i q)) a refl refl (omega arith)
 
-  pub literal-over : (i : ℕ) (r : Token) → r ≡ made 6 0 at → at ≤ length text → length text ≤ at → 0 < i → Took (literalIn i (drop at text)) text r
+  pub literal-over : (i w : ℕ) (r : Token) → w ≡ lacks i → r ≡ made w 0 at → at ≤ length text → length text ≤ at → 0 < i
+      → Took (literalIn i (drop at text)) text r
   unfolding literalIn
-  literal-over i r e h l z =
-      taken _ (fault noMatch (drop at text)) r 6 0 at e (rw (past-end text at 0 (omega arith), ne-eqb 0 i (λ q. omega arith))) refl refl refl h
+  literal-over i w r a e h l z =
+      taken _ (fault (lacks i) (drop at text)) r w 0 at e (rw (past-end text at 0 (omega arith), ne-eqb 0 i (λ q. omega arith))) a refl refl h
 
   -- ---- which form
   pub as-constant : (i v : ℕ) (r : Token) → i < 32 → v ≡ i → r ≡ made 0 v at → at ≤ length text → Took (takeAs (formOf i) i (drop at text)) text r

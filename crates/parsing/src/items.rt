@@ -2,7 +2,7 @@
 ghost use mathlib.Core.Path.{_≡_};
 ghost use Prim.Native.Nat.{_+_, _≤_, _<_};
 ghost use lib.ListN.{drop, length, take};
-ghost use Rattle.rows.specs.Items.{formOf, hexIn, hexOf, isPlain, literalIn, plainIn, saysNone, setIn, takeAs, width};
+ghost use Rattle.rows.specs.Items.{formOf, hexIn, hexOf, isPlain, lacks, literalIn, plainIn, saysNone, setIn, takeAs, width};
 ghost use Rattle.parsing.specs.Took.{Took};
 use crate::Token;
 use crate::numbers;
@@ -111,6 +111,16 @@ fn plain(text: &[u8], at: usize) -> Token
     token(4, 0, at)
 }
 
+// The reason where a character is missing: a colon stands behind a label alone.
+fn lacks(i: u8) -> u8
+    ensures { λ r. ⌜ r ≡ lacks i ⌝ }
+{
+    if i == b':' {
+        return 4;
+    }
+    6
+}
+
 fn literal(i: u8, text: &[u8], at: usize) -> Token
     requires { ⌜ (at ≤ length (now text)) × (0 < i) ⌝ }
     ensures { λ r. ⌜ Took (literalIn i (drop at (now (text .entry)))) (now (text .entry)) r ⌝ }
@@ -119,9 +129,9 @@ fn literal(i: u8, text: &[u8], at: usize) -> Token
         if text[at] == i {
             return token(0, 0, at + 1);
         }
-        return token(6, 0, at);
+        return token(lacks(i), 0, at);
     }
-    token(6, 0, at)
+    token(lacks(i), 0, at)
 }
 
 // How many bytes of the step the character stands for.

@@ -12,8 +12,8 @@ use Rattle.codec.proofs.Numbers.{length-leBytes}
 use Rattle.codec.specs.Codec.{AreBytes, leBytes}
 use Rattle.sets.proofs.Bits.{member-lt}
 use Rattle.sets.specs.Bits.{withMember}
-use Rattle.rows.specs.Items.{Form, closed, constant, fault, fine, formOf, hexIn, hexOf, hexadecimal, isDigit, literal, literalIn, members, noNumber}
-use Rattle.rows.specs.Items.{noVault, number, numbersIn, plain, plainIn, saysNone, setIn, takeAs, tooLarge, width}
+use Rattle.rows.specs.Items.{Form, closed, constant, fault, fine, formOf, hexIn, hexOf, hexadecimal, isDigit, literal, literalIn, members, noLabel}
+use Rattle.rows.specs.Items.{noMatch, noNumber, noVault, number, numbersIn, plain, plainIn, saysNone, setIn, takeAs, tooLarge, width}
 use Rattle.rows.specs.Reading.{Parsed, readBy}
 use Rattle.rows.specs.Writing.{widths}
 
@@ -70,7 +70,9 @@ item-fits members i l h r =
 item-fits hexadecimal i l h r =
     if-fine (Fits 256) (ltb (hexOf (getD l 0 0)) 16 && ltb (hexOf (getD l 1 0)) 16) _ _ (λ e q. hex-lt _ _ e) (λ e q. absurd (omega arith)) r
 item-fits plain i l h r = if-fine (Fits 256) (Rattle.rows.specs.Items.isPlain (getD l 0 0)) _ _ (λ e q. plain-lt _ e) (λ e q. absurd (omega arith)) r
-item-fits literal i l h r = if-fine (Fits 1) (eqb (getD l 0 0) i) _ _ (λ e q. omega arith) (λ e q. absurd (omega arith)) r
+item-fits literal i l h r =
+    if-fine (Fits 1) (eqb (getD l 0 0) i) _ _ (λ e q. omega arith)
+    (λ e q. absurd (if-fine (λ (w : ℕ). w ≡ 0 → ⊥) (eqb i 58) noLabel noMatch (λ _ z. omega arith) (λ _ z. omega arith) q)) r
 
 -- ---- bytes
 bytes-of : (k v : ℕ) → AreBytes (leBytes k v)

@@ -109,8 +109,12 @@ hexIn l =
 unfoldable pub plainIn : List ℕ → Token
 plainIn l = cond (isPlain (getD l 0 0)) (fine (getD l 0 0) (drop 1 l)) (fault noLabel l)
 
+-- a colon stands behind a label alone: where it is missing the label is too long
+abbrev pub lacks : ℕ → ℕ
+lacks i = cond (eqb i 58) noLabel noMatch
+
 unfoldable pub literalIn : ℕ → List ℕ → Token
-literalIn i l = cond (eqb (getD l 0 0) i) (fine 0 (drop 1 l)) (fault noMatch l)
+literalIn i l = cond (eqb (getD l 0 0) i) (fine 0 (drop 1 l)) (fault (lacks i) l)
 
 abbrev pub takeAs : Form → ℕ → List ℕ → Token
 takeAs constant i l = fine i l

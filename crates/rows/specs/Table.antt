@@ -1,4 +1,4 @@
--- The words of the text form, in one table from which a line is read, written and explained: a kind of step is a row.
+-- The words of the text form, in one table by which lines are read and written: a kind of step is a row.
 use mathlib.Core.List.{List, [], _++_, _∷_}
 use mathlib.Core.Bool.{cond}
 use Prim.Native.Nat.{_*_, _-_, suc, zero, ℕ}

@@ -8,4 +8,5 @@ ruleset by = (singles, needs)
 pub literal-spec : {M : Type 1} → statement M
 literal-spec =
     tie.close
-    (tie.spec (λ c. search by) (λ c. search by) (λ c κs. search by) (λ c. search by) (λ c κs. search by) (λ c. search by) (λ c κs. search by) (λ c. search by))
+    (tie.spec (λ c. search by) (λ c. search by) (λ c κs. search by) (λ c. search by) (λ c κs. search by) (λ c κs. search by) (λ c. search by)
+    (λ c κs. search by) (λ c κs. search by) (λ c. search by))
