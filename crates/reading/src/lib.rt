@@ -126,6 +126,30 @@ fn unreadable(input: &[u8], number: u32, at: usize) -> Step
     }
 }
 
+fn named(
+    kind: Kind,
+    wide: bool,
+    number: u32,
+    vault: u8,
+    job: u8,
+    place: usize,
+    at: usize,
+    end: usize,
+) -> Step
+    ensures { λ r. ⌜ r ≡ record { number = number; kind = kind; wide = wide; vault = vault; job = job; place = place; at = at; end = end } ⌝ }
+{
+    Step {
+        number,
+        kind,
+        wide,
+        vault,
+        job,
+        place,
+        at,
+        end,
+    }
+}
+
 impl Operation {
     // Its step, whose body starts at `at` and ends at `end`.
     fn step(self, input: &[u8], number: u32, at: usize, end: usize) -> Step
@@ -136,49 +160,21 @@ impl Operation {
         let wide = self.wide;
         let form = self.form;
         match form {
-            Form::Bare => Step {
-                number,
-                kind,
-                wide,
-                vault: 0,
-                job: 0,
-                place: 0,
-                at,
-                end,
-            },
-            Form::OfJob => Step {
-                number,
-                kind,
-                wide,
-                vault: 0,
-                job: byte_at(input, at),
-                place: 0,
-                at,
-                end,
-            },
-            Form::OfVault => Step {
-                number,
-                kind,
-                wide,
-                vault: byte_at(input, at),
-                job: byte_at(input, at + 1),
-                place: 0,
-                at,
-                end,
-            },
+            Form::Bare => named(kind, wide, number, 0, 0, 0, at, end),
+            Form::OfJob => {
+                let job = byte_at(input, at);
+                named(kind, wide, number, 0, job, 0, at, end)
+            }
+            Form::OfVault => {
+                let vault = byte_at(input, at);
+                let job = byte_at(input, at + 1);
+                named(kind, wide, number, vault, job, 0, at, end)
+            }
             Form::OfClient => {
                 let vault = byte_at(input, at);
-                let client = byte_at(input, at + 2);
-                Step {
-                    number,
-                    kind,
-                    wide,
-                    vault,
-                    job: byte_at(input, at + 1),
-                    place: quota::place(vault, client),
-                    at,
-                    end,
-                }
+                let job = byte_at(input, at + 1);
+                let place = quota::place(vault, byte_at(input, at + 2));
+                named(kind, wide, number, vault, job, place, at, end)
             }
             Form::Unreadable => unreadable(input, number, at),
         }

@@ -7,12 +7,10 @@ use mathlib.Core.Path.{_∙_, _≡_, ap, refl, subst, sym}
 use Prim.Native.Nat.{_*_, _%_, _+_, _<_, ℕ}
 use native.Mathlib.Omega.{arith}
 use lib.ListN.{drop, getD, take}
-use Rattle.base.proofs.Reflect.{by-cases}
 use Rattle.outcome.specs.declared.Refusal.the-variants.{Unreadable}
 use Rattle.outcome.specs.declared.Verdict.{Verdict}
 use Rattle.outcome.specs.declared.Verdict.the-variants.{Fail, Pass}
 use Rattle.sets.specs.Jobs.{noJobs}
-use Rattle.sets.specs.declared.job_set.JobSet.{JobSet}
 use Rattle.codec.specs.Codec.{recordSize}
 use Rattle.journal.specs.Journal.{isBooked, isWhole, jobAt}
 use Rattle.equivocation.proofs.Partners.{listed-by}
@@ -20,7 +18,7 @@ use Rattle.draw.specs.Draw.{drawOf}
 use Rattle.ledger.proofs.Gates.{booked-entered, entered, in-place, reflect-sane}
 use Rattle.ledger.proofs.Places.{proposed}
 use Rattle.ledger.proofs.Writes.{unwritten}
-use Rattle.ledger.specs.Decisions.{ageing, answering, clientPreflighting, committing, gated, gatedListing, isBook, isNothing, listing, preflighting}
+use Rattle.ledger.specs.Decisions.{ageing, answering, clientPreflighting, committing, gated, gatedListing, isNothing, listing, preflighting}
 use Rattle.ledger.specs.Decisions.{refusing, releasing, requiring, snapshotting, statusOf, voting}
 use Rattle.ledger.specs.Holders.{heldSomewhere}
 use Rattle.ledger.specs.Given.{Placed}
@@ -43,12 +41,13 @@ use Rattle.runfile.specs.declared.Kind.the-variants.{ClientPreflight, Commit, D
 use Rattle.runfile.specs.declared.Kind.the-variants.{Preflight, Propose, Release, Show, Snapshot, Unknown}
 use Rattle.quota.specs.Quota.{historyPlace}
 use Rattle.steps.proofs.Quiet.{Bookless}
-use Rattle.steps.specs.Decided.{bookedOr, decidedBy, naming, required, surveyed}
+use Rattle.deciding.specs.Decided.{bookedOr, decidedBy}
+use Rattle.questions.specs.Answers.{naming, required, surveyed}
 use Rattle.reading.specs.Reading.{historyOf, isWide, jobOf, vaultOf}
-use Rattle.steps.specs.Kept.{Found}
-use Rattle.steps.specs.declared.Remembered.{Remembered}
-use Rattle.steps.specs.declared.Books.{Books}
-use Rattle.steps.specs.declared.View.{View}
+use Rattle.questions.specs.Kept.{Found}
+use Rattle.questions.specs.declared.Remembered.{Remembered}
+use Rattle.questions.specs.declared.Books.{Books}
+use Rattle.deciding.specs.declared.View.{View}
 
 -- what a command decides, by the ledger's definitions
 abbrev pub commandDecision : Ledger → List ℕ → Command → Decision

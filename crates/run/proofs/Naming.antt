@@ -1,5 +1,5 @@
 -- The answer of kind 13 stays right: a change that books nothing and leaves the signatures on its job leaves all that the answer depends on.
-use mathlib.Core.Bool.{false, true, true≢false}
+use mathlib.Core.Bool.{true, true≢false}
 use mathlib.Core.List.{List}
 use mathlib.Core.Logic.{_≢_}
 use mathlib.Core.Path.{_∙_, _≡_, ap, fun-ext, refl, sym}
@@ -24,8 +24,8 @@ use Rattle.ledger.specs.declared.Ledger.{Ledger}
 use Rattle.vaults.specs.Votes.{noVotes}
 use Rattle.vaults.specs.declared.Column.the-variants.{Acknowledgements}
 use Rattle.vaults.specs.declared.Votes.{Votes}
-use Rattle.steps.specs.Kept.{Still, unknownYet}
-use Rattle.steps.specs.declared.Remembered.{Remembered}
+use Rattle.questions.specs.Kept.{Still, unknownYet}
+use Rattle.questions.specs.declared.Remembered.{Remembered}
 use Rattle.run.specs.Turns.{Holds}
 
 pub nothing-known : (l : Ledger) (journal : List ℕ) (r : Remembered) → r ≡ unknownYet → Holds l journal r

@@ -1,8 +1,8 @@
 -- A run that was carried on from a progress: by one step, or as far as there is room.
-use mathlib.Core.List.{List, _++_}
+use mathlib.Core.List.{List}
 use mathlib.Core.Logic.{_⊎_, inl, inr, ⊎-elim}
-use mathlib.Core.Path.{_∙_, _≡_, ap, refl, subst, sym}
-use Prim.Native.Nat.{_*_, _+_, _<_, _≤_, ℕ}
+use mathlib.Core.Path.{_≡_, ap, sym}
+use Prim.Native.Nat.{_+_, _<_, _≤_, ℕ}
 use native.Mathlib.Nat.{eq-or-lt-of-le}
 use native.Mathlib.Omega.{arith}
 use lib.ListN.{length}
@@ -10,13 +10,14 @@ use Rattle.outcome.specs.declared.Outcome.{Outcome}
 use Rattle.sets.specs.declared.job_set.JobSet.{JobSet}
 use Rattle.run.proofs.Naming.{nothing-known}
 use Rattle.run.specs.Pieces.{Advanced, Going, Piece, runOf}
-use Rattle.run.specs.Turns.{Begun, CarriedOn, Come, Holds, Lastly, Part, Stepped, TurnedOnce, cursorAt, standing}
+use Rattle.run.specs.Coming.{Begun, CarriedOn, Come, Part, cursorAt, standing}
+use Rattle.run.specs.Turns.{Holds, Stepped, TurnedOnce}
 use Rattle.run.specs.declared.Progress.{Progress}
 use Rattle.run.specs.declared.Turned.{Turned}
 use Rattle.run.specs.declared.going.Cursor.{Cursor}
 use Rattle.runfile.specs.Run.{Run}
-use Rattle.steps.specs.Kept.{unknownYet}
-use Rattle.steps.specs.declared.Remembered.{Remembered}
+use Rattle.questions.specs.Kept.{unknownYet}
+use Rattle.questions.specs.declared.Remembered.{Remembered}
 use Rattle.text.specs.Text.{longestText}
 
 module _ {input journal numbers sets records memo : List ℕ} {p : Progress} (g : Going input p journal numbers sets records memo) where

@@ -3,7 +3,7 @@ use mathlib.Core.List.{List, [], _++_, append-assoc}
 use mathlib.Core.Path.{_∙_, _≡_, ap, refl, sym}
 use Prim.Native.Nat.{ℕ}
 use native.Mathlib.Omega.{arith}
-use Rattle.run.specs.Turns.{Part}
+use Rattle.run.specs.Coming.{Part}
 use Rattle.text.specs.Text.{Put}
 use Rattle.text.proofs.Writing.{then}
 

@@ -2,16 +2,16 @@
 -- step's text. Three ways lead through it: a step that looks at all vaults, one that changes nothing, and one that does.
 use mathlib.Core.Bool.{Bool, false, true, true≢false}
 use mathlib.Core.List.{List}
-use mathlib.Core.Logic.{_⊎_, inl, inr, ⊎-elim}
+use mathlib.Core.Logic.{_⊎_, inr}
 use mathlib.Core.Path.{_∙_, _≡_, ap, refl, subst, sym}
-use Prim.Native.Nat.{_%_, _*_, _+_, _-_, _<_, _≤_, ℕ}
+use Prim.Native.Nat.{_%_, _+_, _-_, _<_, _≤_, ℕ}
 use native.Mathlib.Nat.{lt-irrefl}
 use native.Mathlib.Omega.{arith}
 use lib.ListN.{getD, length}
 use Rattle.outcome.specs.declared.Outcome.{Outcome}
 use Rattle.sets.specs.Jobs.{noJobs}
 use Rattle.sets.specs.declared.job_set.JobSet.{JobSet}
-use Rattle.index.specs.Index.{Indexed, IndexedEntries}
+use Rattle.index.specs.Index.{IndexedEntries}
 use Rattle.generations.specs.Memo.{Ready}
 use Rattle.ledger.proofs.Writes.{unwritten}
 use Rattle.ledger.specs.Decisions.{isBook, isNothing}
@@ -31,25 +31,25 @@ use Rattle.runfile.specs.Steps.{Command, commandIn, journalBy, listedBy, replyO
 use Rattle.runfile.specs.declared.Kind.{Kind}
 use Rattle.runfile.specs.declared.Kind.the-variants.{Propose}
 use Rattle.steps.proofs.Quiet.{Bookless, books, writable}
-use Rattle.steps.specs.Decided.{alone}
-use Rattle.steps.specs.Kept.{Still}
-use Rattle.steps.specs.declared.Remembered.{Remembered}
+use Rattle.questions.specs.Answers.{alone}
+use Rattle.questions.specs.Kept.{Still}
+use Rattle.questions.specs.declared.Remembered.{Remembered}
 use Rattle.run.proofs.Naming.{still-right}
-use Rattle.reading.specs.Reading.{Asked, Read, isWide, jobOf, vaultOf}
-use Rattle.steps.specs.Stored.{Stored}
+use Rattle.reading.specs.Reading.{Read, isWide, jobOf, vaultOf}
 use Rattle.steps.specs.Turned.{CarriedOut, Said, Surveyed, answerOf, decisionAt, recordIn}
 use Rattle.text.specs.Text.{longestText}
 use Rattle.reading.specs.declared.Step.{Step}
 use Rattle.steps.specs.declared.Looked.{Looked}
 use Rattle.steps.specs.declared.Told.{Told}
-use Rattle.steps.specs.declared.View.{View}
+use Rattle.deciding.specs.declared.View.{View}
 use Rattle.run.proofs.Commands.{There, booksOf, commandDecision, decided-is, left-by, reply-ledger, reply-outcome, there, viewAt}
 use Rattle.run.proofs.Commands.{answer, narrow-lists, wide-answer, wide-quiet}
 use Rattle.run.proofs.Keeps.{kept-applied, kept-memo, ready}
 use Rattle.run.proofs.Parts.{nothing-more, part-more}
 use Rattle.run.specs.Kept.{Kept}
 use Rattle.run.specs.Pieces.{Going, runAt}
-use Rattle.run.specs.Turns.{Begun, CarriedOn, Come, Goes, Holds, Lastly, Stepped, movedTo, standing, turnedAt}
+use Rattle.run.specs.Coming.{CarriedOn, Come, Goes, movedTo, standing, turnedAt}
+use Rattle.run.specs.Turns.{Holds, Stepped}
 use Rattle.run.specs.declared.Progress.{Progress}
 use Rattle.run.specs.declared.Turned.{Turned}
 use Rattle.run.specs.declared.going.Cursor.{Cursor}
@@ -138,7 +138,8 @@ module _ (input : List ℕ) (l : Ledger) (c : Cursor) (memo journal numbers sets
   -- ---- a step that looks at all vaults
   pub took-wide : (kept : Remembered) (a : Looked) (memo′ out′ : List ℕ) → s .wide ≡ true
       → Surveyed (booksOf l kept) s (c .at) (l .order) journal out memo′ out′ a → length out′ ≡ length out
-      → (c′ : Cursor) → c′ ≡ movedTo s (a .at) (a .outcome) (a .members) → Took input l c journal out l c′ (a .named) memo′ journal numbers sets records out′
+      → (c′ : Cursor) → c′ ≡ movedTo s (a .at) (a .outcome) (a .members)
+      → Took input l c journal out l c′ (a .named) memo′ journal numbers sets records out′
   took-wide kept a memo′ out′ y h same c′ e =
       let w : isWide (s .kind) ≡ true = sym (r .wide-is) ∙ y in
       let n : decision .change ≡ Nothing = wide-quiet l (g .kept .sane) journal input (s .at) (s .kind) w in
@@ -216,7 +217,8 @@ module _ (input : List ℕ) (l : Ledger) (c : Cursor) (memo journal numbers sets
 
       pub took-loud : (l′ : Ledger) → l′ ≡ applied l (told .change) (s .vault) (s .job) → (kept : Remembered) → Holds l journal kept → length out′ ≡ length out
           → (c′ : Cursor) → c′ ≡ movedTo s (told .at) (told .outcome) noJobs → (named′ : Remembered)
-          → Still kept (l .booked) (getD (l .votes) (s .job % 128) noVotes .signatures) (l′ .booked) (getD (l′ .votes) (s .job % 128) noVotes .signatures) named′
+          → Still kept (l .booked) (getD (l .votes) (s .job % 128) noVotes .signatures)
+          (l′ .booked) (getD (l′ .votes) (s .job % 128) noVotes .signatures) named′
           → Took input l c journal out l′ c′ named′ memo journal′ numbers′ sets′ records′ out′
       took-loud l′ a kept right same c′ d named′ still =
           let held : (state : Vault) → told .change ≡ Hold state → s .job < l .booked =
@@ -227,7 +229,8 @@ module _ (input : List ℕ) (l : Ledger) (c : Cursor) (memo journal numbers sets
           rw d (follows l′ named′ a (rw a (kept-so held)) holds same)
 
 -- ---- at the loop's head
-module _ {input : List ℕ} {p : Progress} {last : ℕ} {memo journal₀ journal numbers sets records out₀ out : List ℕ} {l : Ledger} {c : Cursor} {named : Remembered}
+module _ {input : List ℕ} {p : Progress} {last : ℕ} {memo journal₀ journal numbers sets records out₀ out : List ℕ}
+    {l : Ledger} {c : Cursor} {named : Remembered}
     (t : Come input p last journal₀ out₀ (turnedAt l c named) journal numbers sets records memo out) where
   pub few-vaults : l .settings .n ≤ 16
   few-vaults = t .going .kept .sane .lawful .vaults
@@ -242,7 +245,8 @@ module _ {input : List ℕ} {p : Progress} {last : ℕ} {memo journal₀ journal
   numbered s more r = omega (arith, r .number-is, t .going .steps, t .going .few)
 
   -- a step later
-  pub come-on : (l′ : Ledger) (c′ : Cursor) (named′ : Remembered) (memo′ journal′ numbers′ sets′ records′ out′ : List ℕ) → c .pos < length input → c .count < last
+  pub come-on : (l′ : Ledger) (c′ : Cursor) (named′ : Remembered) (memo′ journal′ numbers′ sets′ records′ out′ : List ℕ)
+      → c .pos < length input → c .count < last
       → Took input l c journal out l′ c′ named′ memo′ journal′ numbers′ sets′ records′ out′
       → Come input p last journal₀ out₀ (turnedAt l′ c′ named′) journal′ numbers′ sets′ records′ memo′ out′
   unfolding turn
@@ -289,7 +293,8 @@ started {c = c} out named g h n = record {
 }
 
 -- ---- the loop's end
-pub stopped : {input : List ℕ} {p : Progress} {last : ℕ} {memo journal₀ journal numbers sets records out₀ out : List ℕ} {l : Ledger} {c : Cursor} {named : Remembered}
+pub stopped : {input : List ℕ} {p : Progress} {last : ℕ} {memo journal₀ journal numbers sets records out₀ out : List ℕ}
+    {l : Ledger} {c : Cursor} {named : Remembered}
     → Come input p last journal₀ out₀ (turnedAt l c named) journal numbers sets records memo out → (b : Bool) → Goes c last (length input) (length out) b
     → b ≡ false → (q : Turned) → q ≡ turnedAt l c named → CarriedOn input p last journal₀ out₀ q journal numbers sets records memo out
 stopped t b h f q e = rw e (record {

@@ -3,18 +3,19 @@ ghost use mathlib.Core.Path.{_≡_};
 ghost use Prim.Native.Nat.{_≤_};
 ghost use Rattle.sets.specs.Jobs.{noJobs};
 ghost use Rattle.run.specs.Pieces.{Going};
-ghost use Rattle.run.specs.Turns.{CarriedOn, Goes, Holds, cursorAt, movedTo, standing, turnedAt};
+ghost use Rattle.run.specs.Coming.{CarriedOn, Goes, cursorAt, movedTo, standing, turnedAt};
+ghost use Rattle.run.specs.Turns.{Holds};
 use crate::Progress;
 use crate::Turned;
+use deciding::View;
 use ledger::Ledger;
 use outcome::Outcome;
+use questions::Books;
+use questions::Remembered;
 use reading::Step;
 use sets::JobSet;
-use steps::Books;
 use steps::Looked;
-use steps::Remembered;
 use steps::Told;
-use steps::View;
 
 // How far it has come, beside its ledger: where it reads, how many steps it has carried out and where its text ends; what the last step answered and
 // listed.
@@ -158,7 +159,7 @@ pub(crate) fn carry_on(
         }
         ledger = books::apply(ledger, change, s.vault, s.job);
         let votes = ledger.votes[(s.job % 128) as usize];
-        named = steps::still(named, view, ledger.booked, votes);
+        named = questions::still(named, view, ledger.booked, votes);
     }
     turned(ledger, c, named)
 }

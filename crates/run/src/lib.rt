@@ -18,8 +18,8 @@ pub use header::opens;
 use ledger::Ledger;
 use outcome::Outcome;
 use outcome::Refusal;
+use questions::Remembered;
 use sets::JobSet;
-use steps::Remembered;
 
 // No file has more steps.
 const EVERY: u32 = 65536;
@@ -84,7 +84,7 @@ pub fn advance(
 {
     let ledger = progress.ledger;
     let c = going::cursor_at(progress.pos, progress.count, 0);
-    let named = steps::unknown();
+    let named = questions::unknown();
     let turned = going::carry_on(
         ledger,
         c,
@@ -102,7 +102,7 @@ pub fn advance(
 }
 
 // Carries out the next step alone, and writes its text after what the progress says is written. What is kept of kind 13 is handed on from one step to the
-// next; before the first it is `steps::unknown()`.
+// next; before the first it is `questions::unknown()`.
 pub fn turn(
     progress: Progress,
     named: Remembered,

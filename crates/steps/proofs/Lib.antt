@@ -1,4 +1,3 @@
-pub mod Arms
 pub mod Quiet
 pub mod Records
 pub mod Turns

@@ -1,11 +1,11 @@
 -- What is not a proposal books nothing; so a new record is the one that was proposed, and there is room for it.
-use mathlib.Core.Bool.{Bool, cond, false, true, true≢false}
+use mathlib.Core.Bool.{cond, false, true≢false}
 use mathlib.Core.List.{List}
 use mathlib.Core.Logic.{_⊎_, inl, inr, ⊎-elim}
 use mathlib.Core.Path.{_∙_, _≡_, ap, refl, subst, sym}
-use Prim.Native.Nat.{_+_, ℕ}
+use Prim.Native.Nat.{ℕ}
 use lib.Count.{ones}
-use lib.ListN.{drop, getD, take}
+use lib.ListN.{drop, take}
 use Rattle.base.proofs.Reflect.{by-cases}
 use Rattle.codec.specs.Codec.{recordSize}
 use Rattle.outcome.specs.declared.Verdict.{Verdict}
@@ -19,7 +19,6 @@ use Rattle.ledger.specs.Decisions.{countedConsent, counting, gated, isBook, pre
 use Rattle.ledger.specs.Decisions.{receiving, refusing, releasing, snapshotting, supersession, voting, withinQuota}
 use Rattle.ledger.specs.Given.{Writable}
 use Rattle.vaults.specs.Vaults.{holding, vaultPreflight}
-use Rattle.ledger.specs.declared.Change.{Change}
 use Rattle.ledger.specs.declared.Change.the-variants.{Book, Hold}
 use Rattle.vaults.specs.declared.Consent.{Consent}
 use Rattle.vaults.specs.declared.Consent.the-variants.{Already, Denied, Fresh}
@@ -29,8 +28,8 @@ use Rattle.runfile.specs.Steps.{commandIn}
 use Rattle.runfile.specs.declared.Kind.{Kind}
 use Rattle.runfile.specs.declared.Kind.the-variants.{ClientPreflight, Commit, Dependencies, Draw, Equivocating, FaultyAcknowledge, FaultySign, Generations}
 use Rattle.runfile.specs.declared.Kind.the-variants.{Preflight, Propose, Release, Show, Snapshot, Unknown}
-use Rattle.steps.specs.Decided.{decidedBy}
-use Rattle.steps.specs.declared.View.{View}
+use Rattle.deciding.specs.Decided.{decidedBy}
+use Rattle.deciding.specs.declared.View.{View}
 
 pub record Bookless (d : Decision) : Type 0 where
   pub none : isBook (d .change) ≡ false

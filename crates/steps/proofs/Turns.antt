@@ -10,14 +10,14 @@ use Rattle.ledger.specs.declared.Listing.{Listing}
 use Rattle.text.proofs.Members.{nothing-listed}
 use Rattle.text.specs.Text.{Put, lineFor, longestLine, longestText, textFor}
 use Rattle.steps.proofs.Quiet.{writable}
-use Rattle.steps.specs.Decided.{Answered, alone, surveyed}
-use Rattle.steps.specs.Kept.{Found}
+use Rattle.questions.specs.Answers.{Answered, alone, surveyed}
+use Rattle.questions.specs.Kept.{Found}
 use Rattle.steps.specs.Stored.{Stored}
 use Rattle.steps.specs.Turned.{CarriedOut, Said, Surveyed, decisionAt, recordIn}
-use Rattle.steps.specs.declared.Books.{Books}
-use Rattle.steps.specs.declared.Remembered.{Remembered}
+use Rattle.questions.specs.declared.Books.{Books}
+use Rattle.questions.specs.declared.Remembered.{Remembered}
 use Rattle.reading.specs.declared.Step.{Step}
-use Rattle.steps.specs.declared.View.{View}
+use Rattle.deciding.specs.declared.View.{View}
 
 -- a step that lists nothing
 line-alone : (number : ℕ) (o p : Outcome) (out : List ℕ) (at : ℕ) (out′ : List ℕ) (r : ℕ) → o ≡ p → Put out at (lineFor number o) out′ r

@@ -1,4 +1,2 @@
-pub mod Decided
-pub mod Kept
 pub mod Stored
 pub mod Turned

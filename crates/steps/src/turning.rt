@@ -4,16 +4,14 @@ ghost use lib.ListN.{length};
 ghost use Rattle.index.specs.Index.{Indexed, IndexedEntries};
 ghost use Rattle.generations.specs.Memo.{Ready};
 ghost use Rattle.reading.specs.Reading.{Asked};
-ghost use Rattle.steps.specs.Kept.{Right};
+ghost use Rattle.questions.specs.Kept.{Right};
 ghost use Rattle.steps.specs.Turned.{CarriedOut, Surveyed};
 ghost use Rattle.text.specs.Text.{longestText};
-use crate::Books;
 use crate::Looked;
 use crate::Told;
-use crate::View;
-use crate::deciding;
-use crate::naming;
 use crate::storing;
+use deciding::View;
+use questions::Books;
 use reading::Step;
 
 // A step that looks at one vault.
@@ -92,9 +90,9 @@ pub fn survey(
     let votes = books.votes;
     let kept = books.named;
     let booked = books.booked;
-    let named = naming::named(kept, kind, settings, votes, numbers, sets, journal, booked);
+    let named = questions::named(kept, kind, settings, votes, numbers, sets, journal, booked);
     let vaults = named.vaults;
-    let listing = deciding::look(step, books, vaults, order, numbers, sets, journal, memo);
+    let listing = questions::look(step, books, vaults, order, numbers, sets, journal, memo);
     let outcome = listing.outcome;
     let members = listing.members;
     let end = text::write_text(out, at, step.number, outcome, members);

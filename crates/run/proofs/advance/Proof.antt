@@ -7,7 +7,8 @@ use borrow.Author.Needs.{needs}
 carry-on-requires : tie.Need-carry-on-requires
 carry-on-requires c κs =
     let u = c .before .before .before .before .before .before in
-    to-advance (u .before .before .before .before .before .before .before .before .before .before .pre) _ (u .before .cursor-at .ensures) _ (u .unknown .ensures)
+    let p = u .before .before .before .before .before .before .before .before .before .before .pre in
+    to-advance p _ (u .before .cursor-at .ensures) _ (u .unknown .ensures)
 
 returns : tie.Need-returns
 returns c =

@@ -4,11 +4,11 @@ use mathlib.Core.Path.{_∙_, _≡_}
 use Prim.Native.Nat.{_-_, ℕ}
 use lib.ListN.{length}
 use borrow.Author.Needs.{needs}
-use Rattle.run.proofs.Turning.{come-on, few-vaults, loud-placed, numbered, reads-on, stopped, to-look-up, to-survey, took-loud, took-quiet, took-wide}
+use Rattle.run.proofs.Turning.{come-on, few-vaults, loud-placed, numbered, reads-on, to-look-up, to-survey, took-loud, took-quiet, took-wide}
 use Rattle.run.proofs.Turning.{turning}
 use Rattle.run.proofs.going.carry_on.Statement.{statement}
 use Rattle.run.proofs.going.carry_on.Tie as tie
-use Rattle.run.specs.Turns.{Come, standing, turnedAt}
+use Rattle.run.specs.Coming.{Come, standing, turnedAt}
 
 ruleset by = (turning, needs)
 
@@ -55,7 +55,8 @@ Inv-loop c₀ named₀ last memo₀ journal₀ numbers₀ sets₀ records₀ inp
 abbrev μ-loop : tie.MeasureT-loop
 μ-loop c₀ named₀ last memo₀ journal₀ numbers₀ sets₀ records₀ input out₀ l₀ c named memo journal numbers sets records out l = length input - c .pos
 
--- In what follows s is the place after the step was read, h that after it was seen that the run goes on, and t what holds at the loop's head.
+-- In what follows s is the place after the step was read and h that after it was seen that the run goes on; t is what holds at the loop's head. The step
+-- was seen to look at one vault or at all at n, and was carried out at v.
 step-at-requires : tie.Need-step-at-requires Inv-loop μ-loop
 step-at-requires c κs =
     let h = c .before .before in
@@ -70,19 +71,25 @@ survey-requires c κs =
     (few-vaults t, to-look-up t, to-survey t, t .right, numbered t _ (o .0) (s .step-at .ensures), o .1)
 
 loop-less : tie.Need-loop-less Inv-loop μ-loop
-loop-less c = reads-on (c .before .before .before .before .before .before .before .before .before .before .before .before .before .before .before .before .before .before .before .step-at .ensures) _ (c .before .looked .ensures)
+loop-less c =
+    let v = c .before .before .before .before .before .before in
+    let n = v .before .before .before .before .before .before .before .before .before .before .before .before in
+    let s = n .before in
+    reads-on (s .step-at .ensures) _ (c .before .looked .ensures)
 
 loop-again : tie.Need-loop-again Inv-loop μ-loop
 loop-again c =
-    let s = c .before .before .before .before .before .before .before .before .before .before .before .before .before .before .before .before .before .before .before in
+    let v = c .before .before .before .before .before .before in
+    let n = v .before .before .before .before .before .before .before .before .before .before .before .before in
+    let s = n .before in
     let h = s .before .before .before in
     let t = h .before .loop .inv .0 in
     let o = h .goes-on .ensures .on (s .before .before .if1 .taken) in
-    let v = c .before .before .before .before .before .before .survey in (
+    let same = v .survey .kept .1 .1 .1 .1 .1 .1 .1 .0 in (
       come-on t _ _ _ _ _ _ _ _ _ (o .0) (o .2)
-          (took-wide _ _ _ _ _ _ _ _ _ (t .going) (o .0) (o .1) _ (s .step-at .ensures) _ _ _ _ (c .before .before .before .before .before .before .before .before .before .before .before .before .before .before .before .before .before .before .if2 .taken) (v .ensures)
-          (v .kept .1 .1 .1 .1 .1 .1 .1 .0) _ (c .before .looked .ensures)),
-      still-surveyed (v .kept .1 .1 .1 .1 .1 .1 .0) (v .kept .1 .1 .1 .1 .1 .1 .1 .0) (h .before .loop .inv .1),
+          (took-wide _ _ _ _ _ _ _ _ _ (t .going) (o .0) (o .1) _ (s .step-at .ensures) _ _ _ _ (n .if2 .taken) (v .survey .ensures) same _
+          (c .before .looked .ensures)),
+      still-surveyed (v .survey .kept .1 .1 .1 .1 .1 .1 .0) same (h .before .loop .inv .1),
     )
 
 carry-out-requires : tie.Need-carry-out-requires Inv-loop μ-loop
@@ -94,47 +101,62 @@ carry-out-requires c κs =
     (s .step-at .ensures .asked, t .going .kept .indexed, numbered t _ (o .0) (s .step-at .ensures), o .1)
 
 loop-less-2 : tie.Need-loop-less-2 Inv-loop μ-loop
-loop-less-2 c = reads-on (c .before .before .before .before .before .before .before .before .before .before .before .before .before .before .before .before .before .before .before .before .before .before .before .before .before .before .before .before .before .step-at .ensures) _ (c .before .before .told .ensures)
+loop-less-2 c =
+    let v = c .before .before .before .before .before .before .before .before .before .before .before .before .before in
+    let n = v .before .before .before .before .before .before .before .before .before .before .before .before .before .before .before in
+    let s = n .before in
+    reads-on (s .step-at .ensures) _ (c .before .before .told .ensures)
 
 loop-again-2 : tie.Need-loop-again-2 Inv-loop μ-loop
 loop-again-2 c =
-    let s = c .before .before .before .before .before .before .before .before .before .before .before .before .before .before .before .before .before .before .before .before .before .before .before .before .before .before .before .before .before in
+    let v = c .before .before .before .before .before .before .before .before .before .before .before .before .before in
+    let n = v .before .before .before .before .before .before .before .before .before .before .before .before .before .before .before in
+    let s = n .before in
     let h = s .before .before .before in
     let t = h .before .loop .inv .0 in
     let o = h .goes-on .ensures .on (s .before .before .if1 .taken) in
-    let v = c .before .before .before .before .before .before .before .before .before .before .before .before .before .carry-out in (
+    let same = v .carry-out .kept .1 .1 .1 .1 .1 .1 .1 .0 in (
       come-on t _ _ _ _ _ _ _ _ _ (o .0) (o .2)
-          (took-quiet _ _ _ _ _ _ _ _ _ (t .going) (o .0) (o .1) _ (s .step-at .ensures) (c .before .before .before .before .before .before .before .before .before .before .before .before .before .before .before .before .before .before .before .before .before .before .before .before .before .before .before .before .if2 .left) _ _ _ _ _ _ (v .ensures) _
-          (c .before .is-nothing .ensures) (c .if3 .taken) _ (t .right) (v .kept .1 .1 .1 .1 .1 .1 .1 .0) _ (c .before .before .told .ensures)),
-      still-same (v .kept .1 .1 .0) (v .kept .1 .1 .1 .0) (v .kept .1 .1 .1 .1 .0) (v .kept .1 .1 .1 .1 .1 .0) (v .kept .1 .1 .1 .1 .1 .1 .1 .0)
+          (took-quiet _ _ _ _ _ _ _ _ _ (t .going) (o .0) (o .1) _ (s .step-at .ensures) (n .if2 .left) _ _ _ _ _ _ (v .carry-out .ensures) _
+          (c .before .is-nothing .ensures) (c .if3 .taken) _ (t .right) same _ (c .before .before .told .ensures)),
+      still-same (v .carry-out .kept .1 .1 .0) (v .carry-out .kept .1 .1 .1 .0) (v .carry-out .kept .1 .1 .1 .1 .0) (v .carry-out .kept .1 .1 .1 .1 .1 .0) same
           (h .before .loop .inv .1),
     )
 
 apply-requires : tie.Need-apply-requires Inv-loop μ-loop
 apply-requires c κs =
-    let s = c .before .before .before .before .before .before .before .before .before .before .before .before .before .before .before .before .before .before .before .before .before .before .before .before .before .before .before .before .before in
+    let v = c .before .before .before .before .before .before .before .before .before .before .before .before .before in
+    let n = v .before .before .before .before .before .before .before .before .before .before .before .before .before .before .before in
+    let s = n .before in
     let h = s .before .before .before in
     let t = h .before .loop .inv .0 in
     let o = h .goes-on .ensures .on (s .before .before .if1 .taken) in
-    loud-placed _ _ (h .before .loop .c) _ _ _ _ _ _ (t .going) (o .0) (o .1) _ (s .step-at .ensures) (c .before .before .before .before .before .before .before .before .before .before .before .before .before .before .before .before .before .before .before .before .before .before .before .before .before .before .before .before .if2 .left) _ _ _ _ _ _
-    (c .before .before .before .before .before .before .before .before .before .before .before .before .before .carry-out .ensures) _ (c .before .is-nothing .ensures) (c .if3 .left)
+    loud-placed _ _ (h .before .loop .c) _ _ _ _ _ _ (t .going) (o .0) (o .1) _ (s .step-at .ensures) (n .if2 .left) _ _ _ _ _ _
+    (v .carry-out .ensures) _ (c .before .is-nothing .ensures) (c .if3 .left)
 
 loop-less-3 : tie.Need-loop-less-3 Inv-loop μ-loop
-loop-less-3 c = reads-on (c .before .before .before .before .before .before .before .before .before .before .before .before .before .before .before .before .before .before .before .before .before .before .before .before .before .before .before .before .before .before .before .before .before .step-at .ensures) _ (c .before .before .before .before .before .before .told .ensures)
+loop-less-3 c =
+    let a = c .before .before .before in
+    let v = a .before .before .before .before .before .before .before .before .before .before .before .before .before .before in
+    let n = v .before .before .before .before .before .before .before .before .before .before .before .before .before .before .before in
+    let s = n .before in
+    reads-on (s .step-at .ensures) _ (a .before .before .before .told .ensures)
 
 loop-again-3 : tie.Need-loop-again-3 Inv-loop μ-loop
 loop-again-3 c =
-    let s = c .before .before .before .before .before .before .before .before .before .before .before .before .before .before .before .before .before .before .before .before .before .before .before .before .before .before .before .before .before .before .before .before .before in
+    let a = c .before .before .before in
+    let v = a .before .before .before .before .before .before .before .before .before .before .before .before .before .before in
+    let n = v .before .before .before .before .before .before .before .before .before .before .before .before .before .before .before in
+    let s = n .before in
     let h = s .before .before .before in
     let t = h .before .loop .inv .0 in
     let o = h .goes-on .ensures .on (s .before .before .if1 .taken) in
-    let a = c .before .before .before in
-    let v = c .before .before .before .before .before .before .before .before .before .before .before .before .before .before .before .before .before .carry-out in (
+    let same = v .carry-out .kept .1 .1 .1 .1 .1 .1 .1 .0 in (
       come-on t _ _ _ _ _ _ _ _ _ (o .0) (o .2)
-          (took-loud _ _ _ _ _ _ _ _ _ (t .going) (o .0) (o .1) _ (s .step-at .ensures) (c .before .before .before .before .before .before .before .before .before .before .before .before .before .before .before .before .before .before .before .before .before .before .before .before .before .before .before .before .before .before .before .before .if2 .left) _ _ _ _ _ _ (v .ensures) _
-          (a .before .before .is-nothing .ensures) (a .before .if3 .left) _ (a .apply .ensures) _ (t .right) (v .kept .1 .1 .1 .1 .1 .1 .1 .0) _
+          (took-loud _ _ _ _ _ _ _ _ _ (t .going) (o .0) (o .1) _ (s .step-at .ensures) (n .if2 .left) _ _ _ _ _ _ (v .carry-out .ensures) _
+          (a .before .before .is-nothing .ensures) (a .before .if3 .left) _ (a .apply .ensures) _ (t .right) same _
           (a .before .before .before .told .ensures) _ (c .still .ensures)),
-      still-same (v .kept .1 .1 .0) (v .kept .1 .1 .1 .0) (v .kept .1 .1 .1 .1 .0) (v .kept .1 .1 .1 .1 .1 .0) (v .kept .1 .1 .1 .1 .1 .1 .1 .0)
+      still-same (v .carry-out .kept .1 .1 .0) (v .carry-out .kept .1 .1 .1 .0) (v .carry-out .kept .1 .1 .1 .1 .0) (v .carry-out .kept .1 .1 .1 .1 .1 .0) same
           (h .before .loop .inv .1),
     )
 

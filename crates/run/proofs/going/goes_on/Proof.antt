@@ -2,7 +2,6 @@ use mathlib.Core.Bool.{true≢false}
 use mathlib.Core.Logic.{inl, inr}
 use mathlib.Core.Path.{sym}
 use native.Mathlib.Omega.{arith}
-use borrow.Author.Needs.{needs}
 use borrow.Author.Tests.{ltb-false, ltb-true}
 use Rattle.run.proofs.going.goes_on.Statement.{statement}
 use Rattle.run.proofs.going.goes_on.Tie as tie

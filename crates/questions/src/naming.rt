@@ -1,0 +1,60 @@
+// The vaults that kind 13 names, found when a step asks for them and kept until what they depend on changes.
+ghost use mathlib.Core.Path.{_≡_};
+ghost use Rattle.index.specs.Index.{IndexedEntries};
+ghost use Rattle.questions.specs.Kept.{Found, Right, Still, unknownYet};
+use crate::Remembered;
+use crate::asking;
+use deciding::View;
+use federation::Settings;
+use runfile::Kind;
+use sets::JobSet;
+use vaults::Votes;
+
+pub fn unknown() -> Remembered
+    ensures { λ r. ⌜ r ≡ unknownYet ⌝ }
+{
+    Remembered {
+        known: false,
+        vaults: JobSet::empty(),
+    }
+}
+
+// They are known where the kind asks for them.
+pub fn named(
+    kept: Remembered,
+    kind: Kind,
+    settings: Settings,
+    votes: [Votes; 128],
+    numbers: &[u16],
+    sets: &[u64],
+    journal: &[u8],
+    booked: usize,
+) -> Remembered
+    requires { ⌜ IndexedEntries (settings .version) (now journal) booked (now numbers) (now sets) × Right settings votes (now journal) booked kept ⌝ }
+    ensures { λ r. ⌜ Found settings votes (now (journal .entry)) booked kind r ⌝ }
+{
+    if asking::is_naming(kind) {
+        if kept.known {
+            return kept;
+        }
+        let vaults = equivocation::equivocating(settings, votes, numbers, sets, journal, booked);
+        return Remembered {
+            known: true,
+            vaults,
+        };
+    }
+    kept
+}
+
+// After a change: they stay known where no record was booked and the signatures on the job that the step looked at are those before.
+pub fn still(kept: Remembered, view: View, booked: usize, votes: Votes) -> Remembered
+    ensures { λ r. ⌜ Still kept (view .booked) (view .votes .signatures) booked (votes .signatures) r ⌝ }
+{
+    let before = view.votes;
+    if view.booked == booked {
+        if before.signatures == votes.signatures {
+            return kept;
+        }
+    }
+    unknown()
+}
