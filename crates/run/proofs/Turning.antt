@@ -60,7 +60,6 @@ pub record Took (input : List ℕ) (l : Ledger) (c : Cursor) (journal out : List
   pub step : Stepped input (runAt l (c .pos) (c .count) journal) (c .at) out (runAt l′ (c′ .pos) (c′ .count) journal′) (c′ .outcome) (c′ .members) out′ (c′ .at)
   pub going : Going input (standing l′ c′) journal′ numbers′ sets′ records′ memo′
   pub right : Holds l′ journal′ named′
-  pub onward : c .pos < c′ .pos
   pub fits : c′ .at ≤ length out
   pub same-out : length out′ ≡ length out
 
@@ -123,6 +122,7 @@ module _ (input : List ℕ) (l : Ledger) (c : Cursor) (memo journal numbers sets
       record {
         step = record {
           next = left-run l′ journal′ el ej;
+          onward = r .onward;
           answered = told;
           listed = lists;
           text = rw (r .number-is, told, lists) at (w .text);
@@ -130,7 +130,6 @@ module _ (input : List ℕ) (l : Ledger) (c : Cursor) (memo journal numbers sets
         };
         going = record { few = g .few; steps = omega (arith, g .steps, r .onward, r .number-is); inside = r .inside; kept = k };
         right = h;
-        onward = r .onward;
         fits = omega (arith, w .short, room);
         same-out = same;
       }
@@ -259,7 +258,7 @@ module _ {input : List ℕ} {p : Progress} {last : ℕ} {memo journal₀ journal
         right = k .right;
         part = part-more (t .part) text (k .step .text);
         ends = t .ends ∙ step-last input (runAt l (c .pos) (c .count) journal) (runAt l′ (c′ .pos) (c′ .count) journal′) more before (k .step .next);
-        went = omega (arith, t .went, k .onward, k .step .short);
+        went = omega (arith, t .went, k .step .onward, k .step .short);
         fits = λ _. omega (arith, k .fits, t .same-out);
         same-out = k .same-out ∙ t .same-out;
         since = omega (arith, t .since, counted);

@@ -1,7 +1,7 @@
 -- A run goes on step by step: of each step the run after it, what was answered and listed, and its text, by the definitions of the run file.
 use mathlib.Core.List.{List}
 use mathlib.Core.Path.{_≡_}
-use Prim.Native.Nat.{_+_, _≤_, ℕ}
+use Prim.Native.Nat.{_+_, _<_, _≤_, ℕ}
 use Rattle.outcome.specs.declared.Outcome.{Outcome}
 use Rattle.sets.specs.declared.job_set.JobSet.{JobSet}
 use Rattle.ledger.specs.declared.Ledger.{Ledger}
@@ -18,6 +18,7 @@ use Rattle.run.specs.Pieces.{Going, runOf}
 pub record Stepped (input : List ℕ) (r : Run) (at : ℕ) (before : List ℕ) (r′ : Run) (outcome : Outcome) (members : JobSet) (after : List ℕ) (end : ℕ)
     : Type 0 where
   pub next : r′ ≡ turn input r
+  pub onward : r .pos < r′ .pos
   pub answered : outcome ≡ replyOf (r .ledger) (r .journal) (commandOf input r) .outcome
   pub listed : members ≡ listedBy (r .ledger) (r .journal) (commandOf input r)
   pub text : Put before at (textOf (r .count + 1) (r .ledger) (r .journal) (commandOf input r)) after end
