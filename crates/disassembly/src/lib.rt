@@ -90,7 +90,7 @@ fn is_whole(input: &[u8], version: u16) -> bool
 pub fn is_sayable(input: &[u8]) -> bool
     ensures { λ r. ⌜ r ≡ sayable (now (input .entry)) ⌝ }
 {
-    if lines::opens(input) {
+    if header::opens(input) {
         return is_whole(input, reading::word_at(input, 3));
     }
     false

@@ -1,14 +1,12 @@
 -- The header's line.
-use mathlib.Core.Bool.{Bool, _&&_, cond, false, true}
-use mathlib.Core.List.{List, [], _++_, _∷_, append-assoc}
+use mathlib.Core.Bool.{Bool, false, true}
+use mathlib.Core.List.{List, _++_, append-assoc}
 use mathlib.Core.Path.{_∙_, _≡_, ap, refl, sym}
-use Prim.Native.Nat.{_+_, _*_, _-_, _<_, _≤_, suc, zero, ℕ}
+use Prim.Native.Nat.{_+_, _-_, _<_, _≤_, suc, zero, ℕ}
 use native.Mathlib.Omega.{arith}
-use lib.Dec.{eqb, leb, ltb}
-use lib.ListN.{drop, getD, length, length-append, length-take, take}
-use lib.Seq.{length-sets, length-take-le, sets, sets-eq, take-append-le, take-at, take-take}
-use borrow.Author.Tests.{eq-eqb, eqb-false, eqb-true, le-leb, le-ltb, lt-leb, lt-ltb, ne-eqb}
-use Rattle.base.proofs.Reflect.{and-false}
+use lib.ListN.{drop, length, length-append, take}
+use lib.Seq.{length-take-le, sets-eq, take-at}
+use borrow.Author.Tests.{eq-eqb, le-leb, le-ltb, lt-ltb, ne-eqb}
 use Rattle.federation.specs.Federation.{isLawfulUpTo, latest}
 use Rattle.rows.proofs.Sound.{read-size}
 use Rattle.rows.specs.Items.{formOf}
@@ -16,7 +14,7 @@ use Rattle.rows.specs.Writing.{widths}
 use Rattle.runfile.specs.Run.{isHeader, longest, opened, opens, opensUpTo}
 use Rattle.text.proofs.Writing.{then}
 use Rattle.rows.specs.Reading.{Parsed as Said, readBy}
-use Rattle.rows.specs.Table.{accession, letters, row}
+use Rattle.rows.specs.Table.{letters, row}
 use Rattle.text.specs.Text.{Put}
 use Rattle.notation.specs.Files.{headerRead}
 use Rattle.notation.specs.Lines.{rowFor, wrong}
@@ -109,9 +107,6 @@ module _ {text before : List ℕ} (at : ℕ) (within : at ≤ length text) (k : 
       pub nine-bytes : take (p .end) after ≡ letters "VLT" ++ readBy (row k) (drop at text) .bytes
       nine-bytes = put-adds both (omega (arith, ended)) .1
 
-      pub nine-long : (s : List ℕ) → s ≡ take (p .end) after → 9 ≤ length s
-      nine-long s e = rw (e ∙ nine-bytes) (omega (arith, size (drop at text) k is low fine))
-
       decided : (s : List ℕ) (b : Bool) → s ≡ take (p .end) after → b ≡ isLawfulUpTo latest (opened s .settings)
           → b ≡ opens (letters "VLT" ++ readBy (row k) (drop at text) .bytes)
       decided s b e q = judged (drop at text) k is low fine b (rw (e ∙ nine-bytes) at q)
@@ -125,49 +120,3 @@ module _ {text before : List ℕ} (at : ℕ) (within : at ≤ length text) (k : 
       pub unlawful-header : (s : List ℕ) (b : Bool) (r : Parsed) → s ≡ take (p .end) after → b ≡ isLawfulUpTo latest (opened s .settings) → b ≡ false
           → r ≡ record { reason = 12; next = at; end = 0 } → LineTo (headerRead (drop at text)) text 0 before after r
       unlawful-header s b r e q f m = no-line after 12 r (unlawful-word (drop at text) k is low fine (sym (decided s b e q) ∙ f)) (λ z. omega arith) m
-
--- ---- check 1
-module _ (s : List ℕ) where
-  pub opens-long : longest < length s → false ≡ opens s
-  unfolding opensUpTo
-  opens-long h = rw (lt-leb (length s) longest h)
-
-  pub opens-not : isHeader s ≡ false → false ≡ opens s
-  unfolding opensUpTo
-  opens-not h = sym (rw h (and-false (leb (length s) longest)))
-
-  no-head : length s < 9 → isHeader s ≡ false
-  unfolding isHeader
-  no-head h = rw (lt-leb 9 (length s) h)
-
-  no-first : (getD s 0 0 ≡ 86 → ⊥) → isHeader s ≡ false
-  unfolding isHeader
-  no-first n = rw (ne-eqb (getD s 0 0) 86 n) (and-false (leb 9 (length s)))
-
-  no-second : (getD s 1 0 ≡ 76 → ⊥) → isHeader s ≡ false
-  unfolding isHeader
-  no-second n = rw (ne-eqb (getD s 1 0) 76 n, and-false (eqb (getD s 0 0) 86)) (and-false (leb 9 (length s)))
-
-  no-third : (getD s 2 0 ≡ 84 → ⊥) → isHeader s ≡ false
-  unfolding isHeader
-  no-third n = rw (ne-eqb (getD s 2 0) 84 n, and-false (eqb (getD s 1 0) 76), and-false (eqb (getD s 0 0) 86)) (and-false (leb 9 (length s)))
-
-  pub opens-short : length s < 9 → false ≡ opens s
-  opens-short h = opens-not (no-head h)
-
-  pub opens-first : (getD s 0 0 ≡ 86 → ⊥) → false ≡ opens s
-  opens-first n = opens-not (no-first n)
-
-  pub opens-second : (getD s 1 0 ≡ 76 → ⊥) → false ≡ opens s
-  opens-second n = opens-not (no-second n)
-
-  pub opens-third : (getD s 2 0 ≡ 84 → ⊥) → false ≡ opens s
-  opens-third n = opens-not (no-third n)
-
-  pub opens-so : (b : Bool) → length s ≤ longest → 9 ≤ length s → getD s 0 0 ≡ 86 → getD s 1 0 ≡ 76 → getD s 2 0 ≡ 84
-      → b ≡ isLawfulUpTo latest (opened s .settings) → b ≡ opens s
-  unfolding opensUpTo isHeader
-  opens-so b h g x y z e =
-      rw (le-leb (length s) longest h, le-leb 9 (length s) g, eq-eqb (getD s 0 0) 86 x, eq-eqb (getD s 1 0) 76 y, eq-eqb (getD s 2 0) 84 z) e
-
-pub ruleset opening = (opens-long, opens-short, opens-first, opens-second, opens-third, opens-so)

@@ -11,11 +11,10 @@ ghost use Rattle.federation.specs.Federation.{isLawfulUpTo, latest};
 ghost use Rattle.lines.specs.LineTo.{LineTo};
 ghost use Rattle.notation.specs.Files.{headerRead};
 ghost use Rattle.notation.specs.Lines.{proposalRead, stepRead};
-ghost use Rattle.runfile.specs.Run.{opened, opens};
+ghost use Rattle.runfile.specs.Run.{opened};
 ghost use Rattle.parsing.specs.Took.{ReadTo};
 ghost use Rattle.words.specs.Room.{longestRow, rowRoom};
 pub use choice::front;
-use federation::Settings;
 use notation::Shape;
 use parsing::Parsed;
 pub use shape::closes;
@@ -126,16 +125,9 @@ pub fn step_read(
 
 // The settings of a header are lawful.
 fn is_lawful(input: &[u8]) -> bool
-    requires { ⌜ 9 ≤ length (now input) ⌝ }
     ensures { λ r. ⌜ r ≡ isLawfulUpTo latest (opened (now (input .entry)) .settings) ⌝ }
 {
-    let settings = Settings {
-        n: input[5],
-        b: input[6],
-        faulty: reading::word_at(input, 7),
-        version: reading::word_at(input, 3),
-    };
-    settings.is_lawful()
+    header::settings_in(input).is_lawful()
 }
 
 // The line that begins at a place, as a header; the file's first nine bytes go into `out`.
@@ -156,26 +148,4 @@ pub fn header_read(text: &[u8], at: usize, buffer: &mut [u8], out: &mut [u8]) ->
         return p;
     }
     wrong(12, at, 0)
-}
-
-// Check 1 lets the file through.
-pub fn opens(input: &[u8]) -> bool
-    ensures { λ r. ⌜ r ≡ opens (now (input .entry)) ⌝ }
-{
-    if input.len() > 65536 {
-        return false;
-    }
-    if input.len() < 9 {
-        return false;
-    }
-    if input[0] != b'V' {
-        return false;
-    }
-    if input[1] != b'L' {
-        return false;
-    }
-    if input[2] != b'T' {
-        return false;
-    }
-    is_lawful(input)
 }

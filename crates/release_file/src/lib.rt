@@ -12,7 +12,7 @@ use outcome::Refusal;
 pub fn releases(input: &[u8], out: &mut [u8; release_list::ROOM]) -> usize
     ensures { λ r. ⌜ Put (now (out .entry)) 0 (releasesText (now (input .entry))) (now (out .exit)) r × (r ≤ 12805) ⌝ }
 {
-    if run::opens(input) {
+    if header::opens(input) {
         let first = unread::first(input);
         if first == 0 {
             let mut journal = [0u8; run::JOURNAL];

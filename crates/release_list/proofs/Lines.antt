@@ -1,7 +1,7 @@
 -- Lines written one after another are the lines of the lists one after another; and there is room, since a job has four inputs at most.
 use mathlib.Core.Bool.{Bool, cond, false, true}
 use mathlib.Core.List.{List, [], _++_, _∷_, append-assoc, append-nil, map}
-use mathlib.Core.Path.{_∙_, _≡_, ap, ap₂, refl, subst, sym}
+use mathlib.Core.Path.{_∙_, _≡_, ap, refl, subst, sym}
 use Prim.Native.Nat.{_*_, _+_, _≤_, suc, zero, ℕ}
 use native.Mathlib.Nat.{add-zero, le-refl, zero-add}
 use native.Mathlib.Omega.{arith}

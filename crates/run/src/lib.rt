@@ -1,7 +1,6 @@
 // A run file carried out, its text in pieces.
 mod buffers;
 mod going;
-mod header;
 
 ghost use mathlib.Core.Path.{_≡_};
 ghost use Prim.Native.Nat.{_+_, _<_, _≤_};
@@ -14,7 +13,6 @@ pub use buffers::JOURNAL;
 pub use buffers::PIECE;
 pub use buffers::input_buffer;
 pub use buffers::printed;
-pub use header::opens;
 use ledger::Ledger;
 use outcome::Outcome;
 use outcome::Refusal;

@@ -1,5 +1,5 @@
 -- The ways through the tests of the header.
-use Rattle.lines.proofs.Headers.{bad-header, nine-long, no-header, right-header, unlawful-header}
+use Rattle.lines.proofs.Headers.{bad-header, no-header, right-header, unlawful-header}
 use Rattle.lines.proofs.header_read.Statement.{statement}
 use Rattle.lines.proofs.header_read.Tie as tie
 use native.Mathlib.Omega.{arith}
@@ -20,16 +20,6 @@ returns-2 c =
     let start = chosen .before .before .before .before .before in
     bad-header (start .args .at) (start .pre .0) _ (chosen .row-for .ensures) _ (first .if1 .left) (put .put .ensures .0) (own .own-read .ensures) _
     (c .before .if2 .taken) (c .wrong2 .ensures)
-
-is-lawful-requires : tie.Need-is-lawful-requires
-is-lawful-requires c κs =
-    let own = c .before .before .before .before .before .before .before .before in
-    let put = own .before .before .before .before .before in
-    let first = put .before .before .before in
-    let chosen = first .before .before .before in
-    let start = chosen .before .before .before .before .before in
-    nine-long (start .args .at) (start .pre .0) _ (chosen .row-for .ensures) _ (first .if1 .left) (put .put .ensures .0) (own .own-read .ensures)
-    (c .before .before .if2 .left) (omega (arith, start .pre .2)) _ (c .front .ensures .0)
 
 returns-3 : tie.Need-returns-3
 returns-3 c =
@@ -57,5 +47,5 @@ pub header-read-spec : {M : Type 1} → statement M
 header-read-spec =
     tie.close
     (tie.spec (λ c κs. search needs) (λ c κs. search needs) (λ c. search needs) returns (λ c. search needs) (λ c κs. search needs) (λ c κs. search needs)
-    (λ c κs. search needs) (λ c. search needs) (λ c. search needs) returns-2 (λ c κs. search needs) is-lawful-requires (λ c. search needs) (λ c. search needs)
+    (λ c κs. search needs) (λ c. search needs) (λ c. search needs) returns-2 (λ c κs. search needs) (λ c κs. search needs) (λ c. search needs) (λ c. search needs)
     returns-3 (λ c κs. search needs) (λ c. search needs) (λ c. search needs) returns-4)

@@ -42,9 +42,6 @@ kept-begun : (input : List ℕ) (l : Ledger) → l ≡ opened input → isLawful
 unfolding opened newLedger
 kept-begun input l e h = rw e (kept-new (getD input 5 0) (getD input 6 0) (wordAt input 7) (versionIn input) h)
 
-settings-in-requires : tie.Need-settings-in-requires
-settings-in-requires c κs = open-when _ (sym (c .before .opens .ensures) ∙ c .if1 .taken) .headed
-
 returns : tie.Need-returns
 returns c =
     let o = sym (c .before .before .before .before .opens .ensures) ∙ c .before .before .before .if1 .taken in
@@ -75,5 +72,5 @@ returns-2 c =
 pub start-spec : {M : Type 1} → statement M
 start-spec =
     tie.close
-    (tie.spec (λ c κs. search needs) settings-in-requires (λ c κs. search needs) returns (λ c κs. search needs) (λ c κs. search needs)
+    (tie.spec (λ c κs. search needs) (λ c κs. search needs) (λ c κs. search needs) returns (λ c κs. search needs) (λ c κs. search needs)
     (λ c. search needs) returns-2)

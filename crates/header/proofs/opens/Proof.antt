@@ -1,11 +1,10 @@
 -- Each return is one way through the tests.
 use Rattle.runfile.specs.Run.{opensUpTo}
-use Rattle.runfile.proofs.Turns.{header-long}
 use mathlib.Core.Path.{_∙_, sym}
 use borrow.Author.Tests.{le-leb, lt-leb, not-false, not-true}
 use borrow.Author.Needs.{needs}
-use Rattle.run.proofs.header.opens.Statement.{statement}
-use Rattle.run.proofs.header.opens.Tie as tie
+use Rattle.header.proofs.opens.Statement.{statement}
+use Rattle.header.proofs.opens.Tie as tie
 
 returns : tie.Need-returns
 unfolding opensUpTo
@@ -14,9 +13,6 @@ returns c = simp (lt-leb _ _ (c .if1 .taken))
 returns-2 : tie.Need-returns-2
 unfolding opensUpTo
 returns-2 c = simp (le-leb _ _ (c .before .before .if1 .left), sym (c .before .is-header .ensures) ∙ not-true _ (c .if2 .taken))
-
-settings-in-requires : tie.Need-settings-in-requires
-settings-in-requires c κs = header-long _ (sym (c .before .is-header .ensures) ∙ not-false _ (c .if2 .left))
 
 returns-3 : tie.Need-returns-3
 unfolding opensUpTo
@@ -33,4 +29,4 @@ returns-3 c =
 pub opens-spec : {M : Type 1} → statement M
 opens-spec =
     tie.close
-    (tie.spec returns (λ c κs. search needs) returns-2 settings-in-requires (λ c κs. search needs) returns-3)
+    (tie.spec returns (λ c κs. search needs) returns-2 (λ c κs. search needs) (λ c κs. search needs) returns-3)

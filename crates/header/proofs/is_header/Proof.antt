@@ -4,9 +4,9 @@ use mathlib.Core.Path.{_≡_, sym}
 use borrow.Author.Needs.{needs}
 use borrow.Author.Tests.{eq-eqb, le-leb}
 use Rattle.base.proofs.Tests.{chain}
-use Rattle.run.proofs.header.is_header.Statement.{statement}
+use Rattle.header.proofs.is_header.Statement.{statement}
 use Rattle.runfile.specs.Run.{isHeader}
-use Rattle.run.proofs.header.is_header.Tie as tie
+use Rattle.header.proofs.is_header.Tie as tie
 
 -- three tests that pass leave the last
 behind : (a b c d : Bool) → a ≡ true → b ≡ true → c ≡ true → (a && (b && (c && d))) ≡ d

@@ -1,14 +1,12 @@
-// The header.
+// The header of a run file, and check 1.
 ghost use mathlib.Core.Path.{_≡_};
-ghost use Prim.Native.Nat.{_≤_};
-ghost use lib.ListN.{length};
 ghost use Rattle.runfile.specs.Run.{isHeader, opened, opens};
 use federation::Settings;
 
 // How long the header is.
-pub(crate) const SIZE: usize = 9;
+pub const SIZE: usize = 9;
 
-pub(crate) fn is_header(input: &[u8]) -> bool
+fn is_header(input: &[u8]) -> bool
     ensures { λ r. ⌜ r ≡ isHeader (now (input .entry)) ⌝ }
 {
     if input.len() < 9 {
@@ -23,13 +21,13 @@ pub(crate) fn is_header(input: &[u8]) -> bool
     input[2] == b'T'
 }
 
-pub(crate) fn settings_in(input: &[u8]) -> Settings
-    requires { ⌜ 9 ≤ length (now input) ⌝ }
+// The settings that it names; bytes past the end count as 0.
+pub fn settings_in(input: &[u8]) -> Settings
     ensures { λ r. ⌜ r ≡ opened (now (input .entry)) .settings ⌝ }
 {
     Settings {
-        n: input[5],
-        b: input[6],
+        n: reading::byte_at(input, 5),
+        b: reading::byte_at(input, 6),
         faulty: reading::word_at(input, 7),
         version: reading::word_at(input, 3),
     }
