@@ -82,8 +82,9 @@ viewAt l v job place = record {
   turn = vaultAt l (l .next % 16);
 }
 
-abbrev pub booksOf : Ledger → JobSet → Books
-booksOf l named = record { settings = l .settings; booked = l .booked; arrivals = l .arrivals; vaults = l .vaults; named = named }
+abbrev pub booksOf : Ledger → Remembered → Books
+booksOf l named =
+    record { settings = l .settings; booked = l .booked; arrivals = l .arrivals; vaults = l .vaults; votes = l .votes; named = named }
 
 -- ---- behind a gate
 quiet-behind : (g : Verdict) (d : Decision) → d .change ≡ Nothing → gated g d .change ≡ Nothing
@@ -240,9 +241,9 @@ module _ (l : Ledger) (s : Sane l) (journal : List ℕ) where
     requiredAt : ℕ → Listing
     requiredAt v = requiring (vaultAt l v) (heldSomewhere (l .settings) (l .vaults)) (versionOf l) journal (l .booked) second
 
-    required-is : (named : JobSet) → required (booksOf l named) journal first second ≡ dependenciesOf l journal first second
+    required-is : (kept : Remembered) → required (booksOf l kept) journal first second ≡ dependenciesOf l journal first second
     unfolding dependenciesOf requiredAt
-    required-is named =
+    required-is kept =
         ap (λ (g : Verdict). gatedListing g (requiredAt (first % 16))) (vault-gate first second false)
         ∙ same-listed (vaultGate l journal first second false) _ _ placed
       where
@@ -254,19 +255,19 @@ module _ (l : Ledger) (s : Sane l) (journal : List ℕ) where
 
     -- kind 13: the vaults that were found are those that the rule names
     naming-is : (named : Remembered) → Found (l .settings) (l .votes) journal (l .booked) Equivocating named
-        → naming (booksOf l (named .vaults)) journal ≡ equivocatorsOf l journal
+        → naming (versionOf l) (l .booked) journal (named .vaults) ≡ equivocatorsOf l journal
     unfolding equivocatorsOf
     naming-is named h =
         ap (λ (g : Verdict). gatedListing g (listing (named .vaults))) whole-gate
         ∙ ap (gatedListing (wholeGate l journal)) (listed-by l (jobAt (versionOf l) journal (l .booked)) (named .vaults) _ (h .right .are (h .known refl)) refl)
 
     abbrev Answers : Kind → Type 0
-    Answers k = (named : Remembered) → Found (l .settings) (l .votes) journal (l .booked) k named
-        → surveyed (booksOf l (named .vaults)) (l .order) journal k (vaultOf (command k)) (jobOf (command k)) ≡ answer k
+    Answers k = (kept named : Remembered) → Found (l .settings) (l .votes) journal (l .booked) k named
+        → surveyed (booksOf l kept) (named .vaults) (l .order) journal k (vaultOf (command k)) (jobOf (command k)) ≡ answer k
 
     pub wide-answer : (k : Kind) → isWide k ≡ true → Answers k
     unfolding generationsDecision dependenciesDecision equivocatorsDecision
-    wide-answer = by-wide Answers (λ named h. rw (booked-gate first)) (λ named h. required-is (named .vaults)) naming-is
+    wide-answer = by-wide Answers (λ kept named h. rw (booked-gate first)) (λ kept named h. required-is kept) (λ kept. naming-is)
 
     -- any other kind lists nothing
     pub narrow-lists : (k : Kind) → isWide k ≡ false → noJobs ≡ listedBy l journal (command k)

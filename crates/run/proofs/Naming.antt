@@ -24,12 +24,9 @@ use Rattle.ledger.specs.declared.Ledger.{Ledger}
 use Rattle.vaults.specs.Votes.{noVotes}
 use Rattle.vaults.specs.declared.Column.the-variants.{Acknowledgements}
 use Rattle.vaults.specs.declared.Votes.{Votes}
-use Rattle.steps.specs.Kept.{Right, Still, unknownYet}
+use Rattle.steps.specs.Kept.{Still, unknownYet}
 use Rattle.steps.specs.declared.Remembered.{Remembered}
-
--- what is kept is right for the ledger
-abbrev pub Holds : Ledger → List ℕ → Remembered → Type 0
-Holds l journal = Right (l .settings) (l .votes) journal (l .booked)
+use Rattle.run.specs.Turns.{Holds}
 
 pub nothing-known : (l : Ledger) (journal : List ℕ) (r : Remembered) → r ≡ unknownYet → Holds l journal r
 nothing-known l journal r e = record { are = λ t. absurd (true≢false (sym t ∙ ap (λ (x : Remembered). x .known) e)) }

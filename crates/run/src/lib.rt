@@ -1,11 +1,13 @@
 // A run file carried out, its text in pieces.
 mod buffers;
+mod going;
 mod header;
 
 ghost use mathlib.Core.Path.{_≡_};
-ghost use Prim.Native.Nat.{_≤_};
+ghost use Prim.Native.Nat.{_+_, _<_, _≤_};
 ghost use lib.ListN.{length};
 ghost use Rattle.run.specs.Pieces.{Advanced, Going, Started};
+ghost use Rattle.run.specs.Turns.{Holds, TurnedOnce};
 ghost use Rattle.text.specs.Text.{longestText};
 pub use buffers::INPUT;
 pub use buffers::JOURNAL;
@@ -15,8 +17,11 @@ pub use buffers::printed;
 use ledger::Ledger;
 use outcome::Outcome;
 use outcome::Refusal;
-use steps::Books;
-use steps::View;
+use sets::JobSet;
+use steps::Remembered;
+
+// No file has more steps.
+const EVERY: u32 = 65536;
 
 // How far a run has come: its ledger, where it reads, how many steps it has carried out, and how much of the buffer it wrote last.
 pub struct Progress {
@@ -24,6 +29,14 @@ pub struct Progress {
     pub pos: usize,
     pub count: u32,
     pub written: usize,
+}
+
+// A run after one step, what that answered and listed, and what is kept of kind 13.
+pub struct Turned {
+    pub progress: Progress,
+    pub outcome: Outcome,
+    pub members: JobSet,
+    pub named: Remembered,
 }
 
 // The run of any input begins on tables of zeros. Where check 1 turns it back, its line is written and nothing is left to read.
@@ -53,17 +66,6 @@ pub fn start(input: &[u8], out: &mut [u8]) -> Progress
     }
 }
 
-fn standing(ledger: Ledger, pos: usize, count: u32, written: usize) -> Progress
-    ensures { λ r. ⌜ r ≡ record { ledger = ledger; pos = pos; count = count; written = written } ⌝ }
-{
-    Progress {
-        ledger,
-        pos,
-        count,
-        written,
-    }
-}
-
 // Carries out steps while there are more and `out` has room for the longest text of one.
 pub fn advance(
     progress: Progress,
@@ -79,69 +81,59 @@ pub fn advance(
     ensures { λ r. ⌜ Advanced (now (input .entry)) progress (now (journal .entry)) (now (out .entry)) r
         (now (journal .exit)) (now (numbers .exit)) (now (sets .exit)) (now (records .exit)) (now (memo .exit)) (now (out .exit)) ⌝ }
 {
-    let mut ledger = progress.ledger;
-    let mut pos = progress.pos;
-    let mut count = progress.count;
-    let mut at: usize = 0;
-    let mut named = steps::unknown();
-    while pos < input.len() {
-        if out.len() < at + text::LONGEST {
-            return standing(ledger, pos, count, at);
-        }
-        count += 1;
-        let step = reading::step_at(ledger.settings.version, input, pos, count);
-        pos = step.end;
-        if step.wide {
-            let kind = step.kind;
-            let settings = ledger.settings;
-            let votes = ledger.votes;
-            named = steps::named(
-                named,
-                kind,
-                settings,
-                votes,
-                numbers,
-                sets,
-                journal,
-                ledger.booked,
-            );
-            let vaults = named.vaults;
-            let order = &ledger.order;
-            let books = Books {
-                settings: ledger.settings,
-                booked: ledger.booked,
-                arrivals: ledger.arrivals,
-                vaults: ledger.vaults,
-                named: vaults,
-            };
-            at = steps::survey(step, books, order, numbers, sets, journal, memo, out, at);
-            continue;
-        }
-        let view = View {
-            settings: ledger.settings,
-            booked: ledger.booked,
-            state: ledger.vaults[(step.vault % 16) as usize],
-            votes: ledger.votes[(step.job % 128) as usize],
-            history: ledger.histories[step.place % 128],
-            next: ledger.next,
-            seen: ledger.seen,
-            turn: ledger.vaults[(ledger.next % 16) as usize],
-        };
-        let told = steps::carry_out(step, view, numbers, sets, records, journal, input, out, at);
-        at = told.at;
-        let change = told.change;
-        if books::is_nothing(change) {
-            continue;
-        }
-        ledger = books::apply(ledger, change, step.vault, step.job);
-        let votes = ledger.votes[(step.job % 128) as usize];
-        named = steps::still(
-            named,
-            view.booked,
-            view.votes.signatures,
-            ledger.booked,
-            votes.signatures,
-        );
-    }
-    standing(ledger, pos, count, at)
+    let ledger = progress.ledger;
+    let c = going::cursor_at(progress.pos, progress.count, 0);
+    let named = steps::unknown();
+    let turned = going::carry_on(
+        ledger,
+        c,
+        named,
+        EVERY,
+        memo,
+        journal,
+        numbers,
+        sets,
+        records,
+        input,
+        out,
+    );
+    turned.progress
+}
+
+// Carries out the next step alone, and writes its text after what the progress says is written. What is kept of kind 13 is handed on from one step to the
+// next; before the first it is `steps::unknown()`.
+pub fn turn(
+    progress: Progress,
+    named: Remembered,
+    memo: &mut [u8],
+    journal: &mut [u8],
+    numbers: &mut [u16],
+    sets: &mut [u64],
+    records: &mut [u16],
+    input: &[u8],
+    out: &mut [u8],
+) -> Turned
+    requires { ⌜ Going (now input) progress (now journal) (now numbers) (now sets) (now records) (now memo)
+        × Holds (progress .ledger) (now journal) named
+        × (progress .pos < length (now input))
+        × (progress .written + longestText ≤ length (now out)) ⌝ }
+    ensures { λ r. ⌜ TurnedOnce (now (input .entry)) progress (now (journal .entry)) (now (out .entry)) r
+        (now (journal .exit)) (now (numbers .exit)) (now (sets .exit)) (now (records .exit)) (now (memo .exit)) (now (out .exit)) ⌝ }
+{
+    let ledger = progress.ledger;
+    let c = going::cursor_at(progress.pos, progress.count, progress.written);
+    let last = progress.count + 1;
+    going::carry_on(
+        ledger,
+        c,
+        named,
+        last,
+        memo,
+        journal,
+        numbers,
+        sets,
+        records,
+        input,
+        out,
+    )
 }

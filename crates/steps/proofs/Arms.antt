@@ -172,12 +172,12 @@ pub required-so : (a : Books) (journal : List ℕ) (v job : ℕ) (g : Verdict) (
 required-so a journal v job g r e h = rw e at h
 
 -- ---- the vaults that equivocate
-module _ (a : Books) (journal : List ℕ) (b : Bool) (e : b ≡ isWhole (a .settings .version) journal (a .booked)) (r : Listing) where
-  pub named-so : b ≡ true → r ≡ listing (a .named) → r ≡ naming a journal
+module _ (version booked : ℕ) (journal : List ℕ) (named : JobSet) (b : Bool) (e : b ≡ isWhole version journal booked) (r : Listing) where
+  pub named-so : b ≡ true → r ≡ listing named → r ≡ naming version booked journal named
   unfolding bookedOr
   named-so t q = simp (sym e ∙ t) q
 
-  pub unnamed : b ≡ false → r ≡ unlisted NotBooked → r ≡ naming a journal
+  pub unnamed : b ≡ false → r ≡ unlisted NotBooked → r ≡ naming version booked journal named
   unfolding bookedOr
   unnamed f q = simp (sym e ∙ f) q
 
@@ -201,18 +201,18 @@ module _ (kept : Remembered) (booked signatures booked′ signatures′ : ℕ) w
 pub ruleset names = (named-so, unnamed, already-known, known-now, not-asked, still-known, not-known)
 
 -- ---- one of the three
-module _ (a : Books) (order journal memo : List ℕ) (kind : Kind) (v job : ℕ) (b : Bool) (e : b ≡ isListing kind) (r : Listing) where
+module _ (a : Books) (named : JobSet) (order journal memo : List ℕ) (kind : Kind) (v job : ℕ) (b : Bool) (e : b ≡ isListing kind) (r : Listing) where
   pub look-required : b ≡ true → r ≡ required a journal v job → Memo (jobAt (a .settings .version) journal (a .booked)) order (a .arrivals) memo
-      → length memo ≡ capacity → Answered a order journal memo (surveyed a order journal kind v job) r
+      → length memo ≡ capacity → Answered a order journal memo (surveyed a named order journal kind v job) r
   look-required t q m z = record { told = q ∙ simp (sym e ∙ t); right = m; size = z }
 
   module _ (f : b ≡ false) (n : Bool) (d : n ≡ isNaming kind) where
-    pub look-named : n ≡ true → r ≡ naming a journal → Memo (jobAt (a .settings .version) journal (a .booked)) order (a .arrivals) memo
-        → length memo ≡ capacity → Answered a order journal memo (surveyed a order journal kind v job) r
+    pub look-named : n ≡ true → r ≡ naming (a .settings .version) (a .booked) journal named → Memo (jobAt (a .settings .version) journal (a .booked)) order (a .arrivals) memo
+        → length memo ≡ capacity → Answered a order journal memo (surveyed a named order journal kind v job) r
     look-named t q m z = record { told = q ∙ simp (sym e ∙ f, sym d ∙ t); right = m; size = z }
 
     pub look-aged : n ≡ false → Answered a order journal memo (alone (aged a order journal job .outcome)) r
-        → Answered a order journal memo (surveyed a order journal kind v job) r
+        → Answered a order journal memo (surveyed a named order journal kind v job) r
     look-aged g h = record { told = h .told ∙ simp (sym e ∙ f, sym d ∙ g); right = h .right; size = h .size }
 
 pub ruleset looks = (look-required, look-named, look-aged)

@@ -11,9 +11,11 @@ use Rattle.text.proofs.Members.{nothing-listed}
 use Rattle.text.specs.Text.{Put, lineFor, longestLine, longestText, textFor}
 use Rattle.steps.proofs.Quiet.{writable}
 use Rattle.steps.specs.Decided.{Answered, alone, surveyed}
+use Rattle.steps.specs.Kept.{Found}
 use Rattle.steps.specs.Stored.{Stored}
 use Rattle.steps.specs.Turned.{CarriedOut, Said, Surveyed, decisionAt, recordIn}
 use Rattle.steps.specs.declared.Books.{Books}
+use Rattle.steps.specs.declared.Remembered.{Remembered}
 use Rattle.reading.specs.declared.Step.{Step}
 use Rattle.steps.specs.declared.View.{View}
 
@@ -29,19 +31,23 @@ module _ (w : View) (journal input : List ℕ) (s : Step) (d : Decision) (e : d 
   pub carried-out : (at : ℕ) (out journal′ numbers′ sets′ records′ out′ : List ℕ) (r : ℕ) → Put out at (lineFor (s .number) (d .outcome)) out′ r
       → r ≤ at + longestLine → Stored (d .change) (w .booked) (w .settings .version) journal
       (recordIn (w .settings .version) input s) journal′ numbers′ sets′ records′
-      → CarriedOut input s w at journal out (record { change = d .change; at = r }) journal′ numbers′ sets′ records′ out′
+      → CarriedOut input s w at journal out (record { change = d .change; outcome = d .outcome; at = r }) journal′ numbers′ sets′ records′ out′
   carried-out at out journal′ numbers′ sets′ records′ out′ r p h t = record {
     change-is = ap (λ (x : Decision). x .change) e;
+    outcome-is = ap (λ (x : Decision). x .outcome) e;
     said = line-alone (s .number) (d .outcome) (decisionAt w journal input s .outcome) out at out′ r (ap (λ (x : Decision). x .outcome) e) p h;
     stored = t;
   }
 
-pub surveyed-so : (a : Books) (s : Step) (at : ℕ) (order journal out memo′ out′ : List ℕ) (r : ℕ) (answer : Listing)
-    → Answered a order journal memo′ (surveyed a order journal (s .kind) (s .vault) (s .job)) answer
+pub surveyed-so : (a : Books) (s : Step) (at : ℕ) (order journal out memo′ out′ : List ℕ) (r : ℕ) (named : Remembered) (answer : Listing)
+    → Found (a .settings) (a .votes) journal (a .booked) (s .kind) named
+    → Answered a order journal memo′ (surveyed a (named .vaults) order journal (s .kind) (s .vault) (s .job)) answer
     → Put out at (textFor (s .number) (answer .outcome) (answer .members)) out′ r → r ≤ at + longestText
-    → Surveyed a s at order journal out memo′ out′ r
-surveyed-so a s at order journal out memo′ out′ r answer h p short = record {
-  said = record { text = rw (h .told) at p; short = short };
+    → Surveyed a s at order journal out memo′ out′ (record { outcome = answer .outcome; members = answer .members; named = named; at = r })
+surveyed-so a s at order journal out memo′ out′ r named answer f h p short = record {
+  found = f;
+  answer-is = h .told;
+  said = record { text = p; short = short };
   right = h .right;
   size = h .size;
 }

@@ -9,6 +9,7 @@ use Rattle.outcome.specs.declared.Refusal.the-variants.{NotBooked, NotHeld, Unr
 use Rattle.outcome.specs.declared.Verdict.{Verdict}
 use Rattle.outcome.specs.declared.Verdict.the-variants.{Fail, Pass}
 use Rattle.sets.specs.Jobs.{noJobs}
+use Rattle.sets.specs.declared.job_set.JobSet.{JobSet}
 use Rattle.federation.specs.declared.Settings.{Settings}
 use Rattle.journal.specs.Journal.{capacity, isBooked, isWhole, jobAt}
 use Rattle.generations.specs.Generations.{ageIn}
@@ -120,13 +121,14 @@ isNaming ClientPreflight = false
 isNaming Equivocating = true
 isNaming Unknown = false
 
--- kind 13
-abbrev pub naming : Books → List ℕ → Listing
-naming a journal = gatedListing (bookedOr (isWhole (a .settings .version) journal (a .booked))) (listing (a .named))
+-- kind 13, where these vaults equivocate
+abbrev pub naming : ℕ → ℕ → List ℕ → JobSet → Listing
+naming version booked journal named = gatedListing (bookedOr (isWhole version journal booked)) (listing named)
 
-abbrev pub surveyed : Books → List ℕ → List ℕ → Kind → ℕ → ℕ → Listing
-surveyed a order journal kind v job =
-    cond (isListing kind) (required a journal v job) (cond (isNaming kind) (naming a journal) (alone (aged a order journal job .outcome)))
+abbrev pub surveyed : Books → JobSet → List ℕ → List ℕ → Kind → ℕ → ℕ → Listing
+surveyed a named order journal kind v job =
+    cond (isListing kind) (required a journal v job)
+    (cond (isNaming kind) (naming (a .settings .version) (a .booked) journal named) (alone (aged a order journal job .outcome)))
 
 -- such an answer was found, and the memo stays right
 pub record Answered (a : Books) (order journal memo : List ℕ) (answer r : Listing) : Type 0 where

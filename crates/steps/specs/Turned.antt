@@ -11,9 +11,11 @@ use Rattle.ledger.specs.declared.Listing.{Listing}
 use Rattle.runfile.specs.Steps.{commandIn}
 use Rattle.text.specs.Text.{Put, longestText, textFor}
 use Rattle.steps.specs.Decided.{alone, decidedBy, surveyed}
+use Rattle.steps.specs.Kept.{Found}
 use Rattle.steps.specs.Stored.{Stored}
 use Rattle.steps.specs.declared.Books.{Books}
 use Rattle.reading.specs.declared.Step.{Step}
+use Rattle.steps.specs.declared.Looked.{Looked}
 use Rattle.steps.specs.declared.Told.{Told}
 use Rattle.steps.specs.declared.View.{View}
 
@@ -30,14 +32,21 @@ decisionAt w journal input s = decidedBy w journal (commandIn (w .settings .vers
 abbrev pub recordIn : ℕ → List ℕ → Step → List ℕ
 recordIn version input s = take (recordSize version) (drop (s .at) input)
 
+-- what it answers and lists
+abbrev pub answerOf : Looked → Listing
+answerOf r = record { outcome = r .outcome; members = r .members }
+
 pub record CarriedOut (input : List ℕ) (s : Step) (w : View) (at : ℕ) (journal out : List ℕ) (r : Told)
     (journal′ numbers′ sets′ records′ out′ : List ℕ) : Type 0 where
   pub change-is : r .change ≡ decisionAt w journal input s .change
+  pub outcome-is : r .outcome ≡ decisionAt w journal input s .outcome
   pub said : Said (s .number) (alone (decisionAt w journal input s .outcome)) out at out′ (r .at)
   pub stored : Stored (r .change) (w .booked) (w .settings .version) journal (recordIn (w .settings .version) input s) journal′ numbers′ sets′ records′
 
--- a step that looks at all vaults: nothing changes but the memo, which stays right
-pub record Surveyed (a : Books) (s : Step) (at : ℕ) (order journal out memo′ out′ : List ℕ) (r : ℕ) : Type 0 where
-  pub said : Said (s .number) (surveyed a order journal (s .kind) (s .vault) (s .job)) out at out′ r
+-- a step that looks at all vaults: nothing changes but the memo, which stays right, and the vaults that equivocate are known where it asks for them
+pub record Surveyed (a : Books) (s : Step) (at : ℕ) (order journal out memo′ out′ : List ℕ) (r : Looked) : Type 0 where
+  pub found : Found (a .settings) (a .votes) journal (a .booked) (s .kind) (r .named)
+  pub answer-is : answerOf r ≡ surveyed a (r .named .vaults) order journal (s .kind) (s .vault) (s .job)
+  pub said : Said (s .number) (answerOf r) out at out′ (r .at)
   pub right : Memo (jobAt (a .settings .version) journal (a .booked)) order (a .arrivals) memo′
   pub size : length memo′ ≡ capacity

@@ -269,12 +269,11 @@ pub(crate) fn is_naming(kind: Kind) -> bool
 }
 
 // Kind 13.
-fn name(books: Books, journal: &[u8]) -> Listing
-    ensures { λ r. ⌜ r ≡ naming books (now (journal .entry)) ⌝ }
+fn name(version: u16, booked: usize, journal: &[u8], named: JobSet) -> Listing
+    ensures { λ r. ⌜ r ≡ naming version booked (now (journal .entry)) named ⌝ }
 {
-    let settings = books.settings;
-    if journal::is_whole(settings.version, journal, books.booked) {
-        return decisions::list(books.named);
+    if journal::is_whole(version, journal, booked) {
+        return decisions::list(named);
     }
     decisions::unlist(Refusal::NotBooked)
 }
@@ -283,6 +282,7 @@ fn name(books: Books, journal: &[u8]) -> Listing
 pub(crate) fn look(
     step: Step,
     books: Books,
+    named: JobSet,
     order: &[u8],
     numbers: &[u16],
     sets: &[u64],
@@ -293,14 +293,15 @@ pub(crate) fn look(
         × IndexedEntries (books .settings .version) (now journal) (books .booked) (now numbers) (now sets)
         × Ready (books .settings .version) (now journal) (books .booked) (now numbers) (now sets) (now order) (books .arrivals) (now memo) ⌝ }
     ensures { λ r. ⌜ Answered books (now (order .entry)) (now (journal .entry)) (now (memo .exit))
-        (surveyed books (now (order .entry)) (now (journal .entry)) (step .kind) (step .vault) (step .job)) r ⌝ }
+        (surveyed books named (now (order .entry)) (now (journal .entry)) (step .kind) (step .vault) (step .job)) r ⌝ }
 {
     let kind = step.kind;
     if is_listing(kind) {
         return require(books, numbers, sets, journal, step.vault, step.job);
     }
     if is_naming(kind) {
-        return name(books, journal);
+        let settings = books.settings;
+        return name(settings.version, books.booked, journal, named);
     }
     age(books, order, numbers, sets, journal, memo, step.job)
 }

@@ -7,9 +7,9 @@ mod turning;
 
 use federation::Settings;
 use ledger::Change;
-pub use naming::named;
 pub use naming::still;
 pub use naming::unknown;
+use outcome::Outcome;
 use sets::JobSet;
 pub use turning::carry_out;
 pub use turning::survey;
@@ -29,13 +29,14 @@ pub struct View {
     pub turn: Vault,
 }
 
-// What a step looks at that looks at all vaults; of kind 13 the vaults that it names.
+// What a step looks at that looks at all vaults, and what is known of those that equivocate.
 pub struct Books {
     pub settings: Settings,
     pub booked: usize,
     pub arrivals: usize,
     pub vaults: [Vault; 16],
-    pub named: JobSet,
+    pub votes: [Votes; 128],
+    pub named: Remembered,
 }
 
 // The vaults that equivocate, where they are known.
@@ -44,8 +45,17 @@ pub struct Remembered {
     pub vaults: JobSet,
 }
 
-// What a step changes in the ledger, and where its text ends.
+// What a step answers that looks at one vault: what it changes in the ledger, and where its text ends.
 pub struct Told {
     pub change: Change,
+    pub outcome: Outcome,
+    pub at: usize,
+}
+
+// What a step answers and lists that looks at all vaults, the vaults that equivocate, where they are known then, and where its text ends.
+pub struct Looked {
+    pub outcome: Outcome,
+    pub members: JobSet,
+    pub named: Remembered,
     pub at: usize,
 }

@@ -3,6 +3,7 @@ ghost use mathlib.Core.Path.{_≡_};
 ghost use Rattle.index.specs.Index.{IndexedEntries};
 ghost use Rattle.steps.specs.Kept.{Found, Right, Still, unknownYet};
 use crate::Remembered;
+use crate::View;
 use crate::deciding;
 use federation::Settings;
 use runfile::Kind;
@@ -19,7 +20,7 @@ pub fn unknown() -> Remembered
 }
 
 // They are known where the kind asks for them.
-pub fn named(
+pub(crate) fn named(
     kept: Remembered,
     kind: Kind,
     settings: Settings,
@@ -45,18 +46,13 @@ pub fn named(
     kept
 }
 
-// After a change: they stay known where no record was booked and the signatures on the job are those before.
-pub fn still(
-    kept: Remembered,
-    booked: usize,
-    signatures: u16,
-    after: usize,
-    signed: u16,
-) -> Remembered
-    ensures { λ r. ⌜ Still kept booked signatures after signed r ⌝ }
+// After a change: they stay known where no record was booked and the signatures on the job that the step looked at are those before.
+pub fn still(kept: Remembered, view: View, booked: usize, votes: Votes) -> Remembered
+    ensures { λ r. ⌜ Still kept (view .booked) (view .votes .signatures) booked (votes .signatures) r ⌝ }
 {
-    if booked == after {
-        if signatures == signed {
+    let before = view.votes;
+    if view.booked == booked {
+        if before.signatures == votes.signatures {
             return kept;
         }
     }

@@ -4,12 +4,15 @@ ghost use lib.ListN.{length};
 ghost use Rattle.index.specs.Index.{Indexed, IndexedEntries};
 ghost use Rattle.generations.specs.Memo.{Ready};
 ghost use Rattle.reading.specs.Reading.{Asked};
+ghost use Rattle.steps.specs.Kept.{Right};
 ghost use Rattle.steps.specs.Turned.{CarriedOut, Surveyed};
 ghost use Rattle.text.specs.Text.{longestText};
 use crate::Books;
+use crate::Looked;
 use crate::Told;
 use crate::View;
 use crate::deciding;
+use crate::naming;
 use crate::storing;
 use reading::Step;
 
@@ -56,7 +59,11 @@ pub fn carry_out(
         input,
         step.at,
     );
-    Told { change, at: end }
+    Told {
+        change,
+        outcome,
+        at: end,
+    }
 }
 
 // A step that looks at all vaults.
@@ -70,16 +77,31 @@ pub fn survey(
     memo: &mut [u8],
     out: &mut [u8],
     at: usize,
-) -> usize
+) -> Looked
     requires { ⌜ (books .settings .n ≤ 16)
         × IndexedEntries (books .settings .version) (now journal) (books .booked) (now numbers) (now sets)
         × Ready (books .settings .version) (now journal) (books .booked) (now numbers) (now sets) (now order) (books .arrivals) (now memo)
+        × Right (books .settings) (books .votes) (now journal) (books .booked) (books .named)
         × (step .number < 1000000)
         × (at + longestText ≤ length (now out)) ⌝ }
     ensures { λ r. ⌜ Surveyed books step at (now (order .entry)) (now (journal .entry)) (now (out .entry))
         (now (memo .exit)) (now (out .exit)) r ⌝ }
 {
-    let listing = deciding::look(step, books, order, numbers, sets, journal, memo);
+    let kind = step.kind;
+    let settings = books.settings;
+    let votes = books.votes;
+    let kept = books.named;
+    let booked = books.booked;
+    let named = naming::named(kept, kind, settings, votes, numbers, sets, journal, booked);
+    let vaults = named.vaults;
+    let listing = deciding::look(step, books, vaults, order, numbers, sets, journal, memo);
     let outcome = listing.outcome;
-    text::write_text(out, at, step.number, outcome, listing.members)
+    let members = listing.members;
+    let end = text::write_text(out, at, step.number, outcome, members);
+    Looked {
+        outcome,
+        members,
+        named,
+        at: end,
+    }
 }

@@ -7,4 +7,4 @@ ruleset by = (turns, needs)
 
 pub survey-spec : {M : Type 1} → statement M
 survey-spec =
-    tie.close (tie.spec (λ c κs. search by) (λ c κs. search by) (λ c. search by) (λ c. search by) (λ c. search by))
+    tie.close (tie.spec (λ c κs. search by) (λ c κs. search by) (λ c κs. search by) (λ c. search by) (λ c. search by) (λ c. search by))
