@@ -9,9 +9,12 @@ ghost use lib.Count.{ones};
 ghost use lib.ListN.{drop, length};
 ghost use Rattle.answers.specs.Room.{answerLong, answerRoom};
 ghost use Rattle.explanations.specs.Answers.{answerText, doneText, jobLine, jobRow, refusedText};
+ghost use Rattle.ledger.specs.Decisions.{statusOf};
+ghost use Rattle.rows.specs.Writing.{textBy};
 ghost use Rattle.text.specs.Text.{Put};
 use federation::Settings;
 use outcome::Outcome;
+use outcome::Verdict;
 use sets::JobSet;
 use vaults::Votes;
 
@@ -96,15 +99,36 @@ fn size(set: u16) -> u8
     sets::vaults::size(set) as u8
 }
 
+// The state of a job is what kind 6 answers.
+fn state_of(settings: Settings, votes: Votes) -> u32
+    ensures { λ r. ⌜ r ≡ statusOf settings votes ⌝ }
+{
+    let decision = decisions::show(Verdict::Pass, settings, votes);
+    let outcome = decision.outcome;
+    outcome.value()
+}
+
+// A job's line up to the vaults that are still to sign.
+fn put_state(out: &mut [u8], state: u32, job: u8, signed: u8, acknowledged: u8) -> usize
+    requires { ⌜ answerRoom ≤ length (now out) ⌝ }
+    ensures { λ r. ⌜ Put (now (out .entry)) 0 (textBy (jobRow state) (job ∷ signed ∷ acknowledged ∷ [])) (now (out .exit)) r × (r ≤ 128) ⌝ }
+{
+    let mut buffer = [0u8; 128];
+    let n = put_job_row(&mut buffer, state);
+    let facts = [job, signed, acknowledged];
+    printing::write_row(lines::front(&buffer, n), &facts, out, 0)
+}
+
 // A job's line and its end, at the front of `out`.
 pub fn put_job(out: &mut [u8], settings: Settings, votes: Votes, job: u8) -> usize
     requires { ⌜ answerRoom ≤ length (now out) ⌝ }
     ensures { λ r. ⌜ Put (now (out .entry)) 0 (jobLine settings votes job) (now (out .exit)) r × (r ≤ answerLong) ⌝ }
 {
-    let mut buffer = [0u8; 128];
-    let n = put_job_row(&mut buffer, decisions::status(settings, votes));
-    let facts = [job, size(votes.signatures), size(votes.acknowledgements)];
-    let a = printing::write_row(lines::front(&buffer, n), &facts, out, 0);
-    let b = values::put_names(out, a, values::to_sign(settings.n, votes.signatures));
+    let state = state_of(settings, votes);
+    let signed = size(votes.signatures);
+    let acknowledged = size(votes.acknowledgements);
+    let waiting = values::to_sign(settings.n, votes.signatures);
+    let a = put_state(out, state, job, signed, acknowledged);
+    let b = values::put_names(out, a, waiting);
     words::put(out, b, b"\n")
 }

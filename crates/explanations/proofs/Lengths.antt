@@ -1,11 +1,13 @@
 -- No row of the words is long: each is looked at.
-use mathlib.Core.List.{List, [], _∷_}
+use mathlib.Core.List.{List, [], _++_, _∷_}
 use Prim.Native.Nat.{_≤_, suc, zero, ℕ}
 use native.Mathlib.Omega.{arith}
 use lib.ListN.{getD}
 use Rattle.rows.specs.Items.{formOf}
+use Rattle.rows.specs.Table.{letters}
 use Rattle.rows.specs.Writing.{longestBy}
-use Rattle.explanations.specs.Words.{reason, reasons}
+use Rattle.explanations.specs.Answers.{jobRow}
+use Rattle.explanations.specs.Words.{reason, reasons, status}
 
 -- each row of a table
 abbrev Each : (List ℕ → Type 0) → List (List ℕ) → Type 0
@@ -80,3 +82,9 @@ reason-brief k = each-at (λ r. longestBy r ≤ 128) reasons (
     ),
   ),
 ) k
+
+pub job-brief : (k : ℕ) → longestBy (jobRow k) ≤ 128
+unfolding status longestBy formOf
+job-brief k =
+    each-at (λ r. longestBy (letters "job # " ++ (r ++ letters ": signatures #, acknowledgements #, still to sign ")) ≤ 128)
+    (letters "open" ∷ letters "certified" ∷ letters "finished" ∷ []) (omega arith, (omega arith, (omega arith, omega arith))) k

@@ -1,21 +1,12 @@
-use borrow.Author.Needs.{needs}
+-- A set of sixteen vaults has no more members.
+use lib.Count.{ones-le}
 use Rattle.answers.proofs.size.Statement.{statement}
 use Rattle.answers.proofs.size.Tie as tie
-use Rattle.answers.proofs.size.Reads as reads
-use Rattle.answers.proofs.size.Lts as lts
-use Rattle.sets.proofs.vaults.size.Reads as size-reads
+use native.Mathlib.Omega.{arith}
+use borrow.Author.Needs.{needs}
 
--- src/lib.rt:96:5
-size-requires : tie.Need-size-requires
-size-requires c κs = search needs
-
--- src/lib.rt:96:5
 cast-result : tie.Need-cast-result
-cast-result c = ?
-
--- src/lib.rt:93:1
-returns : tie.Need-returns
-returns c = search needs
+cast-result c = omega (arith, c .size .ensures, ones-le 16 (c .before .args .set) (omega (arith, c .before .fits .set)))
 
 pub size-spec : {M : Type 1} → statement M
-size-spec = tie.close (tie.spec size-requires cast-result returns)
+size-spec = tie.close (tie.spec (λ c κs. search needs) cast-result (λ c. search needs))
