@@ -15,11 +15,12 @@ ghost use Rattle.text.specs.Text.{Put};
 use federation::Settings;
 use outcome::Outcome;
 use outcome::Verdict;
+pub use reasons::put_reason;
 use sets::JobSet;
 use vaults::Votes;
 
 // The bytes from a place on.
-fn from(bytes: &[u8], at: usize) -> &[u8]
+pub fn from(bytes: &[u8], at: usize) -> &[u8]
     ensures { λ r. ⌜ now r ≡ drop at (now (bytes .entry)) ⌝ }
 {
     if at < bytes.len() {

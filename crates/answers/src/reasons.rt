@@ -106,7 +106,7 @@ fn put_third(out: &mut [u8], number: u8) -> usize
     }
 }
 
-pub(crate) fn put_reason(out: &mut [u8], number: u8) -> usize
+pub fn put_reason(out: &mut [u8], number: u8) -> usize
     requires { ⌜ 128 ≤ length (now out) ⌝ }
     ensures { λ r. ⌜ Put (now (out .entry)) 0 (reason number) (now (out .exit)) r × (r ≤ 128) ⌝ }
 {

@@ -1,4 +1,5 @@
 -- The text is printed in pieces: a run that has come so far goes on while there is room for the longest text of a step, and says how far it came.
+use mathlib.Core.Bool.{true}
 use mathlib.Core.List.{List, [], _++_, _∷_}
 use mathlib.Core.Path.{_≡_}
 use mathlib.Core.Logic.{_⊎_}
@@ -9,7 +10,7 @@ use Rattle.index.specs.Places.{numbersSize, setsSize}
 use Rattle.index.specs.Records.{recordsSize}
 use Rattle.text.specs.Text.{Put, longestText}
 use Rattle.ledger.specs.declared.Ledger.{Ledger}
-use Rattle.runfile.specs.Run.{Run, begins, headerSize, journalSize, lastFrom, longest, runText, textFrom}
+use Rattle.runfile.specs.Run.{Run, begins, headerSize, journalSize, lastFrom, longest, opens, runText, textFrom}
 use Rattle.run.specs.declared.Progress.{Progress}
 use Rattle.run.specs.Kept.{Kept}
 
@@ -43,6 +44,7 @@ pub record Started (input before after : List ℕ) (p : Progress) : Type 0 where
   pub going : p .pos < length input → Going input p (blank journalSize) (blank numbersSize) (blank setsSize) (blank recordsSize) (blank capacity)
   pub silent : p .pos < length input → p .written ≡ 0
   pub first : p .pos < length input → runOf p (blank journalSize) ≡ begins input
+  pub opened : opens input ≡ true → runOf p (blank journalSize) ≡ begins input
 
 pub record Advanced (input : List ℕ) (p : Progress) (journal before : List ℕ) (q : Progress)
     (journal′ numbers′ sets′ records′ memo′ after : List ℕ) : Type 0 where

@@ -8,7 +8,7 @@ use borrow.Author.Needs.{needs}
 use mathlib.Core.Path.{_∙_, ap, refl, sym}
 use native.Mathlib.Nat.{le-refl, lt-irrefl}
 use native.Mathlib.Omega.{arith}
-use mathlib.Core.Bool.{true}
+use mathlib.Core.Bool.{true, true≢false}
 use Rattle.base.proofs.Reflect.{by-cases}
 use mathlib.Core.List.{List}
 use mathlib.Core.Path.{_≡_}
@@ -55,18 +55,21 @@ returns c =
       going = λ l. record { few = h .few; steps = omega arith; inside = h .headed; kept = kept-begun _ _ e (h .lawful) };
       silent = λ l. refl;
       first = λ l. begins-at _ _ e;
+      opened = λ t. begins-at _ _ e;
     }
 
 returns-2 : tie.Need-returns-2
 returns-2 c =
     let w = c .before .before .before .before in
     let shut = w .before .before in
-    let text = refused-run _ (sym (shut .before .opens .ensures) ∙ shut .if1 .left) _ (le-refl _) in
+    let closed = sym (shut .before .opens .ensures) ∙ shut .if1 .left in
+    let text = refused-run _ closed _ (le-refl _) in
     record {
       piece = piece-more (nothing-yet refl) text (w .write-line .ensures .0) (omega arith);
       going = λ l. absurd (lt-irrefl _ l);
       silent = λ l. absurd (lt-irrefl _ l);
       first = λ l. absurd (lt-irrefl _ l);
+      opened = λ t. absurd (true≢false (sym t ∙ closed));
     }
 
 pub start-spec : {M : Type 1} → statement M
