@@ -116,11 +116,11 @@ module _ {f b : List ℕ} {n : ℕ} (t : List ℕ) (d : Stands t b n) (e : f ≡
     pub row-end : r ≤ start + longestBy t
     row-end = rw (e ∙ d .row-is) at h
 
-    pub end-room : (size : ℕ) → start + longestBy t + itemRoom ≤ size → r + 1 ≤ size
-    end-room size l = omega (arith, row-end, l)
-
     pub line-end : (q : ℕ) → q ≡ r + 1 → q ≤ start + longestBy t + 1
     line-end q i = omega (arith, row-end, i)
+
+  pub step-put : {o p : List ℕ} {start r : ℕ} (s : List ℕ) → Put o start (textBy f s) p r → Put o start (textBy t s) p r
+  step-put s w = rw (e ∙ d .row-is) at w
 
   pub line-put : {o p q : List ℕ} {start at r : ℕ} (s : List ℕ) → Put o start (textBy f s) p at → Put p at (10 ∷ []) q r
       → Put o start (textBy t s ++ (10 ∷ [])) q r

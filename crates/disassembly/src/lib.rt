@@ -17,11 +17,23 @@ ghost use Rattle.text.specs.Text.{Put};
 // A buffer of this size takes any text: twenty characters for each byte of the longest file, and room for an item while it is written.
 pub const TEXT: usize = 1310920;
 
-fn part(input: &[u8], pos: usize, end: usize) -> &[u8]
+// The bytes of a file from a place up to another.
+pub fn part(input: &[u8], pos: usize, end: usize) -> &[u8]
     requires { ⌜ (pos ≤ end) × (end ≤ length (now input)) ⌝ }
     ensures { λ r. ⌜ now r ≡ take (end - pos) (drop pos (now (input .entry))) ⌝ }
 {
     &input[pos..end]
+}
+
+// The line of a step without its end. A part of what writes whole lines, which sees to the room.
+pub fn put_step(version: u16, step: &[u8], out: &mut [u8], start: usize) -> usize
+    requires { ⌜ start + longestBy (rowOf version (now step)) + itemRoom ≤ length (now out) ⌝ }
+    ensures { λ r. ⌜ Put (now (out .entry)) start (lineOf version (now (step .entry))) (now (out .exit)) r
+        × (r ≤ start + longestBy (rowOf version (now (step .entry)))) ⌝ }
+{
+    let mut buffer = [0u8; words::ROOM];
+    let n = choice::row_of(version, step, &mut buffer);
+    printing::write_row(lines::front(&buffer, n), step, out, start)
 }
 
 // The line of a step and its end.
@@ -30,9 +42,7 @@ fn put_line(version: u16, step: &[u8], out: &mut [u8], start: usize) -> usize
     ensures { λ r. ⌜ Put (now (out .entry)) start (lineOf version (now (step .entry)) ++ (10 ∷ [])) (now (out .exit)) r
         × (r ≤ start + longestBy (rowOf version (now (step .entry))) + 1) ⌝ }
 {
-    let mut buffer = [0u8; words::ROOM];
-    let n = choice::row_of(version, step, &mut buffer);
-    let end = printing::write_row(lines::front(&buffer, n), step, out, start);
+    let end = put_step(version, step, out, start);
     words::put(out, end, b"\n")
 }
 

@@ -62,7 +62,7 @@ fn put_hex(out: &mut [u8], at: usize, v: u32) -> usize
 }
 
 // One vault of a set; a comma stands before all but the first.
-fn put_member(out: &mut [u8], at: usize, first: bool, vault: u8) -> usize
+pub fn put_member(out: &mut [u8], at: usize, first: bool, vault: u8) -> usize
     requires { ⌜ at + 11 ≤ length (now out) ⌝ }
     ensures { λ r. ⌜ Put (now (out .entry)) at (member first vault) (now (out .exit)) r × (r ≤ at + 11) ⌝ }
 {

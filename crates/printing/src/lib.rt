@@ -8,6 +8,7 @@ ghost use Rattle.codec.specs.Codec.{leAt};
 ghost use Rattle.rows.specs.Writing.{fits, longestBy, textBy};
 ghost use Rattle.printing.specs.Member.{itemRoom};
 ghost use Rattle.text.specs.Text.{Put};
+pub use items::put_member;
 
 fn wide(x: u8) -> u32
     ensures { λ r. ⌜ (r ≡ x) × (r < 256) ⌝ }

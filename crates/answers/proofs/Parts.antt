@@ -1,0 +1,104 @@
+-- The parts of an answer and of a job's line, put together.
+use mathlib.Core.Bool.{Bool, _||_, cond}
+use mathlib.Core.List.{List, [], _++_, _∷_}
+use mathlib.Core.Path.{_∙_, _≡_, ap, refl, sym}
+use Prim.Native.Nat.{_*_, _+_, _-_, _<_, _≤_, ℕ}
+use native.Mathlib.Omega.{arith}
+use lib.Count.{ones}
+use lib.Dec.{eqb}
+use lib.ListN.{drop, drop-of-length-le, length, length-drop, take}
+use lib.Seq.{drop-length, take-all, take-nil}
+use borrow.Author.Tests.{eq-eqb, ne-eqb}
+use Rattle.explanations.proofs.Lengths.{job-brief, reason-brief}
+use Rattle.explanations.specs.Answers.{answerText, doneText, figure, jobLine, jobRow, names, refusedText, toSign}
+use Rattle.explanations.specs.Words.{meaning, reason, status}
+use Rattle.federation.specs.declared.Settings.{Settings}
+use Rattle.ledger.specs.Decisions.{statusOf}
+use Rattle.outcome.specs.Figures.{numberOf, valueOf}
+use Rattle.outcome.specs.declared.Outcome.{Outcome}
+use Rattle.rows.specs.Table.{letters}
+use Rattle.rows.specs.Writing.{longestBy, textBy}
+use Rattle.sets.specs.declared.job_set.JobSet.{JobSet}
+use Rattle.text.proofs.Writing.{made, then}
+use Rattle.text.specs.Text.{Put, decimal}
+use Rattle.vaults.specs.declared.Votes.{Votes}
+
+-- ---- the bytes from a place on
+pub rest-here : (l : List ℕ) (at : ℕ) → take (length l - at) (drop at l) ≡ drop at l
+rest-here l at = take-all (length l - at) (drop at l) (omega (arith, length-drop at l))
+
+pub rest-past : (l : List ℕ) (at : ℕ) → length l ≤ at → take (length l - length l) (drop (length l) l) ≡ drop at l
+rest-past l at h = ap (take (length l - length l)) (drop-length l) ∙ take-nil (length l - length l) ∙ sym (drop-of-length-le l {i = at} h)
+
+-- ---- a row at the front of a buffer
+pub row-made : {o p f t : List ℕ} {n : ℕ} → 128 ≤ length o → n ≤ 128 → Put o 0 t p n → f ≡ take n p → f ≡ t
+row-made h g w e = e ∙ made (omega arith) w
+
+pub reason-few : (f : List ℕ) (k : ℕ) → f ≡ reason k → longestBy f ≤ 128
+reason-few f k e = rw e (reason-brief k)
+
+pub job-few : (f : List ℕ) (k : ℕ) → f ≡ jobRow k → longestBy f ≤ 128
+job-few f k e = rw e (job-brief k)
+
+-- ---- a refusal
+module _ {o p : List ℕ} {at r : ℕ} (number entry threshold : ℕ) (bytes f : List ℕ) (is : f ≡ reason number) where
+  pub refused-few : number ≡ 16 → Put o at (textBy f (threshold ∷ [])) p r → Put o at (refusedText number entry threshold bytes) p r
+  unfolding refusedText
+  refused-few e w = rw (eq-eqb number 16 e) (rw is at w)
+
+  pub refused-at : (g : List ℕ) → (number ≡ 16 → ⊥) → g ≡ drop (4 + 12 * entry) bytes → Put o at (textBy f g) p r
+      → Put o at (refusedText number entry threshold bytes) p r
+  unfolding refusedText
+  refused-at g n q w = rw (ne-eqb number 16 n) (rw (is, q) at w)
+
+-- ---- a value
+module _ {o p : List ℕ} {at r : ℕ} (kind value : ℕ) (members : JobSet) where
+  pub figure-state : kind ≡ 6 → Put o at (status value) p r → Put o at (figure kind value members) p r
+  unfolding figure
+  figure-state e w = rw e w
+
+  pub figure-jobs : kind ≡ 11 → Put o at (names members) p r → Put o at (figure kind value members) p r
+  unfolding figure
+  figure-jobs e w = rw e w
+
+  pub figure-vaults : kind ≡ 13 → Put o at (names members) p r → Put o at (figure kind value members) p r
+  unfolding figure
+  figure-vaults e w = rw e w
+
+  pub figure-number : (kind ≡ 6 → ⊥) → (kind ≡ 11 → ⊥) → (kind ≡ 13 → ⊥) → Put o at (decimal value) p r → Put o at (figure kind value members) p r
+  unfolding figure
+  figure-number a b c w = rw (ne-eqb kind 6 a, ne-eqb kind 11 b, ne-eqb kind 13 c) w
+
+pub ruleset figures = (figure-state, figure-jobs, figure-vaults, figure-number)
+
+pub done-put : {o p q : List ℕ} {at j r : ℕ} (kind value : ℕ) (members : JobSet) → Put o at (meaning kind) p j → Put p j (figure kind value members) q r
+    → Put o at (doneText kind value members) q r
+unfolding doneText
+done-put kind value members a b = then a b
+
+-- ---- an answer
+module _ {o p : List ℕ} {at r : ℕ} (kind threshold number value : ℕ) (outcome : Outcome) (members : JobSet) (bytes : List ℕ)
+    (is : number ≡ numberOf outcome) (has : value ≡ valueOf outcome) where
+  pub answer-done : number ≡ 0 → Put o at (doneText kind value members) p r → Put o at (answerText kind outcome members threshold bytes) p r
+  unfolding answerText
+  answer-done e w = rw (eq-eqb (numberOf outcome) 0 (sym is ∙ e)) (rw has at w)
+
+  pub answer-refused : (number ≡ 0 → ⊥) → Put o at (refusedText number value threshold bytes) p r
+      → Put o at (answerText kind outcome members threshold bytes) p r
+  unfolding answerText
+  answer-refused n w = rw (ne-eqb (numberOf outcome) 0 (λ x. n (is ∙ x))) (rw (is, has) at w)
+
+-- ---- a job's line
+pub job-row : {o p q t : List ℕ} {i j r : ℕ} (state : ℕ) → Put o 0 (letters "job # ") p i → Put p i (status state) q j
+    → Put q j (letters ": signatures #, acknowledgements #, still to sign ") t r → Put o 0 (jobRow state) t r
+job-row state a b c = then a (then b c)
+
+pub job-put : {o p q t : List ℕ} {i j r : ℕ} (s : Settings) (votes : Votes) (job state signed acknowledged : ℕ) (waiting : JobSet)
+    → state ≡ statusOf s votes → signed ≡ ones (votes .signatures) → acknowledged ≡ ones (votes .acknowledgements)
+    → waiting ≡ toSign (s .n) (votes .signatures) → Put o 0 (textBy (jobRow state) (job ∷ signed ∷ acknowledged ∷ [])) p i
+    → Put p i (names waiting) q j → Put q j (10 ∷ []) t r → Put o 0 (jobLine s votes job) t r
+unfolding jobLine
+job-put s votes job state signed acknowledged waiting a b c d x y z = then (rw (a, b, c) at x) (then (rw d at y) z)
+
+pub row-is : {o p : List ℕ} {at r : ℕ} {f t : List ℕ} (s : List ℕ) → f ≡ t → Put o at (textBy f s) p r → Put o at (textBy t s) p r
+row-is s e w = rw e at w

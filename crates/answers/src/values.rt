@@ -1,0 +1,102 @@
+// What a value means, a job's state, and sets.
+ghost use mathlib.Core.Path.{_≡_};
+ghost use Prim.Native.Nat.{_*_, _+_, _<_, _≤_};
+ghost use lib.ListN.{length};
+ghost use Rattle.explanations.specs.Answers.{figure, names, toSign};
+ghost use Rattle.explanations.specs.Words.{meaning, status};
+ghost use Rattle.text.specs.Text.{Put};
+use sets::JobSet;
+
+// What stands before the value of a step of a kind.
+pub(crate) fn put_meaning(out: &mut [u8], at: usize, kind: u8) -> usize
+    requires { ⌜ at + 32 ≤ length (now out) ⌝ }
+    ensures { λ r. ⌜ Put (now (out .entry)) at (meaning kind) (now (out .exit)) r × (r ≤ at + 32) ⌝ }
+{
+    match kind {
+        0 => at,
+        1 => words::put(out, at, b"job "),
+        2 => words::put(out, at, b"signatures "),
+        3 => words::put(out, at, b"acknowledgements "),
+        4 => words::put(out, at, b"signatures "),
+        5 => words::put(out, at, b"acknowledgements "),
+        6 => at,
+        7 => words::put(out, at, b"chance in thousandths "),
+        8 => words::put(out, at, b"generations "),
+        9 => words::put(out, at, b"jobs seen "),
+        10 => words::put(out, at, b"signatures "),
+        11 => words::put(out, at, b"jobs "),
+        12 => words::put(out, at, b"signatures "),
+        13 => words::put(out, at, b"vaults "),
+        _ => at,
+    }
+}
+
+// The state of a job.
+pub(crate) fn put_status(out: &mut [u8], at: usize, value: u32) -> usize
+    requires { ⌜ at + 9 ≤ length (now out) ⌝ }
+    ensures { λ r. ⌜ Put (now (out .entry)) at (status value) (now (out .exit)) r × (r ≤ at + 9) ⌝ }
+{
+    match value {
+        0 => words::put(out, at, b"open"),
+        1 => words::put(out, at, b"certified"),
+        2 => words::put(out, at, b"finished"),
+        _ => at,
+    }
+}
+
+// The members of a set with commas between, or `none`.
+pub(crate) fn put_names(out: &mut [u8], at: usize, set: JobSet) -> usize
+    requires { ⌜ at + 1412 ≤ length (now out) ⌝ }
+    ensures { λ r. ⌜ Put (now (out .entry)) at (names set) (now (out .exit)) r × (r ≤ at + 1412) ⌝ }
+{
+    let mut end = at;
+    let mut first = true;
+    let mut i: u8 = 0;
+    while i < 128 {
+        if set.has(i as usize) {
+            end = printing::put_member(out, end, first, i);
+            first = false;
+            i += 1;
+            continue;
+        }
+        i += 1;
+    }
+    if first {
+        return words::put(out, end, b"none");
+    }
+    end
+}
+
+// The vaults below n that are not among the signers.
+pub(crate) fn to_sign(n: u8, signers: u16) -> JobSet
+    ensures { λ r. ⌜ r ≡ toSign n signers ⌝ }
+{
+    let mut found = JobSet::empty();
+    let mut v: u8 = 0;
+    while v < n {
+        if sets::vaults::has(signers, v) {
+            v += 1;
+            continue;
+        }
+        found = found.with(v as usize);
+        v += 1;
+    }
+    found
+}
+
+// The value of a step that was carried out.
+pub(crate) fn put_figure(out: &mut [u8], at: usize, kind: u8, value: u32, members: JobSet) -> usize
+    requires { ⌜ at + 1412 ≤ length (now out) ⌝ }
+    ensures { λ r. ⌜ Put (now (out .entry)) at (figure kind value members) (now (out .exit)) r × (r ≤ at + 1412) ⌝ }
+{
+    if kind == 6 {
+        return put_status(out, at, value);
+    }
+    if kind == 11 {
+        return put_names(out, at, members);
+    }
+    if kind == 13 {
+        return put_names(out, at, members);
+    }
+    text::write_number(out, at, value)
+}

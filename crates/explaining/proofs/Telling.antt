@@ -1,0 +1,113 @@
+-- What a step's explanation is, by what the run says of the step; and what is left to say afterwards.
+use mathlib.Core.List.{List, [], _++_, _∷_}
+use mathlib.Core.Path.{_∙_, _≡_, ap, refl, sym}
+use Prim.Native.Nat.{_+_, _<_, _≤_, ℕ}
+use native.Mathlib.Omega.{arith}
+use lib.ListN.{length}
+use Rattle.explanations.proofs.Pieces.{job-left, step-left}
+use Rattle.explanations.specs.Answers.{jobLine}
+use Rattle.explanations.specs.Explained.{Says, explainedFrom, nextText, sheetFrom, stepText}
+use Rattle.index.proofs.Tables.{indexed-tables}
+use Rattle.index.specs.Checks.{Tables}
+use Rattle.journal.specs.Journal.{capacity}
+use Rattle.ledger.specs.State.{votesAt}
+use Rattle.ledger.specs.declared.Ledger.{Ledger}
+use Rattle.outcome.specs.declared.Outcome.{Outcome}
+use Rattle.run.specs.Kept.{Kept}
+use Rattle.run.specs.Pieces.{Going, runOf}
+use Rattle.run.specs.Turns.{Holds, TurnedOnce}
+use Rattle.run.specs.declared.Progress.{Progress}
+use Rattle.run.specs.declared.Turned.{Turned}
+use Rattle.runfile.specs.Run.{Run, commandOf, turn}
+use Rattle.runfile.specs.Steps.{listedBy, replyOf}
+use Rattle.sets.specs.declared.job_set.JobSet.{JobSet}
+use Rattle.questions.specs.declared.Remembered.{Remembered}
+use Rattle.telling.specs.Room.{stepLong, stepRoom}
+use Rattle.answers.specs.Room.{answerLong}
+use Rattle.text.specs.Text.{Put, longestText}
+use Rattle.explaining.specs.Told.{Listed, Told, atFront, saidBy}
+
+-- ---- to carry out a step, its text goes into a buffer of its own
+pub going-front : {input journal numbers sets records memo : List ℕ} {p : Progress} (w : ℕ) → Going input p journal numbers sets records memo
+    → Going input (atFront p w) journal numbers sets records memo
+going-front w g = record { few = g .few; steps = g .steps; inside = g .inside; kept = g .kept }
+
+module _ (p q : Progress) (e : q ≡ atFront p 0) where
+  pub to-turn : (input journal numbers sets records memo : List ℕ) → Going input p journal numbers sets records memo
+      → Going input q journal numbers sets records memo
+  to-turn input journal numbers sets records memo g = rw e (going-front 0 g)
+
+  pub to-hold : (journal : List ℕ) (named : Remembered) → Holds (p .ledger) journal named → Holds (q .ledger) journal named
+  to-hold journal named h = rw e h
+
+  pub to-read : (input : List ℕ) → p .pos < length input → q .pos < length input
+  to-read input h = rw e h
+
+  pub to-write : (line : List ℕ) → longestText ≤ length line → q .written + longestText ≤ length line
+  to-write line h = rw e h
+
+-- what is kept has sizes of its own
+pub kept-tables : {l : Ledger} {journal numbers sets records memo : List ℕ} → Kept l journal numbers sets records memo → Tables numbers sets
+kept-tables k =
+    let i = k .indexed in
+    indexed-tables _ _ _ _ _ (record { few = i .few; inside = i .inside; numbers-are = i .numbers-are; sets-are = i .sets-are })
+
+-- ---- the step's explanation
+-- by a run after the step and what was answered and listed
+abbrev textBy : List ℕ → ℕ → Run → Outcome → JobSet → List ℕ
+textBy input pos r outcome members = stepText (r .count) (r .ledger .settings) (r .journal) (r .ledger .booked) input pos outcome members
+
+module _ (input journal numbers₀ sets₀ records₀ memo₀ line line′ journal′ numbers sets records memo : List ℕ) (p q : Progress) (t : Turned)
+    (e : q ≡ atFront p 0) (g : Going input p journal numbers₀ sets₀ records₀ memo₀) (here : p .pos < length input)
+    (once : TurnedOnce input q journal line t journal′ numbers sets records memo line′) where
+  abbrev r : Run
+  r = runOf p journal
+
+  next : runOf (t .progress) journal′ ≡ turn input r
+  next = once .step .next ∙ ap (λ (x : Progress). turn input (runOf x journal)) e
+
+  answered : t .outcome ≡ replyOf (r .ledger) (r .journal) (commandOf input r) .outcome
+  answered =
+      once .step .answered
+      ∙ ap (λ (x : Progress). replyOf (x .ledger) journal (commandOf input (runOf x journal)) .outcome) e
+
+  listed : t .members ≡ listedBy (r .ledger) (r .journal) (commandOf input r)
+  listed = once .step .listed ∙ ap (λ (x : Progress). listedBy (x .ledger) journal (commandOf input (runOf x journal))) e
+
+  explains : textBy input (p .pos) (runOf (t .progress) journal′) (t .outcome) (t .members) ≡ nextText input r
+  unfolding nextText
+  explains =
+      ap (λ (x : Run). textBy input (p .pos) x (t .outcome) (t .members)) next
+      ∙ ap (λ (x : Outcome). textBy input (p .pos) (turn input r) x (t .members)) answered
+      ∙ ap (textBy input (p .pos) (turn input r) (replyOf (r .ledger) (r .journal) (commandOf input r) .outcome)) listed
+
+  counted : t .progress .count ≡ p .count + 1
+  unfolding turn
+  counted = ap (λ (x : Run). x .count) next
+
+  pub told-once : (before after : List ℕ) (u : Turned) (w : ℕ) → stepRoom ≤ length before
+      → Put before 0 (textBy input (p .pos) (runOf (t .progress) journal′) (t .outcome) (t .members)) after w → w ≤ stepLong → u ≡ saidBy t w
+      → Told input p journal before u journal′ numbers sets records memo after
+  told-once before after u w room x few is =
+      rw is (record {
+        said = record {
+          part = nextText input r;
+          cut =
+              step-left input r (omega (arith, g .steps, here)) here
+              ∙ ap (λ (y : Run). nextText input r ++ explainedFrom input y) (sym next);
+          put = rw explains at x;
+          fits = omega (arith, few, room);
+        };
+        going = going-front w (once .going);
+        right = once .right;
+        onward = counted;
+      })
+
+-- ---- a job's line
+pub listed-here : {before after : List ℕ} {r : ℕ} (l : Ledger) (job : ℕ) → stepRoom ≤ length before
+    → Put before 0 (jobLine (l .settings) (votesAt l job) job) after r → r ≤ answerLong → Listed l job before after r
+listed-here l job room w few booked below =
+    record { part = jobLine (l .settings) (votesAt l job) job; cut = job-left l job booked; put = w; fits = omega (arith, few, room) }
+
+pub listed-past : {before after : List ℕ} {r : ℕ} (l : Ledger) (job : ℕ) → capacity ≤ job → Listed l job before after r
+listed-past l job h booked below = absurd (omega (arith, h, below))

@@ -1,0 +1,118 @@
+// A run explained in pieces: a step at a time, then a line for each booked job.
+ghost use mathlib.Core.List.{_++_, _∷_, []};
+ghost use mathlib.Core.Path.{_≡_};
+ghost use Prim.Native.Nat.{_+_, _<_, _≤_};
+ghost use lib.ListN.{length};
+ghost use Rattle.explaining.specs.Told.{Listed, Told, atFront, saidBy};
+ghost use Rattle.explanations.specs.Words.{reason};
+ghost use Rattle.run.specs.Pieces.{Going};
+ghost use Rattle.run.specs.Turns.{Holds};
+ghost use Rattle.telling.specs.Room.{stepRoom};
+ghost use Rattle.text.specs.Text.{Put};
+use ledger::Ledger;
+use questions::Remembered;
+use run::Progress;
+use run::Turned;
+
+// What is said of a file that check 1 turns back, at the front of `out`.
+pub fn refuse(out: &mut [u8]) -> usize
+    requires { ⌜ stepRoom ≤ length (now out) ⌝ }
+    ensures { λ r. ⌜ Put (now (out .entry)) 0 (reason 1 ++ (10 ∷ [])) (now (out .exit)) r × (r ≤ 129) ⌝ }
+{
+    let end = answers::put_reason(out, 1);
+    words::put(out, end, b"\n")
+}
+
+fn at_front(p: Progress, written: usize) -> Progress
+    ensures { λ r. ⌜ r ≡ atFront p written ⌝ }
+{
+    let ledger = p.ledger;
+    let pos = p.pos;
+    let count = p.count;
+    Progress {
+        ledger,
+        pos,
+        count,
+        written,
+    }
+}
+
+fn said_by(t: Turned, written: usize) -> Turned
+    ensures { λ r. ⌜ r ≡ saidBy t written ⌝ }
+{
+    let p = t.progress;
+    let progress = at_front(p, written);
+    let outcome = t.outcome;
+    let members = t.members;
+    let named = t.named;
+    Turned {
+        progress,
+        outcome,
+        members,
+        named,
+    }
+}
+
+// Carries out the next step alone, and explains it at the front of `out`. A part of a program that keeps a run.
+pub fn next(
+    progress: Progress,
+    named: Remembered,
+    memo: &mut [u8],
+    journal: &mut [u8],
+    numbers: &mut [u16],
+    sets: &mut [u64],
+    records: &mut [u16],
+    input: &[u8],
+    out: &mut [u8],
+) -> Turned
+    requires { ⌜ Going (now input) progress (now journal) (now numbers) (now sets) (now records) (now memo)
+        × Holds (progress .ledger) (now journal) named
+        × (progress .pos < length (now input))
+        × (stepRoom ≤ length (now out)) ⌝ }
+    ensures { λ r. ⌜ Told (now (input .entry)) progress (now (journal .entry)) (now (out .entry)) r
+        (now (journal .exit)) (now (numbers .exit)) (now (sets .exit)) (now (records .exit)) (now (memo .exit)) (now (out .exit)) ⌝ }
+{
+    let pos = progress.pos;
+    let mut line = [0u8; text::LONGEST];
+    let start = at_front(progress, 0);
+    let t = run::turn(
+        start,
+        named,
+        memo,
+        journal,
+        numbers,
+        sets,
+        records,
+        input,
+        &mut line,
+    );
+    let p = t.progress;
+    let ledger = p.ledger;
+    let settings = ledger.settings;
+    let outcome = t.outcome;
+    let members = t.members;
+    let written = telling::put_step(
+        p.count,
+        settings,
+        journal,
+        ledger.booked,
+        input,
+        pos,
+        outcome,
+        members,
+        out,
+    );
+    said_by(t, written)
+}
+
+// The line of a booked job, at the front of `out`.
+pub fn job_line(ledger: Ledger, job: usize, out: &mut [u8]) -> usize
+    requires { ⌜ stepRoom ≤ length (now out) ⌝ }
+    ensures { λ r. ⌜ Listed ledger job (now (out .entry)) (now (out .exit)) r ⌝ }
+{
+    if job < 128 {
+        let votes = ledger.votes[job];
+        return answers::put_job(out, ledger.settings, votes, job as u8);
+    }
+    0
+}
