@@ -8,7 +8,7 @@ use Rattle.explanations.proofs.Pieces.{job-left, step-left}
 use Rattle.explanations.specs.Answers.{jobLine}
 use Rattle.explanations.specs.Explained.{Says, explainedFrom, nextText, sheetFrom, stepText}
 use Rattle.index.proofs.Tables.{indexed-tables}
-use Rattle.index.specs.Checks.{Tables}
+use Rattle.index.specs.Sets.{Tables}
 use Rattle.journal.specs.Journal.{capacity}
 use Rattle.ledger.specs.State.{votesAt}
 use Rattle.ledger.specs.declared.Ledger.{Ledger}
