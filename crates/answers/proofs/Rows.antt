@@ -35,7 +35,8 @@ no-reason k h = List·getD-eq-default reasons [] {n = k} h
 
 pub third-none : (o : List ℕ) (k : ℕ) → 17 ≤ k → (k ≡ 17 → ⊥) → (k ≡ 18 → ⊥) → (k ≡ 19 → ⊥) → (k ≡ 20 → ⊥) → (k ≡ 21 → ⊥) → (k ≡ 22 → ⊥) → (k ≡ 23 →
     ⊥) → Put o 0 (reason k) o 0
-third-none o k l n17 n18 n19 n20 n21 n22 n23 = rw (no-reason k (up 23 n23 (up 22 n22 (up 21 n21 (up 20 n20 (up 19 n19 (up 18 n18 (up 17 n17 l)))))))) (put-none o 0)
+third-none o k l n17 n18 n19 n20 n21 n22 n23 =
+    rw (no-reason k (up 23 n23 (up 22 n22 (up 21 n21 (up 20 n20 (up 19 n19 (up 18 n18 (up 17 n17 l)))))))) (put-none o 0)
 
 -- ---- what a value means
 pub meaning-zero : (o : List ℕ) (at k : ℕ) → k ≡ 0 → Put o at (meaning k) o at

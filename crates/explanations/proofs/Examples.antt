@@ -26,7 +26,8 @@ unfolding answerText refusedText reason textBy formOf leAt decimal digits thresh
 too-few = refl
 
 -- step 3: the label of entry 0 of the migration's record
-not-made : answerText 2 (Refused (NotCreated 0)) noJobs 3 (1 ∷ 7 ∷ 1 ∷ 1 ∷ letters "VAA001L5") ≡ letters "refused 11, no job that this vault holds made VAA001L5"
+not-made : answerText 2 (Refused (NotCreated 0)) noJobs 3 (1 ∷ 7 ∷ 1 ∷ 1 ∷ letters "VAA001L5")
+    ≡ letters "refused 11, no job that this vault holds made VAA001L5"
 unfolding answerText refusedText reason textBy formOf leAt
 not-made = refl
 
