@@ -34,35 +34,40 @@ put-step-requires c κs =
 same-length : tie.Need-same-length
 same-length c =
     let step = c .before .before .before in
-    let once = step .before .before .before .before .before .before .before .before .before .before .before .before .before .before .before .before .before .before in
+    let told = step .before .before .before .before .before .before .before .before .before in
+    let once = told .before .before .before .before .before .before .before .before .before in
     let start = once .before .before .before .before .before .before .before .before .before .before .before .before .before .before .before in
     once .turn .ensures .going .kept .memo-size ∙ sym (start .pre .0 .kept .memo-size)
 
 same-length-2 : tie.Need-same-length-2
 same-length-2 c =
     let step = c .before .before .before in
-    let once = step .before .before .before .before .before .before .before .before .before .before .before .before .before .before .before .before .before .before in
+    let told = step .before .before .before .before .before .before .before .before .before in
+    let once = told .before .before .before .before .before .before .before .before .before in
     let start = once .before .before .before .before .before .before .before .before .before .before .before .before .before .before .before in
     once .turn .ensures .going .kept .journal-size ∙ sym (start .pre .0 .kept .journal-size)
 
 same-length-3 : tie.Need-same-length-3
 same-length-3 c =
     let step = c .before .before .before in
-    let once = step .before .before .before .before .before .before .before .before .before .before .before .before .before .before .before .before .before .before in
+    let told = step .before .before .before .before .before .before .before .before .before in
+    let once = told .before .before .before .before .before .before .before .before .before in
     let start = once .before .before .before .before .before .before .before .before .before .before .before .before .before .before .before in
     kept-tables (once .turn .ensures .going .kept) .numbers-size ∙ sym (kept-tables (start .pre .0 .kept) .numbers-size)
 
 same-length-4 : tie.Need-same-length-4
 same-length-4 c =
     let step = c .before .before .before in
-    let once = step .before .before .before .before .before .before .before .before .before .before .before .before .before .before .before .before .before .before in
+    let told = step .before .before .before .before .before .before .before .before .before in
+    let once = told .before .before .before .before .before .before .before .before .before in
     let start = once .before .before .before .before .before .before .before .before .before .before .before .before .before .before .before in
     kept-tables (once .turn .ensures .going .kept) .sets-size ∙ sym (kept-tables (start .pre .0 .kept) .sets-size)
 
 returns : tie.Need-returns
 returns c =
     let step = c .before .before .before in
-    let once = step .before .before .before .before .before .before .before .before .before .before .before .before .before .before .before .before .before .before in
+    let told = step .before .before .before .before .before .before .before .before .before in
+    let once = told .before .before .before .before .before .before .before .before .before in
     let front = once .before .before .before .before .before .before .before in
     let start = front .before .before .before .before .before .before .before .before in
     told-once _ _ _ _ _ _ _ _ _ _ _ _ _ _ _ _ (front .at-front .ensures) (start .pre .0) (start .pre .2) (once .turn .ensures) _ _ _ _
