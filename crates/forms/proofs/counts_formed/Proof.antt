@@ -5,13 +5,6 @@ use Rattle.forms.proofs.counts_formed.Statement.{statement}
 use Rattle.checks.specs.Checks.{countsFormed}
 use Rattle.forms.proofs.counts_formed.Tie as tie
 
-returns : tie.Need-returns
-unfolding countsFormed
-returns c = search chain depth 8
-
-returns-2 : tie.Need-returns-2
-unfolding countsFormed
-returns-2 c = search chain depth 8
-
 pub counts-formed-spec : {M : Type 1} → statement M
-counts-formed-spec = tie.close (tie.spec (λ c κs. search needs) (λ c κs. search needs) returns returns-2)
+unfolding countsFormed
+counts-formed-spec = tie.close (tie.spec (λ c κs. search needs) (λ c κs. search needs) (λ c. search chain depth 8) (λ c. search chain depth 8))
