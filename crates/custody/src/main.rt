@@ -3,7 +3,7 @@ use libc::STDIN_FILENO;
 use libc::STDOUT_FILENO;
 
 fn print(out: &[u8], written: usize) {
-    io::write_all(STDOUT_FILENO, run::printed(out, written));
+    io::write_all(STDOUT_FILENO, parts::front(out, written));
 }
 
 fn carry_out(input: &[u8]) {
@@ -31,7 +31,7 @@ fn carry_out(input: &[u8]) {
 }
 
 fn main() {
-    let mut input = run::input_buffer();
+    let mut input = header::input_buffer();
     let n = io::read_full(STDIN_FILENO, &mut input);
     carry_out(&input[..n]);
 }

@@ -8,7 +8,7 @@ use libc::STDIN_FILENO;
 use libc::STDOUT_FILENO;
 
 fn print(out: &[u8], written: usize) {
-    io::write_all(STDOUT_FILENO, run::printed(out, written));
+    io::write_all(STDOUT_FILENO, parts::front(out, written));
 }
 
 fn print_sheet(ledger: Ledger, out: &mut [u8])
@@ -57,7 +57,7 @@ fn turn_back() {
 }
 
 fn main() {
-    let mut input = run::input_buffer();
+    let mut input = header::input_buffer();
     let n = io::read_full(STDIN_FILENO, &mut input);
     let file = &input[..n];
     if header::opens(file) {

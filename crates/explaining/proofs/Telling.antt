@@ -13,11 +13,11 @@ use Rattle.journal.specs.Journal.{capacity}
 use Rattle.ledger.specs.State.{votesAt}
 use Rattle.ledger.specs.declared.Ledger.{Ledger}
 use Rattle.outcome.specs.declared.Outcome.{Outcome}
-use Rattle.run.specs.Kept.{Kept}
-use Rattle.run.specs.Pieces.{Going, runOf}
-use Rattle.run.specs.Turns.{Holds, TurnedOnce}
-use Rattle.run.specs.declared.Progress.{Progress}
-use Rattle.run.specs.declared.Turned.{Turned}
+use Rattle.progress.specs.Kept.{Kept}
+use Rattle.progress.specs.Pieces.{Going, runOf}
+use Rattle.progress.specs.Turns.{Holds, TurnedOnce}
+use Rattle.progress.specs.declared.Progress.{Progress}
+use Rattle.progress.specs.declared.Turned.{Turned}
 use Rattle.runfile.specs.Run.{Run, commandOf, turn}
 use Rattle.runfile.specs.Steps.{listedBy, replyOf}
 use Rattle.sets.specs.declared.job_set.JobSet.{JobSet}

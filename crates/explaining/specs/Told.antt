@@ -5,10 +5,10 @@ use Prim.Native.Nat.{_+_, _<_, ℕ}
 use Rattle.explanations.specs.Explained.{Says, explainedFrom, sheetFrom}
 use Rattle.journal.specs.Journal.{capacity}
 use Rattle.ledger.specs.declared.Ledger.{Ledger}
-use Rattle.run.specs.Pieces.{Going, runOf}
-use Rattle.run.specs.Turns.{Holds}
-use Rattle.run.specs.declared.Progress.{Progress}
-use Rattle.run.specs.declared.Turned.{Turned}
+use Rattle.progress.specs.Pieces.{Going, runOf}
+use Rattle.progress.specs.Turns.{Holds}
+use Rattle.progress.specs.declared.Progress.{Progress}
+use Rattle.progress.specs.declared.Turned.{Turned}
 
 -- a run whose buffer is written from its front on
 abbrev pub atFront : Progress → ℕ → Progress

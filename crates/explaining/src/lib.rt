@@ -5,14 +5,14 @@ ghost use Prim.Native.Nat.{_+_, _<_, _≤_};
 ghost use lib.ListN.{length};
 ghost use Rattle.explaining.specs.Told.{Listed, Told, atFront, saidBy};
 ghost use Rattle.explanations.specs.Words.{reason};
-ghost use Rattle.run.specs.Pieces.{Going};
-ghost use Rattle.run.specs.Turns.{Holds};
+ghost use Rattle.progress.specs.Pieces.{Going};
+ghost use Rattle.progress.specs.Turns.{Holds};
 ghost use Rattle.telling.specs.Room.{stepRoom};
 ghost use Rattle.text.specs.Text.{Put};
 use ledger::Ledger;
+use progress::Progress;
+use progress::Turned;
 use questions::Remembered;
-use run::Progress;
-use run::Turned;
 
 // What is said of a file that check 1 turns back, at the front of `out`.
 pub fn refuse(out: &mut [u8]) -> usize

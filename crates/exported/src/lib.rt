@@ -1,7 +1,7 @@
 // The run and its release list for programs in C or Rust to link: what the comparisons with the Rust reference call in process.
 ghost use Prim.Native.Nat.{_≤_};
 ghost use Rattle.release_file.specs.Releases.{releasesText};
-ghost use Rattle.run.specs.Pieces.{Filled};
+ghost use Rattle.progress.specs.Pieces.{Filled};
 ghost use Rattle.text.specs.Text.{Put};
 
 // The first piece of the text, which is the whole of it in a buffer that has room for the longest text of one step more.

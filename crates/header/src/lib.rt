@@ -1,10 +1,21 @@
 // The header of a run file, and check 1.
 ghost use mathlib.Core.Path.{_≡_};
-ghost use Rattle.runfile.specs.Run.{isHeader, opened, opens};
+ghost use Prim.Native.Nat.{_+_};
+ghost use lib.ListN.{length};
+ghost use Rattle.runfile.specs.Run.{isHeader, longest, opened, opens};
 use federation::Settings;
 
 // How long the header is.
 pub const SIZE: usize = 9;
+
+// One byte more than the longest file, to see that there are too many.
+pub const INPUT: usize = 65537;
+
+pub fn input_buffer() -> [u8; INPUT]
+    ensures { λ r. ⌜ length r ≡ longest + 1 ⌝ }
+{
+    [0; INPUT]
+}
 
 fn is_header(input: &[u8]) -> bool
     ensures { λ r. ⌜ r ≡ isHeader (now (input .entry)) ⌝ }

@@ -16,8 +16,8 @@ use Rattle.release_file.specs.Releases.{RanOut, freedAt, releasesText, u
 use Rattle.outcome.specs.declared.Verdict.{Verdict}
 use Rattle.release_list.specs.Listing.{Released, listText, printed, tapesFreed}
 use Rattle.release_list.specs.declared.Releases.{Releases}
-use Rattle.run.specs.Pieces.{Going, Started, blank, runOf}
-use Rattle.run.specs.declared.Progress.{Progress}
+use Rattle.progress.specs.Pieces.{Going, Started, blank, runOf}
+use Rattle.progress.specs.declared.Progress.{Progress}
 use Rattle.runfile.specs.History.{finalRun}
 use Rattle.runfile.specs.Run.{journalSize, lastFrom, opens}
 use Rattle.text.specs.Text.{Put, lineFor}

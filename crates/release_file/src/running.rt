@@ -2,7 +2,7 @@
 ghost use mathlib.Core.Bool.{true};
 ghost use mathlib.Core.Path.{_≡_};
 ghost use Rattle.release_file.specs.Releases.{RanOut};
-ghost use Rattle.run.specs.Pieces.{blank};
+ghost use Rattle.progress.specs.Pieces.{blank};
 ghost use Rattle.runfile.specs.Run.{journalSize, opens};
 use ledger::Ledger;
 

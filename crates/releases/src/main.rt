@@ -5,11 +5,11 @@ use libc::STDOUT_FILENO;
 fn list(input: &[u8]) {
     let mut out = [0u8; release_list::ROOM];
     let written = release_file::releases(input, &mut out);
-    io::write_all(STDOUT_FILENO, run::printed(&out, written));
+    io::write_all(STDOUT_FILENO, parts::front(&out, written));
 }
 
 fn main() {
-    let mut input = run::input_buffer();
+    let mut input = header::input_buffer();
     let n = io::read_full(STDIN_FILENO, &mut input);
     list(&input[..n]);
 }

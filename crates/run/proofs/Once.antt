@@ -8,13 +8,13 @@ use native.Mathlib.Omega.{arith}
 use lib.ListN.{length}
 use Rattle.outcome.specs.declared.Outcome.{Outcome}
 use Rattle.sets.specs.declared.job_set.JobSet.{JobSet}
-use Rattle.run.proofs.Naming.{nothing-known}
-use Rattle.run.specs.Pieces.{Advanced, Going, Piece, runOf}
-use Rattle.run.specs.Coming.{Begun, CarriedOn, Come, Part, cursorAt, standing}
-use Rattle.run.specs.Turns.{Holds, Stepped, TurnedOnce}
-use Rattle.run.specs.declared.Progress.{Progress}
-use Rattle.run.specs.declared.Turned.{Turned}
-use Rattle.run.specs.declared.going.Cursor.{Cursor}
+use Rattle.going.proofs.Naming.{nothing-known}
+use Rattle.progress.specs.Pieces.{Advanced, Going, Piece, runOf}
+use Rattle.progress.specs.Coming.{Begun, CarriedOn, Come, Part, cursorAt, standing}
+use Rattle.progress.specs.Turns.{Holds, Stepped, TurnedOnce}
+use Rattle.progress.specs.declared.Progress.{Progress}
+use Rattle.progress.specs.declared.Turned.{Turned}
+use Rattle.progress.specs.declared.Cursor.{Cursor}
 use Rattle.runfile.specs.Run.{Run}
 use Rattle.questions.specs.Kept.{unknownYet}
 use Rattle.questions.specs.declared.Remembered.{Remembered}

@@ -5,10 +5,10 @@ use mathlib.Core.Path.{_∙_, _≡_, refl, subst}
 use Prim.Native.Nat.{_+_, _<_, _≤_, ℕ}
 use native.Mathlib.Omega.{arith}
 use lib.ListN.{length}
-use Rattle.run.specs.Pieces.{Advanced, Filled, Piece, Started, blank, runOf}
+use Rattle.progress.specs.Pieces.{Advanced, Filled, Piece, Started, blank, runOf}
 use Rattle.runfile.specs.Run.{journalSize, runText}
 use Rattle.text.specs.Text.{Put, longestText}
-use Rattle.run.specs.declared.Progress.{Progress}
+use Rattle.progress.specs.declared.Progress.{Progress}
 use Rattle.run.proofs.Pieces.{nothing-yet}
 use Rattle.runfile.proofs.Turns.{none-left}
 

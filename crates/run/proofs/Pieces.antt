@@ -4,7 +4,7 @@ use mathlib.Core.Path.{_∙_, _≡_, ap, refl, sym}
 use Prim.Native.Nat.{_≤_, ℕ}
 use lib.ListN.{length, take}
 use native.Mathlib.Omega.{arith}
-use Rattle.run.specs.Pieces.{Piece, Pieces, Printed, Whole, printed}
+use Rattle.progress.specs.Pieces.{Piece, Pieces, Printed, Whole, printed}
 use Rattle.runfile.specs.Run.{Run, textFrom}
 use Rattle.text.specs.Text.{Put}
 use Rattle.runfile.proofs.Turns.{none-left}

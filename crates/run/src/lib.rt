@@ -1,42 +1,25 @@
 // A run file carried out, its text in pieces.
-mod buffers;
-mod going;
-
-ghost use mathlib.Core.Path.{_≡_};
 ghost use Prim.Native.Nat.{_+_, _<_, _≤_};
 ghost use lib.ListN.{length};
-ghost use Rattle.run.specs.Pieces.{Advanced, Going, Started};
-ghost use Rattle.run.specs.Turns.{Holds, TurnedOnce};
+ghost use Rattle.progress.specs.Pieces.{Advanced, Going, Started};
+ghost use Rattle.progress.specs.Turns.{Holds, TurnedOnce};
 ghost use Rattle.text.specs.Text.{longestText};
-pub use buffers::INPUT;
-pub use buffers::JOURNAL;
-pub use buffers::PIECE;
-pub use buffers::input_buffer;
-pub use buffers::printed;
-use ledger::Ledger;
+use codec::LONGEST;
+use journal::CAPACITY;
 use outcome::Outcome;
 use outcome::Refusal;
+use progress::Progress;
+use progress::Turned;
 use questions::Remembered;
-use sets::JobSet;
+
+// The run's own journal has room for records of either version.
+pub const JOURNAL: usize = LONGEST * CAPACITY;
+
+// A piece of the text; any size that takes the longest text of one step would do.
+pub const PIECE: usize = 32768;
 
 // No file has more steps.
 const EVERY: u32 = 65536;
-
-// How far a run has come: its ledger, where it reads, how many steps it has carried out, and how much of the buffer it wrote last.
-pub struct Progress {
-    pub ledger: Ledger,
-    pub pos: usize,
-    pub count: u32,
-    pub written: usize,
-}
-
-// A run after one step, what that answered and listed, and what is kept of kind 13.
-pub struct Turned {
-    pub progress: Progress,
-    pub outcome: Outcome,
-    pub members: JobSet,
-    pub named: Remembered,
-}
 
 // The run of any input begins on tables of zeros. Where check 1 turns it back, its line is written and nothing is left to read.
 pub fn start(input: &[u8], out: &mut [u8]) -> Progress
@@ -81,7 +64,7 @@ pub fn advance(
         (now (journal .exit)) (now (numbers .exit)) (now (sets .exit)) (now (records .exit)) (now (memo .exit)) (now (out .exit)) ⌝ }
 {
     let ledger = progress.ledger;
-    let c = going::cursor_at(progress.pos, progress.count, 0);
+    let c = progress::cursor_at(progress.pos, progress.count, 0);
     let named = questions::unknown();
     let turned = going::carry_on(
         ledger,
@@ -120,7 +103,7 @@ pub fn turn(
         (now (journal .exit)) (now (numbers .exit)) (now (sets .exit)) (now (records .exit)) (now (memo .exit)) (now (out .exit)) ⌝ }
 {
     let ledger = progress.ledger;
-    let c = going::cursor_at(progress.pos, progress.count, progress.written);
+    let c = progress::cursor_at(progress.pos, progress.count, progress.written);
     let last = progress.count + 1;
     going::carry_on(
         ledger,

@@ -5,11 +5,11 @@ use Prim.Native.Nat.{_-_, _<_, ℕ}
 use native.Mathlib.Omega.{arith}
 use lib.ListN.{length}
 use Rattle.explaining.specs.Told.{Told}
-use Rattle.run.proofs.Naming.{nothing-known}
-use Rattle.run.specs.Pieces.{Going}
-use Rattle.run.specs.Turns.{Holds}
-use Rattle.run.specs.declared.Progress.{Progress}
-use Rattle.run.specs.declared.Turned.{Turned}
+use Rattle.going.proofs.Naming.{nothing-known}
+use Rattle.progress.specs.Pieces.{Going}
+use Rattle.progress.specs.Turns.{Holds}
+use Rattle.progress.specs.declared.Progress.{Progress}
+use Rattle.progress.specs.declared.Turned.{Turned}
 use Rattle.questions.specs.declared.Remembered.{Remembered}
 use Rattle.explain.proofs.carry_out.Statement.{statement}
 use Rattle.explain.proofs.carry_out.Tie as tie

@@ -1,6 +1,6 @@
 use Rattle.federation.specs.Federation.{isLawful}
 use Rattle.runfile.proofs.Turns.{open-when, opened-run, refused-run}
-use Rattle.run.proofs.Keeps.{kept-new}
+use Rattle.going.proofs.Keeps.{kept-new}
 use Rattle.run.proofs.Pieces.{nothing-yet, piece-more}
 use Rattle.run.proofs.start.Statement.{statement}
 use Rattle.run.proofs.start.Tie as tie
@@ -24,8 +24,8 @@ use Rattle.ledger.specs.declared.Ledger.{Ledger}
 use Rattle.ledger.specs.declared.Reply.{Reply}
 use Rattle.runfile.specs.Run.{begins, headerSize, journalSize, opened, textFrom, versionIn}
 use Rattle.runfile.specs.Steps.{wordAt}
-use Rattle.run.specs.Kept.{Kept}
-use Rattle.run.specs.Pieces.{blank, runAt}
+use Rattle.progress.specs.Kept.{Kept}
+use Rattle.progress.specs.Pieces.{blank, runAt}
 
 -- the new ledger has the header's settings
 began : (input : List ℕ) (s : Settings) → s ≡ opened input .settings → (r : Reply) → r ≡ newOf (s .n) (s .b) (s .faulty) (s .version) → r .ledger ≡ opened input

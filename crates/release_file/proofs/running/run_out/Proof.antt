@@ -10,8 +10,8 @@ use Rattle.release_file.proofs.Answers.{begun}
 use Rattle.release_file.proofs.running.run_out.Statement.{statement}
 use Rattle.release_file.proofs.running.run_out.Tie as tie
 use Rattle.release_file.specs.Releases.{RanOut}
-use Rattle.run.specs.Pieces.{Advanced, Going, runOf}
-use Rattle.run.specs.declared.Progress.{Progress}
+use Rattle.progress.specs.Pieces.{Advanced, Going, runOf}
+use Rattle.progress.specs.declared.Progress.{Progress}
 use Rattle.runfile.proofs.Turns.{none-after}
 use Rattle.runfile.specs.History.{finalRun}
 use Rattle.runfile.specs.Run.{Run, lastFrom}

@@ -1,0 +1,5 @@
+pub mod Commands
+pub mod Keeps
+pub mod Naming
+pub mod Parts
+pub mod Turning
