@@ -22,7 +22,7 @@ pub(crate) fn release(
     let mut numbers = [0u16; index::NUMBERS];
     let mut sets = [0u64; index::SETS];
     let mut records = [0u16; index::RECORDS];
-    index::build(
+    indexing::build(
         &mut numbers,
         &mut sets,
         &mut records,
@@ -61,7 +61,7 @@ pub(crate) fn client_preflight(
     let mut numbers = [0u16; index::NUMBERS];
     let mut sets = [0u64; index::SETS];
     let mut records = [0u16; index::RECORDS];
-    index::build(
+    indexing::build(
         &mut numbers,
         &mut sets,
         &mut records,

@@ -44,7 +44,7 @@ pub fn carry(ledger: Ledger, decision: Decision, vault: u8, job: u8) -> Reply
     let change = decision.change;
     Reply {
         outcome,
-        ledger: books::apply(ledger, change, vault, job),
+        ledger: changes::apply(ledger, change, vault, job),
     }
 }
 
@@ -62,7 +62,7 @@ pub fn write(change: Change, version: u16, journal: &mut [u8], booked: usize, by
     requires { ⌜ Writable change booked version (now journal) (now bytes) ⌝ }
     ensures { λ _. ⌜ now (journal .exit) ≡ journalWith change booked version (now (journal .entry)) (now (bytes .entry)) ⌝ }
 {
-    if books::is_book(change) {
+    if changes::is_book(change) {
         journal::put_at(version, journal, booked, bytes);
         return;
     }

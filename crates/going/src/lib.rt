@@ -61,10 +61,10 @@ pub fn carry_on(
         let r = steps::carry_out(s, view, numbers, sets, records, journal, input, out, c.at);
         let change = r.change;
         c = progress::told(s, r);
-        if books::is_nothing(change) {
+        if changes::is_nothing(change) {
             continue;
         }
-        ledger = books::apply(ledger, change, s.vault, s.job);
+        ledger = changes::apply(ledger, change, s.vault, s.job);
         let votes = ledger.votes[(s.job % 128) as usize];
         named = questions::still(named, view, ledger.booked, votes);
     }

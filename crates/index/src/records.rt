@@ -27,7 +27,7 @@ fn sum(a: Job) -> usize
 }
 
 // Files job n. The links follow the heads.
-pub(crate) fn file(records: &mut [u16], a: Job, n: usize)
+pub fn file(records: &mut [u16], a: Job, n: usize)
     requires { ⌜ (n < capacity) × (length (now records) ≡ recordsSize) ⌝ }
     ensures { λ _. ⌜ now (records .exit) ≡ recordsWith (now (records .entry)) (sumOf a) n ⌝ }
 {

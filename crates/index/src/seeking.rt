@@ -12,7 +12,7 @@ use crate::LINKS;
 use crate::PLACES;
 use record::Entry;
 
-pub(crate) fn bucket(label: u64) -> usize
+pub fn bucket(label: u64) -> usize
     ensures { λ r. ⌜ (r ≡ bucketOf label) × (r < buckets) ⌝ }
 {
     (label % BUCKETS as u64) as usize
@@ -51,9 +51,9 @@ fn entry_at(version: u16, journal: &[u8], at: usize) -> Entry
 }
 
 // The numbers of a place: of its label, and of its tape.
-pub(crate) struct Pair {
-    pub(crate) label: usize,
-    pub(crate) tape: usize,
+pub struct Pair {
+    pub label: usize,
+    pub tape: usize,
 }
 
 // x where its label is the one, else what was seen before.
@@ -79,7 +79,7 @@ fn label_number(numbers: &[u16], seen: usize, m: usize) -> usize
 
 // The numbers of a tape among the first m places. The walk ends at a place that has the tape, which has both; else some place that it
 // passed may have the label.
-pub(crate) fn numbers_of(
+pub fn numbers_of(
     version: u16,
     journal: &[u8],
     numbers: &[u16],

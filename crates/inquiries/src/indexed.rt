@@ -34,7 +34,7 @@ pub(crate) fn generations(
     let mut sets = [0u64; index::SETS];
     let mut records = [0u16; index::RECORDS];
     let mut memo = [0u8; journal::CAPACITY];
-    index::build(
+    indexing::build(
         &mut numbers,
         &mut sets,
         &mut records,
@@ -71,7 +71,7 @@ pub(crate) fn dependencies(
     let mut numbers = [0u16; index::NUMBERS];
     let mut sets = [0u64; index::SETS];
     let mut records = [0u16; index::RECORDS];
-    index::build(
+    indexing::build(
         &mut numbers,
         &mut sets,
         &mut records,
@@ -105,7 +105,7 @@ pub(crate) fn equivocating(
     let mut numbers = [0u16; index::NUMBERS];
     let mut sets = [0u64; index::SETS];
     let mut records = [0u16; index::RECORDS];
-    index::build(
+    indexing::build(
         &mut numbers,
         &mut sets,
         &mut records,

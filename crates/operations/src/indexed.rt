@@ -12,7 +12,7 @@ pub(crate) fn propose(version: u16, journal: &[u8], booked: usize, bytes: &[u8])
     let mut sets = [0u64; index::SETS];
     let mut records = [0u16; index::RECORDS];
     let inside = journal::inside(version, journal, booked);
-    index::build(
+    indexing::build(
         &mut numbers,
         &mut sets,
         &mut records,

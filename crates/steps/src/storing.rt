@@ -25,10 +25,10 @@ pub(crate) fn store(
     ensures { λ _. ⌜ Stored change booked version (now (journal .entry)) (take (recordSize version) (drop at (now (input .entry))))
         (now (journal .exit)) (now (numbers .exit)) (now (sets .exit)) (now (records .exit)) ⌝ }
 {
-    if books::is_book(change) {
+    if changes::is_book(change) {
         let bytes = reading::record_at(version, input, at);
         journal::put_at(version, journal, booked, bytes);
-        index::enter(
+        indexing::enter(
             numbers,
             sets,
             records,
