@@ -1,35 +1,15 @@
-// What a step decides that looks at one vault. The decisions are the ledger's; here each kind is handed what it looks at.
-mod gates;
-mod kinds;
-
+// What a step decides that looks at one vault, by its kind.
 ghost use mathlib.Core.Path.{_≡_};
 ghost use Rattle.index.specs.Index.{Indexed};
 ghost use Rattle.runfile.specs.Steps.{commandIn};
 ghost use Rattle.reading.specs.Reading.{Asked};
-ghost use Rattle.deciding.specs.Decided.{decidedBy};
-use federation::Settings;
-pub use gates::gate;
+ghost use Rattle.kinds.specs.Decided.{decidedBy};
+use kinds::View;
 use ledger::Decision;
 use outcome::Refusal;
 use reading::Step;
 use runfile::Kind;
-use sets::JobSet;
 use vaults::Column;
-use vaults::Vault;
-use vaults::Votes;
-
-// What a step looks at that looks at one vault: its state, the votes on the job that the step names, and the history at the place that it names; of the
-// snapshot the number of the vault that is next, the jobs seen in this round, and that vault.
-pub struct View {
-    pub settings: Settings,
-    pub booked: usize,
-    pub state: Vault,
-    pub votes: Votes,
-    pub history: u16,
-    pub next: u8,
-    pub seen: JobSet,
-    pub turn: Vault,
-}
 
 // The index is the journal's.
 pub fn decide(

@@ -41,13 +41,13 @@ use Rattle.runfile.specs.declared.Kind.the-variants.{ClientPreflight, Commit, D
 use Rattle.runfile.specs.declared.Kind.the-variants.{Preflight, Propose, Release, Show, Snapshot, Unknown}
 use Rattle.quota.specs.Quota.{historyPlace}
 use Rattle.steps.proofs.Quiet.{Bookless}
-use Rattle.deciding.specs.Decided.{bookedOr, decidedBy}
+use Rattle.kinds.specs.Decided.{bookedOr, decidedBy}
 use Rattle.questions.specs.Answers.{naming, required, surveyed}
 use Rattle.reading.specs.Reading.{historyOf, isWide, jobOf, vaultOf}
 use Rattle.questions.specs.Kept.{Found}
 use Rattle.questions.specs.declared.Remembered.{Remembered}
 use Rattle.questions.specs.declared.Books.{Books}
-use Rattle.deciding.specs.declared.View.{View}
+use Rattle.kinds.specs.declared.View.{View}
 
 -- what a command decides, by the ledger's definitions
 abbrev pub commandDecision : Ledger → List ℕ → Command → Decision

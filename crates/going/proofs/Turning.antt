@@ -41,7 +41,7 @@ use Rattle.text.specs.Text.{longestText}
 use Rattle.reading.specs.declared.Step.{Step}
 use Rattle.steps.specs.declared.Looked.{Looked}
 use Rattle.steps.specs.declared.Told.{Told}
-use Rattle.deciding.specs.declared.View.{View}
+use Rattle.kinds.specs.declared.View.{View}
 use Rattle.going.proofs.Commands.{There, booksOf, commandDecision, decided-is, left-by, reply-ledger, reply-outcome, there, viewAt}
 use Rattle.going.proofs.Commands.{answer, narrow-lists, wide-answer, wide-quiet}
 use Rattle.going.proofs.Keeps.{kept-applied, kept-memo, ready}

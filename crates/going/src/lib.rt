@@ -4,7 +4,7 @@ ghost use Prim.Native.Nat.{_≤_};
 ghost use Rattle.progress.specs.Coming.{CarriedOn, standing};
 ghost use Rattle.progress.specs.Pieces.{Going};
 ghost use Rattle.progress.specs.Turns.{Holds};
-use deciding::View;
+use kinds::View;
 use ledger::Ledger;
 use progress::Cursor;
 use progress::Turned;

@@ -20,7 +20,7 @@ use Rattle.ledger.specs.declared.Decision.{Decision}
 use Rattle.ledger.specs.declared.Listing.{Listing}
 use Rattle.vaults.specs.Vaults.{newVault}
 use Rattle.runfile.specs.declared.Kind.{Kind}
-use Rattle.deciding.specs.Decided.{bookedOr, gateBy}
+use Rattle.kinds.specs.Decided.{bookedOr, gateBy}
 use Rattle.questions.specs.Answers.{Answered, aged, alone, isListing, isNaming, naming, required, surveyed}
 use Rattle.questions.specs.Kept.{Found, Right, Still, namedBy, unknownYet}
 use Rattle.questions.specs.declared.Remembered.{Remembered}

@@ -20,7 +20,7 @@ use Rattle.runfile.specs.declared.Kind.{Kind}
 use Rattle.runfile.specs.declared.Kind.the-variants.{ClientPreflight, Commit, Dependencies, Draw, Equivocating, FaultyAcknowledge, FaultySign, Generations}
 use Rattle.runfile.specs.declared.Kind.the-variants.{Preflight, Propose, Release, Show, Snapshot, Unknown}
 use Rattle.questions.specs.declared.Books.{Books}
-use Rattle.deciding.specs.Decided.{bookedOr, gateBy}
+use Rattle.kinds.specs.Decided.{bookedOr, gateBy}
 
 -- a step that lists nothing
 abbrev pub alone : Outcome → Listing

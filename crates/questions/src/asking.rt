@@ -77,7 +77,7 @@ fn require(
     let at = (vault % 16) as usize;
     let state = vaults[at];
     dependencies::dependencies(
-        deciding::gate(settings, books.booked, journal, vault, false, j),
+        kinds::gate(settings, books.booked, journal, vault, false, j),
         settings,
         vaults,
         state,

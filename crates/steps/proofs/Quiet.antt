@@ -28,8 +28,8 @@ use Rattle.runfile.specs.Steps.{commandIn}
 use Rattle.runfile.specs.declared.Kind.{Kind}
 use Rattle.runfile.specs.declared.Kind.the-variants.{ClientPreflight, Commit, Dependencies, Draw, Equivocating, FaultyAcknowledge, FaultySign, Generations}
 use Rattle.runfile.specs.declared.Kind.the-variants.{Preflight, Propose, Release, Show, Snapshot, Unknown}
-use Rattle.deciding.specs.Decided.{decidedBy}
-use Rattle.deciding.specs.declared.View.{View}
+use Rattle.kinds.specs.Decided.{decidedBy}
+use Rattle.kinds.specs.declared.View.{View}
 
 pub record Bookless (d : Decision) : Type 0 where
   pub none : isBook (d .change) ≡ false

@@ -17,7 +17,7 @@ use Rattle.steps.specs.Turned.{CarriedOut, Said, Surveyed, decisionAt, r
 use Rattle.questions.specs.declared.Books.{Books}
 use Rattle.questions.specs.declared.Remembered.{Remembered}
 use Rattle.reading.specs.declared.Step.{Step}
-use Rattle.deciding.specs.declared.View.{View}
+use Rattle.kinds.specs.declared.View.{View}
 
 -- a step that lists nothing
 line-alone : (number : ℕ) (o p : Outcome) (out : List ℕ) (at : ℕ) (out′ : List ℕ) (r : ℕ) → o ≡ p → Put out at (lineFor number o) out′ r

@@ -10,7 +10,7 @@ use Rattle.ledger.specs.declared.Decision.{Decision}
 use Rattle.ledger.specs.declared.Listing.{Listing}
 use Rattle.runfile.specs.Steps.{commandIn}
 use Rattle.text.specs.Text.{Put, longestText, textFor}
-use Rattle.deciding.specs.Decided.{decidedBy}
+use Rattle.kinds.specs.Decided.{decidedBy}
 use Rattle.questions.specs.Answers.{alone, surveyed}
 use Rattle.questions.specs.Kept.{Found}
 use Rattle.steps.specs.Stored.{Stored}
@@ -18,7 +18,7 @@ use Rattle.questions.specs.declared.Books.{Books}
 use Rattle.reading.specs.declared.Step.{Step}
 use Rattle.steps.specs.declared.Looked.{Looked}
 use Rattle.steps.specs.declared.Told.{Told}
-use Rattle.deciding.specs.declared.View.{View}
+use Rattle.kinds.specs.declared.View.{View}
 
 -- the step's text stands at the cursor, which moves on to r
 pub record Said (number : ℕ) (answer : Listing) (out : List ℕ) (at : ℕ) (out′ : List ℕ) (r : ℕ) : Type 0 where

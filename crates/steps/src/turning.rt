@@ -10,7 +10,7 @@ ghost use Rattle.text.specs.Text.{longestText};
 use crate::Looked;
 use crate::Told;
 use crate::storing;
-use deciding::View;
+use kinds::View;
 use questions::Books;
 use reading::Step;
 

@@ -1,5 +1,5 @@
 -- Each arm is its command's (proofs/Arms.antt).
-use Rattle.deciding.proofs.Arms.{arms}
+use Rattle.kinds.proofs.Arms.{arms}
 use Rattle.deciding.proofs.decide.Statement.{statement}
 use Rattle.deciding.proofs.decide.Tie as tie
 use borrow.Author.Needs.{needs}

@@ -1,4 +1,4 @@
-use Rattle.deciding.proofs.Arms.{known-behind}
+use Rattle.kinds.proofs.Arms.{known-behind}
 use Rattle.questions.proofs.Laws.{required-so}
 use Rattle.questions.proofs.asking.require.Statement.{statement}
 use Rattle.questions.proofs.asking.require.Tie as tie

@@ -18,7 +18,7 @@ use Rattle.ledger.specs.Worlds.{snapshot}
 use Rattle.ledger.specs.declared.Change.the-variants.{Nothing, Record}
 use Rattle.ledger.specs.declared.Decision.{Decision}
 use Rattle.runfile.specs.Steps.{Command, draw, request, unreadable}
-use Rattle.deciding.specs.declared.View.{View}
+use Rattle.kinds.specs.declared.View.{View}
 
 -- check 4 alone
 unfoldable pub bookedOr : Bool → Verdict

@@ -32,10 +32,10 @@ use Rattle.runfile.specs.Steps.{Command, commandIn, draw, request, unreadable, 
 use Rattle.runfile.specs.declared.Kind.{Kind}
 use Rattle.runfile.specs.declared.Kind.the-variants.{ClientPreflight, Commit, Dependencies, Draw, Equivocating, FaultyAcknowledge, FaultySign, Generations}
 use Rattle.runfile.specs.declared.Kind.the-variants.{Preflight, Propose, Release, Show, Snapshot, Unknown}
-use Rattle.deciding.specs.Decided.{decidedBy, gateBy}
+use Rattle.kinds.specs.Decided.{decidedBy, gateBy}
 use Rattle.reading.specs.Reading.{Asked, jobOf, vaultOf}
 use Rattle.reading.specs.declared.Step.{Step}
-use Rattle.deciding.specs.declared.View.{View}
+use Rattle.kinds.specs.declared.View.{View}
 
 -- all booked records lie inside a run's journal
 pub searched : (version : ℕ) (journal : List ℕ) (booked : ℕ) (numbers sets records : List ℕ) → Indexed version journal booked numbers sets records

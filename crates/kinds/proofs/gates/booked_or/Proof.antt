@@ -1,7 +1,7 @@
 use Rattle.base.proofs.Tests.{chain}
-use Rattle.deciding.proofs.gates.booked_or.Statement.{statement}
-use Rattle.deciding.proofs.gates.booked_or.Tie as tie
-use Rattle.deciding.specs.Decided.{bookedOr}
+use Rattle.kinds.proofs.gates.booked_or.Statement.{statement}
+use Rattle.kinds.proofs.gates.booked_or.Tie as tie
+use Rattle.kinds.specs.Decided.{bookedOr}
 use borrow.Author.Needs.{needs}
 
 pub booked-or-spec : {M : Type 1} → statement M

@@ -1,27 +1,38 @@
-// The kinds of steps that a vault decides, and those about one job: each is handed what it looks at.
+// The kinds of steps that look at one vault, or at one job: each is handed what it looks at. The decisions are the ledger's.
+mod gates;
+
 ghost use mathlib.Core.Path.{_≡_};
 ghost use Prim.Native.Nat.{_+_, _≤_};
 ghost use lib.ListN.{getD};
 ghost use Rattle.index.specs.Index.{IndexedEntries};
 ghost use Rattle.runfile.specs.Run.{longest};
 ghost use Rattle.runfile.specs.Steps.{wordAt};
-ghost use Rattle.deciding.specs.Decided.{clientPreflightBy, commitBy, drawBy, preflightBy, releaseBy, showBy, voteBy};
-use crate::View;
-use crate::gates;
+ghost use Rattle.kinds.specs.Decided.{clientPreflightBy, commitBy, drawBy, preflightBy, releaseBy, showBy, voteBy};
 use federation::Settings;
+pub use gates::gate;
 use ledger::Change;
 use ledger::Decision;
 use reading::Step;
+use sets::JobSet;
 use vaults::Column;
+use vaults::Vault;
+use vaults::Votes;
+
+// What a step looks at that looks at one vault: its state, the votes on the job that the step names, and the history at the place that it names; of the
+// snapshot the number of the vault that is next, the jobs seen in this round, and that vault.
+pub struct View {
+    pub settings: Settings,
+    pub booked: usize,
+    pub state: Vault,
+    pub votes: Votes,
+    pub history: u16,
+    pub next: u8,
+    pub seen: JobSet,
+    pub turn: Vault,
+}
 
 // Kind 2.
-pub(crate) fn preflight(
-    step: Step,
-    view: View,
-    numbers: &[u16],
-    sets: &[u64],
-    journal: &[u8],
-) -> Decision
+pub fn preflight(step: Step, view: View, numbers: &[u16], sets: &[u64], journal: &[u8]) -> Decision
     requires { ⌜ IndexedEntries (view .settings .version) (now journal) (view .booked) (now numbers) (now sets) ⌝ }
     ensures { λ r. ⌜ r ≡ preflightBy view (now (journal .entry)) (step .vault) (step .job) ⌝ }
 {
@@ -42,7 +53,7 @@ pub(crate) fn preflight(
 }
 
 // Kind 12.
-pub(crate) fn client_preflight(
+pub fn client_preflight(
     step: Step,
     view: View,
     numbers: &[u16],
@@ -72,7 +83,7 @@ pub(crate) fn client_preflight(
 }
 
 // Kind 10.
-pub(crate) fn release(
+pub fn release(
     step: Step,
     view: View,
     numbers: &[u16],
@@ -100,7 +111,7 @@ pub(crate) fn release(
 }
 
 // Kind 3.
-pub(crate) fn commit(step: Step, view: View, journal: &[u8], input: &[u8]) -> Decision
+pub fn commit(step: Step, view: View, journal: &[u8], input: &[u8]) -> Decision
     requires { ⌜ step .at ≤ longest ⌝ }
     ensures { λ r. ⌜ r ≡ commitBy view (now (journal .entry)) (step .vault) (step .job) (wordAt (now (input .entry)) (step .at + 2)) ⌝ }
 {
@@ -119,7 +130,7 @@ pub(crate) fn commit(step: Step, view: View, journal: &[u8], input: &[u8]) -> De
 }
 
 // Kinds 4 and 5.
-pub(crate) fn vote(step: Step, view: View, journal: &[u8], column: Column) -> Decision
+pub fn vote(step: Step, view: View, journal: &[u8], column: Column) -> Decision
     ensures { λ r. ⌜ r ≡ voteBy view (now (journal .entry)) column (step .vault) (step .job) ⌝ }
 {
     let settings = view.settings;
@@ -134,7 +145,7 @@ pub(crate) fn vote(step: Step, view: View, journal: &[u8], column: Column) -> De
 }
 
 // Kind 6.
-pub(crate) fn show(step: Step, view: View, journal: &[u8]) -> Decision
+pub fn show(step: Step, view: View, journal: &[u8]) -> Decision
     ensures { λ r. ⌜ r ≡ showBy view (now (journal .entry)) (step .job) ⌝ }
 {
     let settings = view.settings;
@@ -148,7 +159,7 @@ pub(crate) fn show(step: Step, view: View, journal: &[u8]) -> Decision
 }
 
 // Kind 7.
-pub(crate) fn draw(settings: Settings, u: u8) -> Decision
+pub fn draw(settings: Settings, u: u8) -> Decision
     ensures { λ r. ⌜ r ≡ drawBy settings u ⌝ }
 {
     Decision {

@@ -1,6 +1,6 @@
-use Rattle.deciding.proofs.Arms.{arms}
-use Rattle.deciding.proofs.kinds.commit.Statement.{statement}
-use Rattle.deciding.proofs.kinds.commit.Tie as tie
+use Rattle.kinds.proofs.Arms.{arms}
+use Rattle.kinds.proofs.commit.Statement.{statement}
+use Rattle.kinds.proofs.commit.Tie as tie
 use borrow.Author.Needs.{needs}
 
 ruleset by = (arms, needs)

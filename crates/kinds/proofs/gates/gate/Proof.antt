@@ -1,6 +1,6 @@
 use Rattle.ledger.specs.Steps.{gateOf}
-use Rattle.deciding.proofs.gates.gate.Statement.{statement}
-use Rattle.deciding.proofs.gates.gate.Tie as tie
+use Rattle.kinds.proofs.gates.gate.Statement.{statement}
+use Rattle.kinds.proofs.gates.gate.Tie as tie
 use borrow.Author.Needs.{needs}
 use mathlib.Core.Path.{_∙_, ap}
 

@@ -1,6 +1,6 @@
-use Rattle.deciding.proofs.Arms.{arms}
-use Rattle.deciding.proofs.kinds.release.Statement.{statement}
-use Rattle.deciding.proofs.kinds.release.Tie as tie
+use Rattle.kinds.proofs.Arms.{arms}
+use Rattle.kinds.proofs.release.Statement.{statement}
+use Rattle.kinds.proofs.release.Tie as tie
 use borrow.Author.Needs.{needs}
 
 ruleset by = (arms, needs)

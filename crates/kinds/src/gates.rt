@@ -1,7 +1,7 @@
 // The gates that steps stand behind, for those who have the booked records at hand.
 ghost use mathlib.Core.Path.{_≡_};
 ghost use Rattle.journal.specs.Journal.{isBooked};
-ghost use Rattle.deciding.specs.Decided.{bookedOr, gateBy};
+ghost use Rattle.kinds.specs.Decided.{bookedOr, gateBy};
 use federation::Settings;
 use outcome::Refusal;
 use outcome::Verdict;
