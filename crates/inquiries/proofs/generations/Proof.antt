@@ -6,9 +6,6 @@ use borrow.Author.Needs.{needs}
 
 ruleset by = (ways, needs)
 
-generations-requires : tie.Need-generations-requires
-generations-requires c κs = search by
-
 returns : tie.Need-returns
 unfolding generationsDecision
 returns c = search by depth 8
@@ -20,4 +17,4 @@ returns-2 c = search by depth 8
 pub generations-spec : {M : Type 1} → statement M
 generations-spec =
     tie.close
-    (tie.spec (λ c κs. search needs) (λ c. search needs) (λ c. search needs) generations-requires (λ c. search needs) returns returns-2)
+    (tie.spec (λ c κs. search needs) (λ c. search needs) (λ c. search needs) (λ c κs. search by) (λ c. search needs) returns returns-2)

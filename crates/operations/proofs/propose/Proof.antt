@@ -9,14 +9,8 @@ use mathlib.Core.Path.{_∙_, sym}
 
 ruleset by = (entering, needs)
 
-propose-requires : tie.Need-propose-requires
-propose-requires c κs = search by
-
 write-requires : tie.Need-write-requires
 write-requires c κs = writes _ _ _ _ _ (c .before .propose .ensures)
-
-carry-requires : tie.Need-carry-requires
-carry-requires c κs = search by
 
 returns : tie.Need-returns
 unfolding proposeOf journalAfter proposeDecision saneGate
@@ -35,4 +29,4 @@ returns-2 c = let s = sym (c .before .before .is-sane .ensures) ∙ c .before .i
 pub propose-spec : {M : Type 1} → statement M
 propose-spec =
     tie.close
-    (tie.spec (λ c κs. search needs) propose-requires write-requires carry-requires (λ c. search needs) returns (λ c κs. search needs) returns-2)
+    (tie.spec (λ c κs. search needs) (λ c κs. search by) write-requires (λ c κs. search by) (λ c. search needs) returns (λ c κs. search needs) returns-2)

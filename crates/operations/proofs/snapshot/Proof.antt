@@ -8,12 +8,6 @@ use mathlib.Core.Path.{_∙_, sym}
 
 ruleset by = (entering, needs)
 
-element-copy-out-state : tie.Need-element-copy-out-state
-element-copy-out-state c = search by
-
-carry-requires : tie.Need-carry-requires
-carry-requires c κs = search by
-
 returns : tie.Need-returns
 unfolding snapshotOf snapshotDecision saneGate
 returns c = simp (
@@ -27,5 +21,5 @@ unfolding snapshotOf snapshotDecision saneGate applied
 returns-2 c = simp (sym (c .before .before .is-sane .ensures) ∙ c .before .if1 .left) (c .turn-back .ensures)
 
 pub snapshot-spec : {M : Type 1} → statement M
-snapshot-spec = tie.close (tie.spec (λ c κs. search needs) (λ c. search needs) (λ c. search needs) element-copy-out-state
-    (λ c κs. search needs) carry-requires returns (λ c κs. search needs) returns-2)
+snapshot-spec = tie.close (tie.spec (λ c κs. search needs) (λ c. search needs) (λ c. search needs) (λ c. search by)
+    (λ c κs. search needs) (λ c κs. search by) returns (λ c κs. search needs) returns-2)
