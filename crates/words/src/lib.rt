@@ -72,7 +72,7 @@ pub fn row_of<'a>(characters: &'a [u8], starts: &'a [u16], k: usize) -> &'a [u8]
 }
 
 // The rows one after the other, a row for each kind of line. What the characters stand for is said in specs/ of the crate `rows`.
-const TABLE: [u8; 394] = *b"\
+pub const TABLE: [u8; 394] = *b"\
     \x01\x00vaults # tolerate # faulty @\
     \x02\x00version 2 vaults # tolerate # faulty @\
     \x01\x00accession drive #\
@@ -92,7 +92,7 @@ const TABLE: [u8; 394] = *b"\
     \x0dequivocating";
 
 // Where each row starts, in bytes from the first, and at last where they end.
-const STARTS: [u16; 18] = [
+pub const STARTS: [u16; 18] = [
     0,
     30,
     70,
