@@ -7,7 +7,7 @@ ghost use Rattle.explanations.specs.Words.{meaning, status};
 ghost use Rattle.text.specs.Text.{Put};
 use sets::JobSet;
 
-// What stands before the value of a step, by its kind: the rows one after the other. The kinds 0 and 6 have an empty one.
+// The rows of `put_meaning` one after the other, by the kinds; those of 0 and 6 are empty.
 const MEANINGS: [u8; 138] = *b"\
     job \
     signatures \
@@ -23,7 +23,7 @@ const MEANINGS: [u8; 138] = *b"\
     vaults ";
 
 // Where each row starts, in bytes from the first, and at last where they end.
-const MEANINGS_START: [u16; 15] = [0, 0, 4, 15, 32, 43, 60, 60, 82, 94, 104, 115, 120, 131, 138];
+const MEANING_STARTS: [u16; 15] = [0, 0, 4, 15, 32, 43, 60, 60, 82, 94, 104, 115, 120, 131, 138];
 
 // What stands before the value of a step of a kind.
 pub(crate) fn put_meaning(out: &mut [u8], at: usize, kind: u8) -> usize
@@ -33,17 +33,17 @@ pub(crate) fn put_meaning(out: &mut [u8], at: usize, kind: u8) -> usize
     words::put(
         out,
         at,
-        words::row_of(&MEANINGS, &MEANINGS_START, kind as usize),
+        words::row_of(&MEANINGS, &MEANING_STARTS, kind as usize),
     )
 }
 
-// The states of a job, the same way.
+// The rows of `put_status`, and where they start.
 const STATES: [u8; 21] = *b"\
     open\
     certified\
     finished";
 
-const STATES_START: [u16; 4] = [0, 4, 13, 21];
+const STATE_STARTS: [u16; 4] = [0, 4, 13, 21];
 
 // The state of a job.
 pub(crate) fn put_status(out: &mut [u8], at: usize, value: u32) -> usize
@@ -53,7 +53,7 @@ pub(crate) fn put_status(out: &mut [u8], at: usize, value: u32) -> usize
     words::put(
         out,
         at,
-        words::row_of(&STATES, &STATES_START, value as usize),
+        words::row_of(&STATES, &STATE_STARTS, value as usize),
     )
 }
 

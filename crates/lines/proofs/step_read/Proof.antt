@@ -23,5 +23,6 @@ returns-2 c =
 pub step-read-spec : {M : Type 1} → statement M
 step-read-spec =
     tie.close
-    (tie.spec (λ c κs. search by) (λ c κs. search by) returns (λ c κs. search by) returns-2 (λ c κs. search by) (λ c κs. search by) (λ c. search by) (λ c. search by) (λ c. search by)
-    (λ c κs. search by) (λ c. search by) (λ c. search by) (λ c. search by) (λ c κs. search by) (λ c. search by) (λ c. search by))
+    (tie.spec (λ c κs. search by) (λ c κs. search by) returns (λ c κs. search by) returns-2 (λ c κs. search by)
+    (λ c κs. search by) (λ c. search by) (λ c. search by) (λ c. search by) (λ c κs. search by) (λ c. search by)
+    (λ c. search by) (λ c. search by) (λ c κs. search by) (λ c. search by) (λ c. search by))
