@@ -7,41 +7,54 @@ ghost use Rattle.explanations.specs.Words.{meaning, status};
 ghost use Rattle.text.specs.Text.{Put};
 use sets::JobSet;
 
+// The rows of `put_meaning` one after the other, by the kinds; those of 0 and 6 are empty.
+const MEANINGS: [u8; 138] = *b"\
+    job \
+    signatures \
+    acknowledgements \
+    signatures \
+    acknowledgements \
+    chance in thousandths \
+    generations \
+    jobs seen \
+    signatures \
+    jobs \
+    signatures \
+    vaults ";
+
+// Where each row starts, in bytes from the first, and at last where they end.
+const MEANING_STARTS: [u16; 15] = [0, 0, 4, 15, 32, 43, 60, 60, 82, 94, 104, 115, 120, 131, 138];
+
 // What stands before the value of a step of a kind.
 pub(crate) fn put_meaning(out: &mut [u8], at: usize, kind: u8) -> usize
     requires { ⌜ at + 32 ≤ length (now out) ⌝ }
     ensures { λ r. ⌜ Put (now (out .entry)) at (meaning kind) (now (out .exit)) r × (r ≤ at + 32) ⌝ }
 {
-    match kind {
-        0 => at,
-        1 => words::put(out, at, b"job "),
-        2 => words::put(out, at, b"signatures "),
-        3 => words::put(out, at, b"acknowledgements "),
-        4 => words::put(out, at, b"signatures "),
-        5 => words::put(out, at, b"acknowledgements "),
-        6 => at,
-        7 => words::put(out, at, b"chance in thousandths "),
-        8 => words::put(out, at, b"generations "),
-        9 => words::put(out, at, b"jobs seen "),
-        10 => words::put(out, at, b"signatures "),
-        11 => words::put(out, at, b"jobs "),
-        12 => words::put(out, at, b"signatures "),
-        13 => words::put(out, at, b"vaults "),
-        _ => at,
-    }
+    words::put(
+        out,
+        at,
+        words::row_of(&MEANINGS, &MEANING_STARTS, kind as usize),
+    )
 }
+
+// The rows of `put_status`, and where they start.
+const STATES: [u8; 21] = *b"\
+    open\
+    certified\
+    finished";
+
+const STATE_STARTS: [u16; 4] = [0, 4, 13, 21];
 
 // The state of a job.
 pub(crate) fn put_status(out: &mut [u8], at: usize, value: u32) -> usize
     requires { ⌜ at + 9 ≤ length (now out) ⌝ }
     ensures { λ r. ⌜ Put (now (out .entry)) at (status value) (now (out .exit)) r × (r ≤ at + 9) ⌝ }
 {
-    match value {
-        0 => words::put(out, at, b"open"),
-        1 => words::put(out, at, b"certified"),
-        2 => words::put(out, at, b"finished"),
-        _ => at,
-    }
+    words::put(
+        out,
+        at,
+        words::row_of(&STATES, &STATE_STARTS, value as usize),
+    )
 }
 
 // The members of a set with commas between, or `none`.

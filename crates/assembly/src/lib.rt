@@ -37,7 +37,7 @@ fn line_read(text: &[u8], at: usize, buffer: &mut [u8], out: &mut [u8], end: usi
         (now (out .exit)) r ⌝ }
 {
     if end == 0 {
-        return lines::header_read(text, at, buffer, out);
+        return lines::header_read(text, at, out);
     }
     lines::step_read(
         reading::word_at(lines::front(out, end), 3),

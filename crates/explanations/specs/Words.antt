@@ -59,5 +59,8 @@ unfoldable pub meaning : ℕ → List ℕ
 meaning kind = getD meanings kind []
 
 -- the state of a job, as kind 6 answers it
+abbrev pub states : List (List ℕ)
+states = letters "open" ∷ letters "certified" ∷ letters "finished" ∷ []
+
 unfoldable pub status : ℕ → List ℕ
-status value = getD (letters "open" ∷ letters "certified" ∷ letters "finished" ∷ []) value []
+status value = getD states value []

@@ -5,13 +5,11 @@ use mathlib.Core.Path.{_∙_, _≡_, ap, refl, sym}
 use Prim.Native.Nat.{_+_, _-_, _<_, _≤_, suc, zero, ℕ}
 use native.Mathlib.Omega.{arith}
 use lib.Dec.{eqb, leb, ltb}
-use lib.ListN.{drop, getD, length, take}
+use lib.ListN.{drop, getD, length}
 use lib.Seq.{drop-cons}
 use borrow.Author.Tests.{eq-eqb, le-leb, le-ltb, lt-leb, lt-ltb, ne-eqb}
 use Rattle.parsing.proofs.Turns.{at-end, at-place}
 use Rattle.rows.specs.Table.{row, rows, table}
-use Rattle.text.proofs.Writing.{made}
-use Rattle.text.specs.Text.{Put}
 use Rattle.notation.specs.Lines.{begins, firstOf, rowFor, wordEnds}
 
 module _ (text : List ℕ) (at : ℕ) where
@@ -131,8 +129,4 @@ module _ {l : List ℕ} {k : ℕ} (now : Looking l k) where
       let e : k ≡ rows = omega arith in
       rw e at (now .same)
 
--- what was put at the front of a buffer
-pub front-is : {o p t s : List ℕ} {r : ℕ} → Put o 0 t p r → r ≤ 64 → 64 ≤ length o → s ≡ take r p → s ≡ t
-front-is w h g e = e ∙ made (omega arith) w
-
-pub ruleset lookups = (look-begun, look-found, look-next, look-none, front-is)
+pub ruleset lookups = (look-begun, look-found, look-next, look-none)

@@ -53,14 +53,13 @@ fn begins(row: &[u8], text: &[u8], from: usize) -> bool
     word_ends(text, at)
 }
 
-pub(crate) fn row_for(text: &[u8], at: usize, row: &mut [u8]) -> usize
-    requires { ⌜ (at ≤ length (now text)) × (64 ≤ length (now row)) ⌝ }
+pub(crate) fn row_for(text: &[u8], at: usize) -> usize
+    requires { ⌜ at ≤ length (now text) ⌝ }
     ensures { λ r. ⌜ r ≡ rowFor (drop at (now (text .entry))) ⌝ }
 {
     let mut k = 0;
     while k < words::ROWS {
-        let n = words::put_row(row, k);
-        if begins(front(row, n), text, at) {
+        if begins(words::row_of(&words::TABLE, &words::STARTS, k), text, at) {
             return k;
         }
         k += 1;

@@ -70,19 +70,17 @@ fn raw_read(
 }
 
 // By a row of the table.
-fn own_read(
-    k: usize,
-    text: &[u8],
-    at: usize,
-    buffer: &mut [u8],
-    out: &mut [u8],
-    end: usize,
-) -> Parsed
-    requires { ⌜ (at ≤ length (now text)) × (rowRoom ≤ length (now buffer)) × (end + 4 * longestRow ≤ length (now out)) ⌝ }
+fn own_read(k: usize, text: &[u8], at: usize, out: &mut [u8], end: usize) -> Parsed
+    requires { ⌜ (at ≤ length (now text)) × (end + 4 * longestRow ≤ length (now out)) ⌝ }
     ensures { λ r. ⌜ ReadTo (readBy (row k) (drop at (now (text .entry)))) (now (text .entry)) end (now (out .entry)) (now (out .exit)) r ⌝ }
 {
-    let n = words::put_row(buffer, k);
-    parsing::read_row(choice::front(buffer, n), text, at, out, end)
+    parsing::read_row(
+        words::row_of(&words::TABLE, &words::STARTS, k),
+        text,
+        at,
+        out,
+        end,
+    )
 }
 
 // The line that begins at a place, as a step of a file of the version; its bytes go into `out` at `end`. A part of the assembly, which sees
@@ -98,7 +96,7 @@ pub fn step_read(
     requires { ⌜ (at ≤ length (now text)) × (rowRoom ≤ length (now buffer)) × (end + 4 * longestRow ≤ length (now out)) ⌝ }
     ensures { λ r. ⌜ ReadTo (stepRead version (drop at (now (text .entry)))) (now (text .entry)) end (now (out .entry)) (now (out .exit)) r ⌝ }
 {
-    let k = choice::row_for(text, at, buffer);
+    let k = choice::row_for(text, at);
     if k >= words::ROWS {
         return wrong(7, at, end);
     }
@@ -120,7 +118,7 @@ pub fn step_read(
     if k == 4 {
         return raw_read(version, text, at, buffer, out, end);
     }
-    own_read(k, text, at, buffer, out, end)
+    own_read(k, text, at, out, end)
 }
 
 // The settings of a header are lawful.
@@ -131,16 +129,16 @@ fn is_lawful(input: &[u8]) -> bool
 }
 
 // The line that begins at a place, as a header; the file's first nine bytes go into `out`.
-pub fn header_read(text: &[u8], at: usize, buffer: &mut [u8], out: &mut [u8]) -> Parsed
-    requires { ⌜ (at ≤ length (now text)) × (rowRoom ≤ length (now buffer)) × (3 + 4 * longestRow ≤ length (now out)) ⌝ }
+pub fn header_read(text: &[u8], at: usize, out: &mut [u8]) -> Parsed
+    requires { ⌜ (at ≤ length (now text)) × (3 + 4 * longestRow ≤ length (now out)) ⌝ }
     ensures { λ r. ⌜ LineTo (headerRead (drop at (now (text .entry)))) (now (text .entry)) 0 (now (out .entry)) (now (out .exit)) r ⌝ }
 {
-    let k = choice::row_for(text, at, buffer);
+    let k = choice::row_for(text, at);
     if k >= 2 {
         return wrong(11, at, 0);
     }
     let end = words::put(out, 0, b"VLT");
-    let p = own_read(k, text, at, buffer, out, end);
+    let p = own_read(k, text, at, out, end);
     if p.reason != 0 {
         return wrong(p.reason, at, 0);
     }

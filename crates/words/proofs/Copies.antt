@@ -7,11 +7,11 @@ use native.Mathlib.Nat.{add-zero}
 use native.Mathlib.Numerals.{add-one}
 use native.Mathlib.Omega.{arith}
 use lib.Dec.{eqb}
-use lib.ListN.{List·getD-eq-default, drop, getD, length, length-append, length-set, set}
+use lib.ListN.{drop, getD, length, length-append, length-set, set}
 use lib.Seq.{drop-cons, drop-length, length-sets, sets}
 use Rattle.codec.proofs.Numbers.{sets-append}
 use Rattle.codec.specs.Codec.{recordSize, saysTrimmed}
-use Rattle.rows.specs.Table.{half, letters, rawRow, row, rows, shaped, table, times, trimmedRow}
+use Rattle.rows.specs.Table.{half, letters, rawRow, row, shaped, times, trimmedRow}
 use Rattle.text.proofs.Writing.{then}
 use Rattle.text.specs.Text.{Put}
 use Rattle.words.specs.Room.{arrow}
@@ -122,24 +122,6 @@ pub shaped-put : (version k inputs outputs trimmed : ℕ) {o₀ o₁ o₂ o₃ o
     → Put o₅ r₅ (half outputs) o₆ r₆ → Put o₆ r₆ (trimmedRow version trimmed) o₇ r₇ → Put o₀ 0 (shaped version k inputs outputs trimmed) o₇ r₇
 unfolding shaped arrow
 shaped-put version k inputs outputs trimmed a b c d e f g = then (then a (then b (then c d))) (then e (then f g))
-
--- past the table's end there is no row
-no-row : (k : ℕ) → rows ≤ k → row k ≡ []
-unfolding row
-no-row k h = List·getD-eq-default table [] {n = k} h
-
-zero-le : (k : ℕ) → 0 ≤ k
-zero-le k = omega arith
-
-up : {k : ℕ} (n : ℕ) → (k ≡ n → ⊥) → n ≤ k → suc n ≤ k
-up n e h = omega (arith, e)
-
-pub unknown-put : (o : List ℕ) (k : ℕ) → (k ≡ 0 → ⊥) → (k ≡ 1 → ⊥) → (k ≡ 2 → ⊥) → (k ≡ 3 → ⊥) → (k ≡ 4 → ⊥) → (k ≡ 5 → ⊥) → (k ≡ 6 → ⊥) → (k ≡ 7 → ⊥)
-    → (k ≡ 8 → ⊥) → (k ≡ 9 → ⊥) → (k ≡ 10 → ⊥) → (k ≡ 11 → ⊥) → (k ≡ 12 → ⊥) → (k ≡ 13 → ⊥) → (k ≡ 14 → ⊥) → (k ≡ 15 → ⊥)
-    → (k ≡ 16 → ⊥) → Put o 0 (row k) o 0
-unknown-put o k n0 n1 n2 n3 n4 n5 n6 n7 n8 n9 n10 n11 n12 n13 n14 n15 n16 =
-    rw (no-row k (up 16 n16 (up 15 n15 (up 14 n14 (up 13 n13 (up 12 n12 (up 11 n11 (up 10 n10 (up 9 n9 (up 8 n8 (up 7 n7 (up 6 n6 (up 5 n5 (up 4 n4 (up 3 n3
-    (up 2 n2 (up 1 n1 (up 0 n0 (zero-le k))))))))))))))))))) (put-none o 0)
 
 -- ---- how long they are
 half-size : (n : ℕ) → n ≤ 4 → length (half n) ≤ 48

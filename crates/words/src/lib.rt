@@ -7,6 +7,7 @@ ghost use Rattle.codec.specs.Codec.{recordSize};
 ghost use Rattle.rows.specs.Table.{half, rawRow, row, shaped, times, trimmedRow};
 ghost use Rattle.text.specs.Text.{Put};
 ghost use Rattle.words.specs.Room.{arrow, longestRow, rowRoom};
+ghost use Rattle.words.specs.Rows.{rowIn};
 
 // A buffer of this size takes any row while it is made.
 pub const ROOM: usize = 2048;
@@ -48,31 +49,75 @@ fn put_byte(out: &mut [u8], at: usize, b: u8) -> usize
     at + 1
 }
 
-// The table, a row for each kind of line. What its characters stand for is said in specs/ of the crate `rows`.
+// Row k of a table: it ends where the next one starts. Past the last there is none.
+pub fn row_of<'a>(characters: &'a [u8], starts: &'a [u16], k: usize) -> &'a [u8]
+    ensures { λ r. ⌜ now r ≡ rowIn (now (characters .entry)) (now (starts .entry)) k ⌝ }
+{
+    if k >= starts.len() {
+        return &characters[..0];
+    }
+    let next = k + 1;
+    if next >= starts.len() {
+        return &characters[..0];
+    }
+    let from = starts[k] as usize;
+    let end = starts[next] as usize;
+    if end > characters.len() {
+        return &characters[..0];
+    }
+    if from > end {
+        return &characters[..0];
+    }
+    &characters[from..end]
+}
+
+// The rows one after the other, a row for each kind of line. What the characters stand for is said in specs/ of the crate `rows`.
+pub const TABLE: [u8; 394] = *b"\
+    \x01\x00vaults # tolerate # faulty @\
+    \x02\x00version 2 vaults # tolerate # faulty @\
+    \x01\x00accession drive #\
+    \x01\x01migration drive #\
+    \x01record \
+    \x02preflight vault # job #\
+    \x03commit vault # job # signers @\
+    \x04faulty-signature vault # job #\
+    \x05faulty-acknowledgement vault # job #\
+    \x06show job #\
+    \x07draw #\
+    \x08generations job #\
+    \x09snapshot\
+    \x0arelease vault # job # rival #\
+    \x0bdependencies vault # job #\
+    \x0cclient-preflight vault # job # client #\
+    \x0dequivocating";
+
+// Where each row starts, in bytes from the first, and at last where they end.
+pub const STARTS: [u16; 18] = [
+    0,
+    30,
+    70,
+    89,
+    108,
+    116,
+    140,
+    171,
+    202,
+    239,
+    250,
+    257,
+    275,
+    284,
+    314,
+    341,
+    381,
+    394,
+];
+
 pub fn put_row(out: &mut [u8], k: usize) -> usize
     requires { ⌜ 64 ≤ length (now out) ⌝ }
     ensures { λ r. ⌜ Put (now (out .entry)) 0 (row k) (now (out .exit)) r × (r ≤ 64) ⌝ }
 {
-    match k {
-        0 => put(out, 0, b"\x01\x00vaults # tolerate # faulty @"),
-        1 => put(out, 0, b"\x02\x00version 2 vaults # tolerate # faulty @"),
-        2 => put(out, 0, b"\x01\x00accession drive #"),
-        3 => put(out, 0, b"\x01\x01migration drive #"),
-        4 => put(out, 0, b"\x01record "),
-        5 => put(out, 0, b"\x02preflight vault # job #"),
-        6 => put(out, 0, b"\x03commit vault # job # signers @"),
-        7 => put(out, 0, b"\x04faulty-signature vault # job #"),
-        8 => put(out, 0, b"\x05faulty-acknowledgement vault # job #"),
-        9 => put(out, 0, b"\x06show job #"),
-        10 => put(out, 0, b"\x07draw #"),
-        11 => put(out, 0, b"\x08generations job #"),
-        12 => put(out, 0, b"\x09snapshot"),
-        13 => put(out, 0, b"\x0arelease vault # job # rival #"),
-        14 => put(out, 0, b"\x0bdependencies vault # job #"),
-        15 => put(out, 0, b"\x0cclient-preflight vault # job # client #"),
-        16 => put(out, 0, b"\x0dequivocating"),
-        _ => 0,
-    }
+    put(out, 0, row_of(&TABLE, &STARTS, k))
 }
 
 // So many entries of four, and the others' zeros.

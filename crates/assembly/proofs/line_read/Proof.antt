@@ -17,5 +17,5 @@ returns-2 c =
 pub line-read-spec : {M : Type 1} → statement M
 line-read-spec =
     tie.close
-    (tie.spec (λ c κs. search by) (λ c. search by) (λ c. search by) (λ c. search by) (λ c κs. search by) (λ c κs. search by) (λ c κs. search by)
+    (tie.spec (λ c κs. search by) (λ c. search by) (λ c. search by) (λ c κs. search by) (λ c κs. search by) (λ c κs. search by)
     (λ c. search by) (λ c. search by) returns-2)

@@ -1,18 +1,25 @@
--- Each arm is a row of the table.
-use Rattle.explanations.specs.Words.{status}
-use Rattle.answers.proofs.Rows.{status-none}
+-- The parts between the starts are the rows of the table.
+use mathlib.Core.Path.{refl}
+use Rattle.explanations.specs.Words.{states, status}
+use Rattle.words.proofs.Rows.{found-in}
+use Rattle.words.specs.Rows.{part, rowsIn}
 use Rattle.answers.proofs.values.put_status.Statement.{statement}
 use Rattle.answers.proofs.values.put_status.Tie as tie
 use native.Mathlib.Omega.{arith}
 use borrow.Author.Needs.{needs}
 
-ruleset by = (status-none, needs)
+put-requires : tie.Need-put-requires
+unfolding part rowsIn
+put-requires c κs = omega (arith, found-in states _ _ _ (c .row-of .ensures) refl .short)
+
+returns : tie.Need-returns
+unfolding part rowsIn status
+returns c =
+    let put = c .before .before in
+    let f = found-in states _ _ _ (put .before .row-of .ensures) refl in
+    (rw (f .is) at (put .put .ensures .0), omega (arith, f .short, put .put .ensures .1))
 
 pub put-status-spec : {M : Type 1} → statement M
-unfolding status
 put-status-spec =
     tie.close
-    (tie.spec (λ c. search by) (λ c κs. search by) (λ c. search by) (λ c κs. search by) (λ c. search by) (λ c κs. search by) (λ c. search by)
-    (λ c. let d = c .before .before in (rw (d .before .before .before .match .keys1) (d .put .ensures .0), omega arith)) (λ c. search by)
-    (λ c. let d = c .before .before in (rw (d .before .before .before .match .keys2) (d .put2 .ensures .0), omega arith)) (λ c. search by)
-    (λ c. let d = c .before .before in (rw (d .before .before .before .match .keys3) (d .put3 .ensures .0), omega arith)) (λ c. search by))
+    (tie.spec (λ c. search needs) (λ c. search needs) (λ c κs. search needs) put-requires (λ c. search needs) returns)
