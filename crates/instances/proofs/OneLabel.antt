@@ -31,8 +31,8 @@ use Rattle.record.specs.Drives.{isDrive, supports}
 use Rattle.record.specs.Entries.{framesOf, isUsed, labelOf, usedFrames}
 use Rattle.record.specs.Labels.{charAt, isAlphanumeric, isBetween, isLabel, mediumOf}
 use Rattle.instances.proofs.Example.{accession, blank, first-tape}
-use Rattle.ledger.proofs.Independence.{commuting}
-use Rattle.ledger.specs.Independence.{Clash, EitherWay, PaperFails}
+use Rattle.consequences.proofs.Independence.{commuting}
+use Rattle.consequences.specs.Independence.{Clash, EitherWay, PaperFails}
 use Rattle.ledger.specs.Register.{Fed, entering, feedAll, feedCommit, feedProposal, isAdmissible, newRegister, stopped, taking}
 use Rattle.ledger.specs.Worlds.{Request, commit, propose}
 

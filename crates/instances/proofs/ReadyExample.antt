@@ -72,9 +72,9 @@ use Rattle.ledger.specs.Steps.{
 use Rattle.vaults.specs.Vaults.{holding, signing, vaultPreflight}
 use Rattle.ledger.specs.Worlds.{Event, World, after, afterAll, commit, faultyVote, lend, outcomes, overlay, preflight, propose, show, snapshot, start}
 use Rattle.ledger.specs.Demand3.{recordsIn}
-use Rattle.ledger.specs.Ready.{Accepted, Accepts, AtEach, Ready, Round, Through}
+use Rattle.consequences.specs.Ready.{Accepted, Accepts, AtEach, Ready, Round, Through}
 use Rattle.instances.proofs.Example.{accession, blank, lending, migration}
-use Rattle.ledger.proofs.Ready.{accepted-is-ready, ready-gets-through}
+use Rattle.consequences.proofs.Ready.{accepted-is-ready, ready-gets-through}
 use Rattle.ledger.proofs.Rivals.{peaceful-apart}
 use Rattle.federation.specs.Federation.{Lawful}
 use Rattle.snapshot.specs.Snapshot.{following, seenAfter, seenBefore, visible}

@@ -1,4 +1,3 @@
-pub mod Acceptance
 pub mod Account
 pub mod Algorithms
 pub mod Changes
@@ -9,11 +8,9 @@ pub mod Demand3
 pub mod Dependencies
 pub mod Effects
 pub mod Equivocation
-pub mod Freed
 pub mod Gates
 pub mod Growth
 pub mod Holders
-pub mod Independence
 pub mod Invariant
 pub mod Lending
 pub mod Meaning
@@ -22,7 +19,6 @@ pub mod NoQuota
 pub mod Paper
 pub mod Places
 pub mod Quota
-pub mod Ready
 pub mod Refusals
 pub mod Releases
 pub mod Rivals

@@ -4,15 +4,12 @@ pub mod Demand3
 pub mod Dependencies
 pub mod Equivocation
 pub mod Equivocators
-pub mod Freed
 pub mod Given
 pub mod Graph
 pub mod Growth
 pub mod Holders
-pub mod Independence
 pub mod Meaning
 pub mod Quota
-pub mod Ready
 pub mod Refused
 pub mod Register
 pub mod Rounds

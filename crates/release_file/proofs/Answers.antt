@@ -8,7 +8,7 @@ use borrow.Author.Tests.{eq-eqb, ne-eqb}
 use Rattle.index.specs.Places.{numbersSize, setsSize}
 use Rattle.index.specs.Records.{recordsSize}
 use Rattle.journal.specs.Journal.{capacity}
-use Rattle.ledger.specs.Freed.{Freed}
+use Rattle.consequences.specs.Freed.{Freed}
 use Rattle.ledger.specs.declared.Ledger.{Ledger}
 use Rattle.outcome.specs.declared.Outcome.the-variants.{Refused}
 use Rattle.outcome.specs.declared.Refusal.the-variants.{Settings as BadSettings, Unreadable}

@@ -8,10 +8,10 @@ use Rattle.base.specs.Lists.{In}
 use Rattle.codec.specs.Codec.{placeOf}
 use Rattle.journal.specs.Journal.{jobAt}
 use Rattle.ledger.proofs.Demand3.{along, first}
-use Rattle.ledger.proofs.Freed.{free-for-good}
+use Rattle.consequences.proofs.Freed.{free-for-good}
 use Rattle.ledger.proofs.Lending.{jobs-read}
 use Rattle.ledger.specs.Demand3.{bookedJob}
-use Rattle.ledger.specs.Freed.{Freed, freedIn, freedTapes}
+use Rattle.consequences.specs.Freed.{Freed, freedIn, freedTapes}
 use Rattle.ledger.specs.Register.{newRegister}
 use Rattle.ledger.specs.State.{newLedger, versionOf}
 use Rattle.ledger.specs.Worlds.{World}

@@ -8,7 +8,7 @@ use lib.Dec.{eqb, leb}
 use lib.ListN.{length}
 use Rattle.base.specs.Lists.{In}
 use Rattle.conflicts.specs.Tapes.{labels}
-use Rattle.ledger.specs.Freed.{Free, Freed, freedIn}
+use Rattle.consequences.specs.Freed.{Free, Freed, freedIn}
 use Rattle.ledger.specs.Register.{Register, feedAll, log, newRegister}
 use Rattle.ledger.specs.Steps.{wholeGate}
 use Rattle.ledger.specs.Worlds.{Event, World, afterAll}

@@ -20,7 +20,7 @@ use Rattle.journal.specs.Journal.{isBooked, jobAt, recordAt, slotAt}
 use Rattle.record.specs.Entries.{isUsed, noEntry}
 use Rattle.record.specs.declared.Entry.{Entry}
 use Rattle.record.specs.declared.Job.{Job}
-use Rattle.ledger.specs.Freed.{Freed, freedBy, freedFrom, isFinished}
+use Rattle.consequences.specs.Freed.{Freed, freedBy, freedFrom, isFinished}
 use Rattle.ledger.specs.State.{votesAt, votesIn}
 use Rattle.ledger.specs.Steps.{wholeGate}
 use Rattle.ledger.specs.declared.Ledger.{Ledger}

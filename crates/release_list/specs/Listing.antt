@@ -13,7 +13,7 @@ use Rattle.federation.specs.declared.Settings.{Settings}
 use Rattle.record.specs.declared.Entry.{Entry}
 use Rattle.record.specs.declared.Job.{Job}
 use Rattle.vaults.specs.declared.Votes.{Votes}
-use Rattle.ledger.specs.Freed.{Freed, freedTapes}
+use Rattle.consequences.specs.Freed.{Freed, freedTapes}
 use Rattle.ledger.specs.State.{versionOf}
 use Rattle.ledger.specs.Steps.{wholeGate}
 use Rattle.ledger.specs.declared.Ledger.{Ledger}

@@ -9,7 +9,7 @@ ghost use Rattle.codec.specs.Codec.{leBytes, placeOf};
 ghost use Rattle.conflicts.specs.Tapes.{usedFrom};
 ghost use Rattle.federation.specs.Federation.{thresholdOf};
 ghost use Rattle.journal.specs.Journal.{Booked, jobAt};
-ghost use Rattle.ledger.specs.Freed.{freedTapes};
+ghost use Rattle.consequences.specs.Freed.{freedTapes};
 ghost use Rattle.ledger.specs.State.{versionOf};
 ghost use Rattle.text.specs.Text.{Put};
 ghost use Rattle.release_list.specs.Listing.{Listed, freedWith, longestTape, ofJob, tapeLine};

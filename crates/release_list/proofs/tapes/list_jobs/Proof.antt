@@ -7,7 +7,7 @@ use native.Mathlib.Omega.{arith}
 use borrow.Author.Needs.{needs}
 use Rattle.codec.specs.Codec.{placeOf}
 use Rattle.journal.specs.Journal.{jobAt}
-use Rattle.ledger.specs.Freed.{freedFrom}
+use Rattle.consequences.specs.Freed.{freedFrom}
 use Rattle.ledger.specs.State.{versionOf}
 use Rattle.release_list.proofs.Lines.{jobs-first, jobs-on, jobs-room}
 use Rattle.release_list.proofs.tapes.list_jobs.Statement.{statement}

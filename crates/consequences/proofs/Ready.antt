@@ -25,21 +25,21 @@ use Rattle.sets.proofs.Size.{below-power, reflect-at-least}
 use Rattle.sets.specs.Bits.{hasBit}
 use Rattle.federation.specs.Federation.{Lawful, thresholdOf}
 use Rattle.federation.specs.declared.Settings.{Settings}
-use Rattle.ledger.proofs.Acceptance.{Acknowledged, Leaves, acknowledged-on, algorithm-lasts, leaves, more, signed-lasts}
+use Rattle.consequences.proofs.Acceptance.{Acknowledged, Leaves, acknowledged-on, algorithm-lasts, leaves, more, signed-lasts}
 use Rattle.ledger.proofs.Changes.{changes, shape-sane}
 use Rattle.ledger.proofs.Demand2.{obeys}
 use Rattle.ledger.proofs.Demand3.{along, first, kept, same-settings, settings-along}
 use Rattle.ledger.proofs.Gates.{done-gate, entered, reflect-sane}
 use Rattle.ledger.proofs.Growth.{grow, grows}
 use Rattle.ledger.proofs.Invariant.{Inv, clear, held-by, tally}
 use Rattle.ledger.proofs.Paper.{admission-unblocked, signs-admission}
 use Rattle.ledger.proofs.Rivals.{Rival, apart-peaceful, apart-sym, peaceful-apart, rival-sym}
 use Rattle.ledger.proofs.Safety.{Rooted, certified-apart, meeting, unreleased}
 use Rattle.ledger.proofs.Views.{heldAt, recordedAt, signedAt, votedAt}
 use Rattle.ledger.specs.Decisions.{statusOf}
 use Rattle.ledger.specs.Demand2.{InPlace, Signs}
 use Rattle.ledger.specs.Demand3.{Apart, Correct, Held, bookedJob}
-use Rattle.ledger.specs.Ready.{
+use Rattle.consequences.specs.Ready.{
   Accepted,
   AcceptedGetsThrough,
   AcceptedIsReady,

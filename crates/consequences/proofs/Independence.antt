@@ -39,11 +39,11 @@ use Rattle.conflicts.specs.Tapes.{inputTapes, labels, outputTapes, sameTape}
 use Rattle.record.specs.Entries.{noEntry}
 use Rattle.record.specs.declared.Entry.{Entry}
 use Rattle.record.specs.declared.Job.{Job}
 use Rattle.ledger.proofs.Account.{Books, CanTake, books-enter, books-new, books-take, examined-checked, reflect-admissible}
 use Rattle.ledger.proofs.Demand3.{demand3}
 use Rattle.ledger.proofs.Rivals.{apart-sym}
 use Rattle.ledger.specs.Demand3.{Apart}
-use Rattle.ledger.specs.Independence.{
+use Rattle.consequences.specs.Independence.{
   Alike,
   BatchesCommute,
   Commit,

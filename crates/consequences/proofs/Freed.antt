@@ -21,20 +21,20 @@ use Rattle.federation.specs.Federation.{thresholdOf}
 use Rattle.federation.specs.declared.Settings.{Settings}
 use Rattle.record.specs.declared.Entry.{Entry}
 use Rattle.record.specs.declared.Job.{Job}
-use Rattle.ledger.proofs.Acceptance.{More, more}
+use Rattle.consequences.proofs.Acceptance.{More, more}
 use Rattle.ledger.proofs.Account.{Books, creator-in, examined-checked}
 use Rattle.ledger.proofs.Changes.{changes}
 use Rattle.ledger.proofs.Demand3.{along, finished-certified, finished-held, first, kept, settings-along}
 use Rattle.ledger.proofs.Growth.{grows}
 use Rattle.ledger.proofs.Invariant.{Inv, tally}
-use Rattle.ledger.proofs.Ready.{all-voted}
+use Rattle.consequences.proofs.Ready.{all-voted}
 use Rattle.ledger.proofs.Safety.{certified-apart}
 use Rattle.ledger.specs.Demand3.{bookedJob}
-use Rattle.ledger.specs.Freed.{Finished, Free, FreeForGood, Freed, Retired, freedBy, freedFrom, freedIn, isFinished}
+use Rattle.consequences.specs.Freed.{Finished, Free, FreeForGood, Freed, Retired, freedBy, freedFrom, freedIn, isFinished}
 use Rattle.ledger.specs.Register.{Register, feed, feedAll, isDone, log, newRegister, tabled}
 use Rattle.ledger.specs.State.{acknowledgersOf}
 use Rattle.ledger.specs.Worlds.{Event, World, after, afterAll, replyTo, start}
 use Rattle.ledger.specs.declared.Ledger.{Ledger}
 
 pub reflect-finished : (l : Ledger) (k : ℕ) → Reflects (isFinished l k) (thresholdOf (l .settings) ≤ ones (acknowledgersOf l k))
 unfolding isFinished

@@ -34,21 +34,21 @@ use Rattle.ledger.proofs.Effects.{
   sign-recorded,
   sign-signed,
 }
 use Rattle.ledger.proofs.Growth.{grow}
 use Rattle.ledger.proofs.Invariant.{Inv}
 use Rattle.ledger.proofs.Lending.{records-length, records-snoc}
 use Rattle.ledger.proofs.Places.{examined-length}
 use Rattle.ledger.proofs.Views.{ackedAt, heldAt, recordedAt, signedAt, voted-added, votedAt}
 use Rattle.ledger.specs.Demand3.{Apart, bookedJob, recordsIn}
 use Rattle.ledger.specs.Graph.{Algorithm1, Lister}
-use Rattle.ledger.specs.Ready.{NoRival, Spares}
+use Rattle.consequences.specs.Ready.{NoRival, Spares}
 use Rattle.ledger.specs.Register.{Register, isDone}
 use Rattle.ledger.specs.State.{booking, counted, vaultAt, versionOf, visited, voted, votesIn, withVault}
 use Rattle.ledger.specs.Worlds.{Event, Request, World, after, clientPreflight, commit, dependencies, equivocating, faultyVote, generations, preflight}
 use Rattle.ledger.specs.Worlds.{propose, release, replyTo, show, snapshot}
 use Rattle.federation.specs.declared.Settings.{Settings}
 use Rattle.ledger.specs.declared.History.{History}
 use Rattle.ledger.specs.declared.Ledger.{Ledger}
 use Rattle.vaults.specs.declared.Vault.{Vault}
 use Rattle.vaults.specs.declared.Column.the-variants.{Acknowledgements}
 

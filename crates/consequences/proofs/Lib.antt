@@ -1,0 +1,4 @@
+pub mod Acceptance
+pub mod Freed
+pub mod Independence
+pub mod Ready

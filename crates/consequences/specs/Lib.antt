@@ -1,0 +1,3 @@
+pub mod Freed
+pub mod Independence
+pub mod Ready
