@@ -1,6 +1,6 @@
 -- What is listed is free for good. A finished job has a quorum of acknowledgements and so a correct vault among them, which holds it; so the register has taken
 -- it, its input labels stand no longer, and what it made stands or went into another job. Votes and booked records only grow.
-use mathlib.Core.Bool.{Bool, cond, true, true≢false}
+use mathlib.Core.Bool.{Bool, cond, false, true, true≢false}
 use mathlib.Core.List.{List, [], _++_, _∷_, map}
 use mathlib.Core.Logic.{_≢_, _⊎_, inl, inr, ⊎-elim}
 use mathlib.Core.Path.{_∙_, _≡_, ap, ap₂, refl, subst, sym}
@@ -8,7 +8,7 @@ use Prim.Native.Nat.{_+_, _<_, _≤_, suc, zero, ℕ}
 use native.Mathlib.Nat.{eq-or-lt-of-le, le-refl, le-trans}
 use native.Mathlib.Omega.{arith}
 use lib.Count.{ones}
-use lib.Dec.{eqb}
+use lib.Dec.{eqb, leb}
 use lib.ListN.{getD}
 use Rattle.base.proofs.Members.{any-in, distinct-append, distinct-apart, distinct-left, distinct-right, image-once, in-any, in-append, in-getD, in-left, in-map}
 use Rattle.base.proofs.Members.{in-right, map-append, map-in, reflect-member}
@@ -32,13 +32,22 @@ use Rattle.ledger.proofs.Safety.{certified-apart}
 use Rattle.ledger.specs.Demand3.{bookedJob}
 use Rattle.consequences.specs.Freed.{Finished, Free, FreeForGood, Freed, Retired, freedBy, freedFrom, freedIn, isFinished}
 use Rattle.ledger.specs.Register.{Register, feed, feedAll, isDone, log, newRegister, tabled}
-use Rattle.ledger.specs.State.{acknowledgersOf}
+use Rattle.ledger.specs.Decisions.{statusOf}
+use Rattle.ledger.specs.State.{acknowledgersOf, votesAt, votesIn}
 use Rattle.ledger.specs.Worlds.{Event, World, after, afterAll, replyTo, start}
 use Rattle.ledger.specs.declared.Ledger.{Ledger}
 
 pub reflect-finished : (l : Ledger) (k : ℕ) → Reflects (isFinished l k) (thresholdOf (l .settings) ≤ ones (acknowledgersOf l k))
 unfolding isFinished
 reflect-finished l k = reflect-le (thresholdOf (l .settings)) (ones (acknowledgersOf l k))
+
+-- kind 6 answers 2 for finished jobs, and for no others
+pub shown-finished : (l : Ledger) (k : ℕ) → eqb (statusOf (l .settings) (votesAt l k)) 2 ≡ isFinished l k
+unfolding isFinished statusOf votesIn
+shown-finished l k =
+    by-cases (λ f. eqb (cond f 2 (cond (leb (thresholdOf (l .settings)) (ones (votesAt l k .signatures))) 1 0)) 2 ≡ f)
+    (leb (thresholdOf (l .settings)) (ones (votesAt l k .acknowledgements))) (λ e. refl)
+    (λ e. by-cases (λ c. eqb (cond c 1 0) 2 ≡ false) (leb (thresholdOf (l .settings)) (ones (votesAt l k .signatures))) (λ x. refl) (λ x. refl))
 
 -- ---- the list by its members
 module _ (l : Ledger) (job : ℕ → Job) where
