@@ -31,11 +31,7 @@ fn put_value(out: &mut [u8], at: usize, count: usize, value: u32) -> usize
     requires { ⌜ at + count ≤ length (now out) ⌝ }
     ensures { λ r. ⌜ (now (out .exit) ≡ sets (now (out .entry)) at (leBytes count value)) × (r ≡ at + count) ⌝ }
 {
-    let mut v = value;
-    for k in 0..count {
-        out[at + k] = (v % 256) as u8;
-        v = v / 256;
-    }
+    codec::put_number(out, at, count, value as u64);
     at + count
 }
 
