@@ -1,14 +1,18 @@
 // The vaults that kind 13 names, found when a step asks for them and kept until what they depend on changes.
 ghost use mathlib.Core.Path.{_≡_};
 ghost use Rattle.index.specs.Index.{IndexedEntries};
-ghost use Rattle.questions.specs.Kept.{Found, Right, Still, unknownYet};
-use crate::Remembered;
-use crate::asking;
+ghost use Rattle.naming.specs.Kept.{Found, Right, Still, isNaming, unknownYet};
 use federation::Settings;
 use kinds::View;
 use runfile::Kind;
 use sets::JobSet;
 use vaults::Votes;
+
+// The vaults that equivocate, where they are known.
+pub struct Remembered {
+    pub known: bool,
+    pub vaults: JobSet,
+}
 
 pub fn unknown() -> Remembered
     ensures { λ r. ⌜ r ≡ unknownYet ⌝ }
@@ -16,6 +20,28 @@ pub fn unknown() -> Remembered
     Remembered {
         known: false,
         vaults: JobSet::empty(),
+    }
+}
+
+// The kind that asks for them.
+pub fn is_naming(kind: Kind) -> bool
+    ensures { λ r. ⌜ r ≡ isNaming kind ⌝ }
+{
+    match kind {
+        Kind::Propose => false,
+        Kind::Preflight => false,
+        Kind::Commit => false,
+        Kind::FaultySign => false,
+        Kind::FaultyAcknowledge => false,
+        Kind::Show => false,
+        Kind::Draw => false,
+        Kind::Generations => false,
+        Kind::Snapshot => false,
+        Kind::Release => false,
+        Kind::Dependencies => false,
+        Kind::ClientPreflight => false,
+        Kind::Equivocating => true,
+        Kind::Unknown => false,
     }
 }
 
@@ -33,7 +59,7 @@ pub fn named(
     requires { ⌜ IndexedEntries (settings .version) (now journal) booked (now numbers) (now sets) × Right settings votes (now journal) booked kept ⌝ }
     ensures { λ r. ⌜ Found settings votes (now (journal .entry)) booked kind r ⌝ }
 {
-    if asking::is_naming(kind) {
+    if is_naming(kind) {
         if kept.known {
             return kept;
         }

@@ -1,5 +1,5 @@
-use Rattle.questions.proofs.naming.unknown.Statement.{statement}
-use Rattle.questions.proofs.naming.unknown.Tie as tie
+use Rattle.naming.proofs.unknown.Statement.{statement}
+use Rattle.naming.proofs.unknown.Tie as tie
 use borrow.Author.Needs.{needs}
 
 pub unknown-spec : {M : Type 1} → statement M

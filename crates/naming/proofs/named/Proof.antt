@@ -1,6 +1,6 @@
-use Rattle.questions.proofs.Laws.{names}
-use Rattle.questions.proofs.naming.named.Statement.{statement}
-use Rattle.questions.proofs.naming.named.Tie as tie
+use Rattle.naming.proofs.Laws.{names}
+use Rattle.naming.proofs.named.Statement.{statement}
+use Rattle.naming.proofs.named.Tie as tie
 use borrow.Author.Needs.{needs}
 
 ruleset by = (names, needs)

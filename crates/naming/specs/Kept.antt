@@ -1,5 +1,5 @@
 -- The answer of kind 13 is kept from one step to the next (document 02, M-113): a file may ask 65,000 times.
-use mathlib.Core.Bool.{false, true}
+use mathlib.Core.Bool.{Bool, false, true}
 use mathlib.Core.List.{List}
 use mathlib.Core.Path.{_≡_}
 use Prim.Native.Nat.{ℕ}
@@ -11,8 +11,26 @@ use Rattle.equivocation.specs.Partners.{recordedIn}
 use Rattle.ledger.specs.Equivocation.{equivocators}
 use Rattle.vaults.specs.declared.Votes.{Votes}
 use Rattle.runfile.specs.declared.Kind.{Kind}
-use Rattle.questions.specs.Answers.{isNaming}
-use Rattle.questions.specs.declared.Remembered.{Remembered}
+use Rattle.runfile.specs.declared.Kind.the-variants.{ClientPreflight, Commit, Dependencies, Draw, Equivocating, FaultyAcknowledge, FaultySign, Generations}
+use Rattle.runfile.specs.declared.Kind.the-variants.{Preflight, Propose, Release, Show, Snapshot, Unknown}
+use Rattle.naming.specs.declared.Remembered.{Remembered}
+
+-- the kind that names vaults
+abbrev pub isNaming : Kind → Bool
+isNaming Propose = false
+isNaming Preflight = false
+isNaming Commit = false
+isNaming FaultySign = false
+isNaming FaultyAcknowledge = false
+isNaming Show = false
+isNaming Draw = false
+isNaming Generations = false
+isNaming Snapshot = false
+isNaming Release = false
+isNaming Dependencies = false
+isNaming ClientPreflight = false
+isNaming Equivocating = true
+isNaming Unknown = false
 
 abbrev pub unknownYet : Remembered
 unknownYet = record { known = false; vaults = noJobs }
