@@ -70,7 +70,7 @@ fn put_proposal(out: &mut [u8], at: usize, first: u32, job: u8) -> usize
 }
 
 // A kind byte and its body.
-pub(crate) fn put(out: &mut [u8], at: usize, first: u32, step: Step) -> usize
+pub fn put(out: &mut [u8], at: usize, first: u32, step: Step) -> usize
     requires { ⌜ at + 101 ≤ length (now out) ⌝ }
     ensures { λ r. ⌜ Put (now (out .entry)) at (stepBytes first step) (now (out .exit)) r × (r ≤ at + 101) ⌝ }
 {
@@ -87,7 +87,7 @@ pub(crate) fn put(out: &mut [u8], at: usize, first: u32, step: Step) -> usize
 }
 
 // The header of a version 1 run file.
-pub(crate) fn put_header(out: &mut [u8], n: u8, b: u8, faulty: u16) -> usize
+pub fn put_header(out: &mut [u8], n: u8, b: u8, faulty: u16) -> usize
     requires { ⌜ 9 ≤ length (now out) ⌝ }
     ensures { λ r. ⌜ Put (now (out .entry)) 0 (headerBytes n b faulty) (now (out .exit)) r × (r ≡ 9) ⌝ }
 {

@@ -1,8 +1,8 @@
 -- The two bytes are those of the definition.
 use borrow.Author.Needs.{needs}
 use Rattle.codec.specs.Codec.{leBytes}
-use Rattle.load_writer.proofs.writing.put_word.Statement.{statement}
-use Rattle.load_writer.proofs.writing.put_word.Tie as tie
+use Rattle.load_steps.proofs.put_word.Statement.{statement}
+use Rattle.load_steps.proofs.put_word.Tie as tie
 
 returns : tie.Need-returns
 unfolding leBytes

@@ -2,8 +2,8 @@
 use native.Mathlib.Omega.{arith}
 use borrow.Author.Needs.{needs}
 use Rattle.load.proofs.Writes.{arm}
-use Rattle.load_writer.proofs.writing.put.Statement.{statement}
-use Rattle.load_writer.proofs.writing.put.Tie as tie
+use Rattle.load_steps.proofs.put.Statement.{statement}
+use Rattle.load_steps.proofs.put.Tie as tie
 
 returns : tie.Need-returns
 returns c = let d = c .before .before in let e = d .before .before .before in

@@ -3,9 +3,9 @@ use mathlib.Core.Path.{refl}
 use denote.Ref.{now}
 use borrow.Author.Needs.{needs}
 use Rattle.load.proofs.Writes.{eight, recorded}
-use Rattle.load_writer.proofs.writing.put_record.Statement.{statement}
+use Rattle.load_steps.proofs.put_record.Statement.{statement}
 use Rattle.load.specs.Records.{jobFor}
-use Rattle.load_writer.proofs.writing.put_record.Tie as tie
+use Rattle.load_steps.proofs.put_record.Tie as tie
 
 returns : tie.Need-returns
 returns c = let a = c .before .before .before .before .before .before .args in (
