@@ -1,6 +1,6 @@
-use Rattle.release_list.proofs.Lines.{entry-listed, entry-skipped}
-use Rattle.release_list.proofs.tapes.list_entry.Statement.{statement}
-use Rattle.release_list.proofs.tapes.list_entry.Tie as tie
+use Rattle.release_lines.proofs.Lines.{entry-listed, entry-skipped}
+use Rattle.release_lines.proofs.list_entry.Statement.{statement}
+use Rattle.release_lines.proofs.list_entry.Tie as tie
 use borrow.Author.Needs.{needs}
 
 ruleset by = (entry-listed, entry-skipped, needs)

@@ -1,5 +1,5 @@
-use Rattle.release_list.proofs.tapes.is_finished.Statement.{statement}
-use Rattle.release_list.proofs.tapes.is_finished.Tie as tie
+use Rattle.release_jobs.proofs.is_finished.Statement.{statement}
+use Rattle.release_jobs.proofs.is_finished.Tie as tie
 use borrow.Author.Needs.{needs}
 
 returns : tie.Need-returns

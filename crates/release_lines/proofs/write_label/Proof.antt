@@ -1,6 +1,6 @@
 use Rattle.codec.specs.Codec.{leBytes}
-use Rattle.release_list.proofs.tapes.write_label.Statement.{statement}
-use Rattle.release_list.proofs.tapes.write_label.Tie as tie
+use Rattle.release_lines.proofs.write_label.Statement.{statement}
+use Rattle.release_lines.proofs.write_label.Tie as tie
 use borrow.Author.Needs.{needs}
 
 returns : tie.Need-returns

@@ -9,10 +9,10 @@ use Rattle.codec.specs.Codec.{placeOf}
 use Rattle.journal.specs.Journal.{jobAt}
 use Rattle.ledger.specs.Freed.{freedFrom}
 use Rattle.ledger.specs.State.{versionOf}
-use Rattle.release_list.proofs.Lines.{jobs-first, jobs-on, jobs-room}
-use Rattle.release_list.proofs.tapes.list_jobs.Statement.{statement}
-use Rattle.release_list.proofs.tapes.list_jobs.Tie as tie
-use Rattle.release_list.specs.Listing.{Listed}
+use Rattle.release_jobs.proofs.Jobs.{jobs-first, jobs-on, jobs-room}
+use Rattle.release_jobs.proofs.list_jobs.Statement.{statement}
+use Rattle.release_jobs.proofs.list_jobs.Tie as tie
+use Rattle.release_lines.specs.Tapes.{Listed}
 
 ruleset by = (jobs-first, needs)
 

@@ -1,6 +1,6 @@
-use Rattle.release_list.proofs.Lines.{job-listed, job-skipped}
-use Rattle.release_list.proofs.tapes.list_job.Statement.{statement}
-use Rattle.release_list.proofs.tapes.list_job.Tie as tie
+use Rattle.release_jobs.proofs.Jobs.{job-listed, job-skipped}
+use Rattle.release_jobs.proofs.list_job.Statement.{statement}
+use Rattle.release_jobs.proofs.list_job.Tie as tie
 use borrow.Author.Needs.{needs}
 
 ruleset by = (job-listed, job-skipped, needs)

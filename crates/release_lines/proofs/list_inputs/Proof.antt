@@ -5,10 +5,10 @@ use lib.ListN.{length}
 use native.Mathlib.Omega.{arith}
 use borrow.Author.Needs.{needs}
 use Rattle.conflicts.specs.Tapes.{usedFrom}
-use Rattle.release_list.proofs.Lines.{inputs-first, inputs-on, inputs-room}
-use Rattle.release_list.proofs.tapes.list_inputs.Statement.{statement}
-use Rattle.release_list.proofs.tapes.list_inputs.Tie as tie
-use Rattle.release_list.specs.Listing.{Listed, longestTape, ofJob}
+use Rattle.release_lines.proofs.Lines.{inputs-first, inputs-on, inputs-room}
+use Rattle.release_lines.proofs.list_inputs.Statement.{statement}
+use Rattle.release_lines.proofs.list_inputs.Tie as tie
+use Rattle.release_lines.specs.Tapes.{Listed, longestTape, ofJob}
 
 ruleset by = (inputs-first, needs)
 
