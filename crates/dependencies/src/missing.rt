@@ -63,7 +63,7 @@ fn supply(
     requires { ⌜ (job < booked) × IndexedEntries version (now journal) booked (now numbers) (now sets) ⌝ }
     ensures { λ r. ⌜ r ≡ supplying state elsewhere version (now (journal .entry)) booked job ⌝ }
 {
-    let jobs = queries::missing(
+    let jobs = supplies::missing(
         numbers,
         sets,
         version,

@@ -11,7 +11,7 @@ use lib.Dec.{leb}
 use lib.ListN.{getD}
 use Rattle.federation.specs.Federation.{thresholdOf}
 use Rattle.federation.specs.declared.Settings.{Settings}
-use Rattle.queries.specs.Rivals.{rivalsOf}
+use Rattle.rivalry.specs.Rivals.{rivalsOf}
 use Rattle.ledger.specs.Equivocation.{isCertified}
 use Rattle.record.specs.declared.Job.{Job}
 use Rattle.sets.proofs.Few.{empty-is}

@@ -13,7 +13,7 @@ use Rattle.base.specs.Search.{anyBelow}
 use Rattle.conflicts.proofs.Meaning.{reflect-rival, rivals-sym}
 use Rattle.conflicts.specs.Conflicts.{isRival}
 use Rattle.federation.specs.declared.Settings.{Settings}
-use Rattle.queries.specs.Rivals.{rivalsOf}
+use Rattle.rivalry.specs.Rivals.{rivalsOf}
 use Rattle.ledger.specs.Decisions.{listing}
 use Rattle.ledger.specs.Equivocation.{equivocators, excuses, isCertified, isEquivocating, isExcused, isUnexcused, signedBoth}
 use Rattle.ledger.specs.State.{signersOf, votesIn}

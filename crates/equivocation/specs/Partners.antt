@@ -7,7 +7,7 @@ use lib.Bits.{bitAnd, bitOr}
 use lib.Dec.{leb}
 use lib.ListN.{getD}
 use Rattle.federation.specs.declared.Settings.{Settings}
-use Rattle.queries.specs.Rivals.{rivalsOf}
+use Rattle.rivalry.specs.Rivals.{rivalsOf}
 use Rattle.ledger.specs.Equivocation.{isCertified}
 use Rattle.record.specs.declared.Job.{Job}
 use Rattle.sets.specs.Jobs.{jobCount, jobHas, jobWith, jobsBelow, jobsCommon, noJobs}

@@ -68,7 +68,7 @@ fn few_excuses(
     let mut none = JobSet::empty();
     let mut one = JobSet::empty();
     for k in 0..booked {
-        let rivals = queries::rivals_of(numbers, sets, version, journal, booked, k);
+        let rivals = rivalry::rivals_of(numbers, sets, version, journal, booked, k);
         let excuses = rivals.common(certified).count();
         none = with_enough(excuses, 0, none, k);
         one = with_enough(excuses, 1, one, k);
@@ -140,7 +140,7 @@ fn signed_pairs(
 {
     let mut all: u16 = 0;
     for k in 0..booked {
-        let rivals = queries::rivals_of(numbers, sets, version, journal, booked, k);
+        let rivals = rivalry::rivals_of(numbers, sets, version, journal, booked, k);
         let one = votes[k];
         let others = signers_among(votes, booked, partners_of(rivals, certified, few, k));
         all = one.signatures & others | all;

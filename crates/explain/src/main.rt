@@ -30,7 +30,7 @@ fn carry_out(input: &[u8]) {
     let mut records = [0u16; index::RECORDS];
     let mut out = [0u8; telling::PIECE];
     let mut progress = run::start(input, &mut out);
-    let mut named = questions::unknown();
+    let mut named = naming::unknown();
     while progress.pos < input.len() {
         let t = explaining::next(
             progress,

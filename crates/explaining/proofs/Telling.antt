@@ -21,7 +21,7 @@ use Rattle.progress.specs.declared.Turned.{Turned}
 use Rattle.runfile.specs.Run.{Run, commandOf, turn}
 use Rattle.runfile.specs.Steps.{listedBy, replyOf}
 use Rattle.sets.specs.declared.job_set.JobSet.{JobSet}
-use Rattle.questions.specs.declared.Remembered.{Remembered}
+use Rattle.naming.specs.declared.Remembered.{Remembered}
 use Rattle.telling.specs.Room.{stepLong, stepRoom}
 use Rattle.answers.specs.Room.{answerLong}
 use Rattle.text.specs.Text.{Put, longestText}

@@ -10,9 +10,9 @@ ghost use Rattle.progress.specs.Turns.{Holds};
 ghost use Rattle.telling.specs.Room.{stepRoom};
 ghost use Rattle.text.specs.Text.{Put};
 use ledger::Ledger;
+use naming::Remembered;
 use progress::Progress;
 use progress::Turned;
-use questions::Remembered;
 
 // What is said of a file that check 1 turns back, at the front of `out`.
 pub fn refuse(out: &mut [u8]) -> usize

@@ -44,8 +44,8 @@ use Rattle.steps.proofs.Quiet.{Bookless}
 use Rattle.kinds.specs.Decided.{bookedOr, decidedBy}
 use Rattle.questions.specs.Answers.{naming, required, surveyed}
 use Rattle.reading.specs.Reading.{historyOf, isWide, jobOf, vaultOf}
-use Rattle.questions.specs.Kept.{Found}
-use Rattle.questions.specs.declared.Remembered.{Remembered}
+use Rattle.naming.specs.Kept.{Found}
+use Rattle.naming.specs.declared.Remembered.{Remembered}
 use Rattle.questions.specs.declared.Books.{Books}
 use Rattle.kinds.specs.declared.View.{View}
 

@@ -24,8 +24,8 @@ use Rattle.ledger.specs.declared.Ledger.{Ledger}
 use Rattle.vaults.specs.Votes.{noVotes}
 use Rattle.vaults.specs.declared.Column.the-variants.{Acknowledgements}
 use Rattle.vaults.specs.declared.Votes.{Votes}
-use Rattle.questions.specs.Kept.{Still, unknownYet}
-use Rattle.questions.specs.declared.Remembered.{Remembered}
+use Rattle.naming.specs.Kept.{Still, unknownYet}
+use Rattle.naming.specs.declared.Remembered.{Remembered}
 use Rattle.progress.specs.Turns.{Holds}
 
 pub nothing-known : (l : Ledger) (journal : List ℕ) (r : Remembered) → r ≡ unknownYet → Holds l journal r

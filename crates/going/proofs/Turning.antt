@@ -32,8 +32,8 @@ use Rattle.runfile.specs.declared.Kind.{Kind}
 use Rattle.runfile.specs.declared.Kind.the-variants.{Propose}
 use Rattle.steps.proofs.Quiet.{Bookless, books, writable}
 use Rattle.questions.specs.Answers.{alone}
-use Rattle.questions.specs.Kept.{Still}
-use Rattle.questions.specs.declared.Remembered.{Remembered}
+use Rattle.naming.specs.Kept.{Still}
+use Rattle.naming.specs.declared.Remembered.{Remembered}
 use Rattle.going.proofs.Naming.{still-right}
 use Rattle.reading.specs.Reading.{Read, isWide, jobOf, vaultOf}
 use Rattle.steps.specs.Turned.{CarriedOut, Said, Surveyed, answerOf, decisionAt, recordIn}

@@ -6,10 +6,10 @@ ghost use Rattle.progress.specs.Pieces.{Going};
 ghost use Rattle.progress.specs.Turns.{Holds};
 use kinds::View;
 use ledger::Ledger;
+use naming::Remembered;
 use progress::Cursor;
 use progress::Turned;
 use questions::Books;
-use questions::Remembered;
 
 // Carries out steps up to the one with the number `last`, while there are more and `out` has room for the longest text of one.
 pub fn carry_on(
@@ -66,7 +66,7 @@ pub fn carry_on(
         }
         ledger = changes::apply(ledger, change, s.vault, s.job);
         let votes = ledger.votes[(s.job % 128) as usize];
-        named = questions::still(named, view, ledger.booked, votes);
+        named = naming::still(named, view, ledger.booked, votes);
     }
     progress::handed(ledger, c, named)
 }

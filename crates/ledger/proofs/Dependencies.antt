@@ -17,7 +17,7 @@ use Rattle.outcome.specs.declared.Verdict.{Verdict}
 use Rattle.outcome.specs.declared.Verdict.the-variants.{Fail, Pass}
 use Rattle.conflicts.specs.Tapes.{outputTapes}
 use Rattle.queries.specs.Admission.{admission}
-use Rattle.queries.specs.Missing.{missingJobs}
+use Rattle.supplies.specs.Missing.{missingJobs}
 use Rattle.journal.specs.Journal.{jobAt}
 use Rattle.record.specs.declared.Entry.{Entry}
 use Rattle.record.specs.declared.Job.{Job}

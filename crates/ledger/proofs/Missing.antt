@@ -17,7 +17,7 @@ use Rattle.conflicts.proofs.Tapes.{made-tape, tape-made}
 use Rattle.conflicts.specs.Conflicts.{makesTape}
 use Rattle.conflicts.specs.Tapes.{inputTapes, outputTapes}
 use Rattle.queries.specs.Admission.{madeBy, notCreatedAt}
-use Rattle.queries.specs.Missing.{isMissing, missingJobs, suppliesAt}
+use Rattle.supplies.specs.Missing.{isMissing, missingJobs, suppliesAt}
 use Rattle.record.specs.Entries.{framesOf, isUsed, labelOf}
 use Rattle.record.specs.declared.Entry.{Entry}
 use Rattle.record.specs.declared.Job.{Job}

@@ -46,7 +46,7 @@ use Rattle.sets.specs.Bits.{hasBit, subsetOf, withMember}
 use Rattle.sets.specs.Jobs.{jobCount, jobHas, noJobs}
 use Rattle.sets.specs.declared.job_set.JobSet.{JobSet}
 use Rattle.queries.specs.Admission.{admission, consumedAt, notCreatedAt, remadeAt}
-use Rattle.queries.specs.Missing.{missingJobs}
+use Rattle.supplies.specs.Missing.{missingJobs}
 use Rattle.federation.specs.Federation.{thresholdOf}
 use Rattle.federation.specs.declared.Settings.{Settings}
 use Rattle.journal.specs.Journal.{isBooked, isWhole, jobAt}

@@ -31,7 +31,7 @@ use Rattle.federation.specs.declared.Settings.{Settings}
 use Rattle.checks.specs.Checks.{examined}
 use Rattle.conflicts.specs.Conflicts.{conflicting}
 use Rattle.queries.specs.Admission.{admission}
-use Rattle.queries.specs.Missing.{missingJobs}
+use Rattle.supplies.specs.Missing.{missingJobs}
 use Rattle.journal.specs.Journal.{equalIn, hasRoom, insideOf, isBooked, jobAt}
 use Rattle.ledger.specs.declared.Change.{Change}
 use Rattle.ledger.specs.declared.Change.the-variants.{Book, Count, Grant, Hold, Nothing, Record, Release, See, Sign}

@@ -1,6 +1,4 @@
 // A test load from ten bytes (docs/LOADS.md), written as a run file of 200 steps.
-mod writing;
-
 ghost use mathlib.Core.Path.{_≡_};
 ghost use Prim.Native.Nat.{_*_, _<_, _≤_};
 ghost use lib.ListN.{length};
@@ -66,7 +64,7 @@ fn put_steps(out: &mut [u8], plan: Plan, state: u64) -> usize
     let mut now = state;
     for i in 0..STEPS {
         now = generator::advance(now);
-        at = writing::put(
+        at = load_steps::put(
             out,
             at,
             plan.first,
@@ -90,7 +88,7 @@ fn put_load(out: &mut [u8], seed: u64, n: u8, b: u8) -> usize
         generator::draw(two),
         generator::draw(three),
     );
-    writing::put_header(out, n, b, load_contents::faulty(plan));
+    load_steps::put_header(out, n, b, load_contents::faulty(plan));
     put_steps(out, plan, three)
 }
 

@@ -12,7 +12,7 @@ use Rattle.sets.specs.declared.job_set.JobSet.{JobSet}
 use Rattle.ledger.specs.declared.Ledger.{Ledger}
 use Rattle.runfile.specs.Run.{Run, lastFrom, textFrom}
 use Rattle.reading.specs.declared.Step.{Step}
-use Rattle.questions.specs.declared.Remembered.{Remembered}
+use Rattle.naming.specs.declared.Remembered.{Remembered}
 use Rattle.text.specs.Text.{Put, longestText}
 use Rattle.progress.specs.declared.Progress.{Progress}
 use Rattle.progress.specs.declared.Turned.{Turned}

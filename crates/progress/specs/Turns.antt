@@ -7,8 +7,8 @@ use Rattle.sets.specs.declared.job_set.JobSet.{JobSet}
 use Rattle.ledger.specs.declared.Ledger.{Ledger}
 use Rattle.runfile.specs.Run.{Run, commandOf, textOf, turn}
 use Rattle.runfile.specs.Steps.{listedBy, replyOf}
-use Rattle.questions.specs.Kept.{Right}
-use Rattle.questions.specs.declared.Remembered.{Remembered}
+use Rattle.naming.specs.Kept.{Right}
+use Rattle.naming.specs.declared.Remembered.{Remembered}
 use Rattle.text.specs.Text.{Put, longestText}
 use Rattle.progress.specs.declared.Progress.{Progress}
 use Rattle.progress.specs.declared.Turned.{Turned}

@@ -1,13 +1,13 @@
--- Checks 11 to 14 by the index: whether the set at an entry's number meets the jobs that a vault holds or signed. Rivals and missing jobs are found so too.
-use mathlib.Core.Bool.{Bool, _&&_, _||_, cond, not}
+-- Checks 11 to 14 by the index: whether the set at an entry's number meets the jobs that a vault holds or signed.
+use mathlib.Core.Bool.{Bool, _&&_, cond, not}
 use mathlib.Core.List.{List}
-use Prim.Native.Nat.{_*_, _+_, suc, zero, ℕ}
+use Prim.Native.Nat.{_*_, _+_, ℕ}
 use lib.Dec.{eqb, ltb}
 use Rattle.base.specs.Search.{firstBelow}
 use Rattle.outcome.specs.declared.Refusal.the-variants.{InputReserved, NotCreated, OutputReserved, Retired}
 use Rattle.outcome.specs.declared.Verdict.{Verdict}
 use Rattle.outcome.specs.declared.Verdict.the-variants.{Fail, Pass}
-use Rattle.sets.specs.Jobs.{jobUnion, jobsCommon, jobsMeet, noJobs}
+use Rattle.sets.specs.Jobs.{jobUnion, jobsMeet}
 use Rattle.sets.specs.declared.job_set.JobSet.{JobSet}
 use Rattle.index.specs.Places.{places}
 use Rattle.index.specs.Sets.{setOf}
@@ -41,21 +41,3 @@ admissionBy numbers sets inputs outputs held others k =
     cond (ltb missing 4) (Fail (NotCreated missing))
     (let known = jobUnion held others in
     cond (ltb (firstOffending numbers sets inputs (8 * k) 0 known) 4) (consumedBy numbers sets inputs held others k) (remadeBy numbers sets outputs known k))
-
--- job k, which has so many inputs and outputs, shares an input label or an output label with a job of s
-unfoldable pub conflictsBy : List ℕ → List ℕ → ℕ → ℕ → JobSet → ℕ → Bool
-conflictsBy numbers sets inputs outputs s k =
-    ltb (firstOffending numbers sets inputs (8 * k) 0 s) 4 || ltb (firstOffending numbers sets outputs (8 * k + 4) 1 s) 4
-
--- of a job with so many inputs: the jobs held elsewhere that make input e, where no held job makes it
-unfoldable pub suppliersBy : List ℕ → List ℕ → ℕ → ℕ → JobSet → JobSet → ℕ → JobSet
-suppliersBy numbers sets count at held elsewhere e =
-    cond (ltb e count)
-    (let makers = setOf numbers sets (at + e) 2 in cond (jobsMeet makers held) noJobs (jobsCommon makers elsewhere))
-    noJobs
-
--- those of the first inputs
-unfoldable pub missingBy : List ℕ → List ℕ → ℕ → ℕ → JobSet → JobSet → ℕ → JobSet
-missingBy numbers sets count at held elsewhere zero = noJobs
-missingBy numbers sets count at held elsewhere (suc e) =
-    jobUnion (suppliersBy numbers sets count at held elsewhere e) (missingBy numbers sets count at held elsewhere e)

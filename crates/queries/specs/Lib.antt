@@ -1,4 +1,2 @@
 pub mod Admission
 pub mod Checks
-pub mod Missing
-pub mod Rivals

@@ -1,7 +1,4 @@
-// What is asked of the index: checks 11 to 14, a job's rivals, and the jobs that a vault misses.
-mod rivals;
-mod supplying;
-
+// What is asked of the index: checks 11 to 14.
 ghost use mathlib.Core.Path.{_≡_};
 ghost use Prim.Native.Nat.{_+_, _<_, _≤_};
 ghost use Rattle.index.specs.Index.{IndexedEntries};
@@ -16,10 +13,7 @@ use index::READERS;
 use index::WRITERS;
 use outcome::Refusal;
 use outcome::Verdict;
-pub use rivals::conflict;
-pub use rivals::rivals_of;
 use sets::JobSet;
-pub use supplying::missing;
 
 // Entry e is one of so many, and offends against s: no job of s makes its tape, or some job of s has its label.
 fn offends_at(
@@ -45,7 +39,7 @@ fn offends_at(
 }
 
 // The first of four entries that offends, or 4.
-pub(crate) fn first_offending(
+pub fn first_offending(
     numbers: &[u16],
     sets: &[u64],
     count: usize,

@@ -1,10 +1,9 @@
--- Each answer is its kind's, and what is kept of kind 13 is right.
-use mathlib.Core.Bool.{Bool, false, true, true≢false}
+-- Each answer is its kind's.
+use mathlib.Core.Bool.{Bool, false, true}
 use mathlib.Core.List.{List}
-use mathlib.Core.Path.{_∙_, _≡_, ap, refl, sym}
+use mathlib.Core.Path.{_∙_, _≡_, ap, sym}
 use Prim.Native.Nat.{_%_, ℕ}
 use lib.ListN.{getD, length}
-use Rattle.federation.specs.declared.Settings.{Settings}
 use Rattle.outcome.specs.declared.Outcome.the-variants.{Refused}
 use Rattle.outcome.specs.declared.Refusal.the-variants.{NotBooked}
 use Rattle.outcome.specs.declared.Verdict.{Verdict}
@@ -14,16 +13,14 @@ use Rattle.generations.specs.Memo.{Memo}
 use Rattle.ledger.specs.Decisions.{gatedListing, listing, requiring, unlisted}
 use Rattle.ledger.specs.Given.{Aged}
 use Rattle.ledger.specs.Holders.{heldSomewhere}
-use Rattle.vaults.specs.declared.Votes.{Votes}
 use Rattle.ledger.specs.Worlds.{dependencies, generations}
 use Rattle.ledger.specs.declared.Decision.{Decision}
 use Rattle.ledger.specs.declared.Listing.{Listing}
 use Rattle.vaults.specs.Vaults.{newVault}
 use Rattle.runfile.specs.declared.Kind.{Kind}
 use Rattle.kinds.specs.Decided.{bookedOr, gateBy}
-use Rattle.questions.specs.Answers.{Answered, aged, alone, isListing, isNaming, naming, required, surveyed}
-use Rattle.questions.specs.Kept.{Found, Right, Still, namedBy, unknownYet}
-use Rattle.questions.specs.declared.Remembered.{Remembered}
+use Rattle.questions.specs.Answers.{Answered, aged, alone, isListing, naming, required, surveyed}
+use Rattle.naming.specs.Kept.{isNaming}
 use Rattle.questions.specs.declared.Books.{Books}
 
 -- ---- generations
@@ -59,24 +56,7 @@ module _ (version booked : ℕ) (journal : List ℕ) (named : JobSet) (b : Bool)
   unfolding bookedOr
   unnamed f q = simp (sym e ∙ f) q
 
-module _ (s : Settings) (votes : List Votes) (journal : List ℕ) (booked : ℕ) (kind : Kind) where
-  pub already-known : (kept : Remembered) → Right s votes journal booked kept → kept .known ≡ true → Found s votes journal booked kind kept
-  already-known kept h t = record { right = h; known = λ _. t }
-
-  pub known-now : (r : JobSet) → r ≡ namedBy s votes journal booked → Found s votes journal booked kind (record { known = true; vaults = r })
-  known-now r q = record { right = record { are = λ _. q }; known = λ _. refl }
-
-  pub not-asked : (kept : Remembered) (b : Bool) → b ≡ isNaming kind → b ≡ false → Right s votes journal booked kept → Found s votes journal booked kind kept
-  not-asked kept b e f h = record { right = h; known = λ t. absurd (true≢false (sym t ∙ (sym e ∙ f))) }
-
-module _ (kept : Remembered) (booked signatures booked′ signatures′ : ℕ) where
-  pub still-known : booked ≡ booked′ → signatures ≡ signatures′ → Still kept booked signatures booked′ signatures′ kept
-  still-known a b = record { same = λ _. (refl, a, b) }
-
-  pub not-known : (r : Remembered) → r ≡ unknownYet → Still kept booked signatures booked′ signatures′ r
-  not-known r e = record { same = λ t. absurd (true≢false (sym t ∙ ap (λ (x : Remembered). x .known) e)) }
-
-pub ruleset names = (named-so, unnamed, already-known, known-now, not-asked, still-known, not-known)
+pub ruleset names = (named-so, unnamed)
 
 -- ---- one of the three
 module _ (a : Books) (named : JobSet) (order journal memo : List ℕ) (kind : Kind) (v job : ℕ) (b : Bool) (e : b ≡ isListing kind) (r : Listing) where

@@ -21,6 +21,7 @@ use Rattle.runfile.specs.declared.Kind.the-variants.{ClientPreflight, Commit, D
 use Rattle.runfile.specs.declared.Kind.the-variants.{Preflight, Propose, Release, Show, Snapshot, Unknown}
 use Rattle.questions.specs.declared.Books.{Books}
 use Rattle.kinds.specs.Decided.{bookedOr, gateBy}
+use Rattle.naming.specs.Kept.{isNaming}
 
 -- a step that lists nothing
 abbrev pub alone : Outcome → Listing
@@ -54,23 +55,6 @@ isListing Dependencies = true
 isListing ClientPreflight = false
 isListing Equivocating = false
 isListing Unknown = false
-
--- and the one that names vaults
-abbrev pub isNaming : Kind → Bool
-isNaming Propose = false
-isNaming Preflight = false
-isNaming Commit = false
-isNaming FaultySign = false
-isNaming FaultyAcknowledge = false
-isNaming Show = false
-isNaming Draw = false
-isNaming Generations = false
-isNaming Snapshot = false
-isNaming Release = false
-isNaming Dependencies = false
-isNaming ClientPreflight = false
-isNaming Equivocating = true
-isNaming Unknown = false
 
 -- kind 13, where these vaults equivocate
 abbrev pub naming : ℕ → ℕ → List ℕ → JobSet → Listing

@@ -3,7 +3,7 @@ ghost use mathlib.Core.Path.{_≡_};
 ghost use Prim.Native.Nat.{_≤_};
 ghost use Rattle.index.specs.Index.{IndexedEntries};
 ghost use Rattle.generations.specs.Memo.{Ready};
-ghost use Rattle.questions.specs.Answers.{Answered, aged, alone, isListing, isNaming, naming, required, surveyed};
+ghost use Rattle.questions.specs.Answers.{Answered, aged, alone, isListing, naming, required, surveyed};
 use crate::Books;
 use ledger::Listing;
 use outcome::Outcome;
@@ -111,27 +111,6 @@ fn is_listing(kind: Kind) -> bool
     }
 }
 
-pub(crate) fn is_naming(kind: Kind) -> bool
-    ensures { λ r. ⌜ r ≡ isNaming kind ⌝ }
-{
-    match kind {
-        Kind::Propose => false,
-        Kind::Preflight => false,
-        Kind::Commit => false,
-        Kind::FaultySign => false,
-        Kind::FaultyAcknowledge => false,
-        Kind::Show => false,
-        Kind::Draw => false,
-        Kind::Generations => false,
-        Kind::Snapshot => false,
-        Kind::Release => false,
-        Kind::Dependencies => false,
-        Kind::ClientPreflight => false,
-        Kind::Equivocating => true,
-        Kind::Unknown => false,
-    }
-}
-
 // Kind 13.
 fn name(version: u16, booked: usize, journal: &[u8], named: JobSet) -> Listing
     ensures { λ r. ⌜ r ≡ naming version booked (now (journal .entry)) named ⌝ }
@@ -163,7 +142,7 @@ pub fn look(
     if is_listing(kind) {
         return require(books, numbers, sets, journal, step.vault, step.job);
     }
-    if is_naming(kind) {
+    if naming::is_naming(kind) {
         let settings = books.settings;
         return name(settings.version, books.booked, journal, named);
     }

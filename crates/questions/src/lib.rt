@@ -1,13 +1,9 @@
 // What a step answers and lists that looks at all vaults: the generations of a job, its missing dependencies, and the vaults that equivocate.
 mod asking;
-mod naming;
 
 pub use asking::look;
 use federation::Settings;
-pub use naming::named;
-pub use naming::still;
-pub use naming::unknown;
-use sets::JobSet;
+use naming::Remembered;
 use vaults::Vault;
 use vaults::Votes;
 
@@ -19,10 +15,4 @@ pub struct Books {
     pub vaults: [Vault; 16],
     pub votes: [Votes; 128],
     pub named: Remembered,
-}
-
-// The vaults that equivocate, where they are known.
-pub struct Remembered {
-    pub known: bool,
-    pub vaults: JobSet,
 }

@@ -1,6 +1,4 @@
 // The release list: the tapes that are free to be overwritten, as text.
-mod tapes;
-
 ghost use mathlib.Core.Path.{_≡_};
 ghost use Prim.Native.Nat.{_≤_};
 ghost use lib.ListN.{length};
@@ -11,15 +9,10 @@ ghost use Rattle.text.specs.Text.{Put};
 use ledger::Ledger;
 use outcome::Outcome;
 use outcome::Verdict;
+use release_lines::Cursor;
 
 // A buffer for any list: of 128 jobs with four inputs each, and the line with their number.
 pub const ROOM: usize = 12805;
-
-// Where the next line goes, and how many tapes were listed.
-pub struct Cursor {
-    pub at: usize,
-    pub count: u32,
-}
 
 // The number of tapes, or why there is no list; and how much of the buffer the list takes.
 pub struct Releases {
@@ -32,7 +25,7 @@ fn write_list(out: &mut [u8], ledger: Ledger, journal: &[u8]) -> Cursor
     ensures { λ r. ⌜ Put (now (out .entry)) 0 (listText (tapesFreed ledger (now (journal .entry)))) (now (out .exit)) (r .at)
         × (r .at ≤ 12805) × (r .count ≡ length (tapesFreed ledger (now (journal .entry)))) ⌝ }
 {
-    let end = tapes::list_jobs(out, ledger, journal);
+    let end = release_jobs::list_jobs(out, ledger, journal);
     let at = text::write_some(out, end.at, end.count);
     let at = text::write_byte(out, at, b'\n');
     Cursor {

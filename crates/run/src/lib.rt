@@ -6,11 +6,11 @@ ghost use Rattle.progress.specs.Turns.{Holds, TurnedOnce};
 ghost use Rattle.text.specs.Text.{longestText};
 use codec::LONGEST;
 use journal::CAPACITY;
+use naming::Remembered;
 use outcome::Outcome;
 use outcome::Refusal;
 use progress::Progress;
 use progress::Turned;
-use questions::Remembered;
 
 // The run's own journal has room for records of either version.
 pub const JOURNAL: usize = LONGEST * CAPACITY;
@@ -65,7 +65,7 @@ pub fn advance(
 {
     let ledger = progress.ledger;
     let c = progress::cursor_at(progress.pos, progress.count, 0);
-    let named = questions::unknown();
+    let named = naming::unknown();
     let turned = going::carry_on(
         ledger,
         c,
@@ -83,7 +83,7 @@ pub fn advance(
 }
 
 // Carries out the next step alone, and writes its text after what the progress says is written. What is kept of kind 13 is handed on from one step to the
-// next; before the first it is `questions::unknown()`.
+// next; before the first it is `naming::unknown()`.
 pub fn turn(
     progress: Progress,
     named: Remembered,

@@ -11,11 +11,11 @@ use Rattle.text.proofs.Members.{nothing-listed}
 use Rattle.text.specs.Text.{Put, lineFor, longestLine, longestText, textFor}
 use Rattle.steps.proofs.Quiet.{writable}
 use Rattle.questions.specs.Answers.{Answered, alone, surveyed}
-use Rattle.questions.specs.Kept.{Found}
+use Rattle.naming.specs.Kept.{Found}
 use Rattle.steps.specs.Stored.{Stored}
 use Rattle.steps.specs.Turned.{CarriedOut, Said, Surveyed, decisionAt, recordIn}
 use Rattle.questions.specs.declared.Books.{Books}
-use Rattle.questions.specs.declared.Remembered.{Remembered}
+use Rattle.naming.specs.declared.Remembered.{Remembered}
 use Rattle.reading.specs.declared.Step.{Step}
 use Rattle.kinds.specs.declared.View.{View}
 

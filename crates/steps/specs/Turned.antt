@@ -12,7 +12,7 @@ use Rattle.runfile.specs.Steps.{commandIn}
 use Rattle.text.specs.Text.{Put, longestText, textFor}
 use Rattle.kinds.specs.Decided.{decidedBy}
 use Rattle.questions.specs.Answers.{alone, surveyed}
-use Rattle.questions.specs.Kept.{Found}
+use Rattle.naming.specs.Kept.{Found}
 use Rattle.steps.specs.Stored.{Stored}
 use Rattle.questions.specs.declared.Books.{Books}
 use Rattle.reading.specs.declared.Step.{Step}

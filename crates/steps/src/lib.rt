@@ -4,8 +4,8 @@ mod storing;
 mod turning;
 
 use ledger::Change;
+use naming::Remembered;
 use outcome::Outcome;
-use questions::Remembered;
 use sets::JobSet;
 pub use turning::carry_out;
 pub use turning::survey;

@@ -4,7 +4,7 @@ ghost use lib.ListN.{length};
 ghost use Rattle.index.specs.Index.{Indexed, IndexedEntries};
 ghost use Rattle.generations.specs.Memo.{Ready};
 ghost use Rattle.reading.specs.Reading.{Asked};
-ghost use Rattle.questions.specs.Kept.{Right};
+ghost use Rattle.naming.specs.Kept.{Right};
 ghost use Rattle.steps.specs.Turned.{CarriedOut, Surveyed};
 ghost use Rattle.text.specs.Text.{longestText};
 use crate::Looked;
@@ -90,7 +90,7 @@ pub fn survey(
     let votes = books.votes;
     let kept = books.named;
     let booked = books.booked;
-    let named = questions::named(kept, kind, settings, votes, numbers, sets, journal, booked);
+    let named = naming::named(kept, kind, settings, votes, numbers, sets, journal, booked);
     let vaults = named.vaults;
     let listing = questions::look(step, books, vaults, order, numbers, sets, journal, memo);
     let outcome = listing.outcome;

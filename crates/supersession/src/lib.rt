@@ -29,7 +29,7 @@ fn is_superseded(
         return false;
     }
     if state.held.has(rival) {
-        return queries::conflict(numbers, sets, version, journal, booked, job, rival);
+        return rivalry::conflict(numbers, sets, version, journal, booked, job, rival);
     }
     false
 }

@@ -10,7 +10,7 @@ use Rattle.progress.specs.Pieces.{Going}
 use Rattle.progress.specs.Turns.{Holds}
 use Rattle.progress.specs.declared.Progress.{Progress}
 use Rattle.progress.specs.declared.Turned.{Turned}
-use Rattle.questions.specs.declared.Remembered.{Remembered}
+use Rattle.naming.specs.declared.Remembered.{Remembered}
 use Rattle.explain.proofs.carry_out.Statement.{statement}
 use Rattle.explain.proofs.carry_out.Tie as tie
 use borrow.Author.Needs.{needs}

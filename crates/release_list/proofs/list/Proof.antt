@@ -1,6 +1,6 @@
 use borrow.Author.Needs.{needs}
 use Rattle.ledger.proofs.Gates.{entering}
-use Rattle.release_list.proofs.Lines.{list-passed, list-shut}
+use Rattle.release_list.proofs.Whole.{list-passed, list-shut}
 use Rattle.release_list.proofs.list.Statement.{statement}
 use Rattle.release_list.proofs.list.Tie as tie
 

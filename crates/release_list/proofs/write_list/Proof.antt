@@ -1,5 +1,5 @@
 -- The lines of the tapes, and the line with their number.
-use Rattle.release_list.proofs.Lines.{list-counted, list-told}
+use Rattle.release_list.proofs.Whole.{list-counted, list-told}
 use Rattle.release_list.proofs.write_list.Statement.{statement}
 use Rattle.release_list.proofs.write_list.Tie as tie
 use borrow.Author.Needs.{needs}

@@ -1,0 +1,2 @@
+pub mod Opposes
+pub mod Shares
