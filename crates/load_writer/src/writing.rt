@@ -6,7 +6,7 @@ ghost use lib.ListN.{length};
 ghost use Rattle.codec.specs.Codec.{bytesOf, leBytes};
 ghost use Rattle.load.specs.Records.{jobFor};
 ghost use Rattle.load.specs.Steps.{headerBytes, stepBytes};
-ghost use Rattle.text.specs.Text.{Put};
+ghost use Rattle.digits.specs.Digits.{Put};
 use load::Step;
 
 fn put_two(out: &mut [u8], at: usize, a: u8, b: u8) -> usize

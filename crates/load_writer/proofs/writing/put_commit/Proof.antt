@@ -1,7 +1,7 @@
 -- Kind, vault and job, then the signers.
 use native.Mathlib.Omega.{arith}
 use borrow.Author.Needs.{needs}
-use Rattle.text.proofs.Writing.{then}
+use Rattle.digits.proofs.Writing.{then}
 use Rattle.load_writer.proofs.writing.put_commit.Statement.{statement}
 use Rattle.load_writer.proofs.writing.put_commit.Tie as tie
 

@@ -1,7 +1,7 @@
 use Rattle.release_list.proofs.tapes.write_tape.Statement.{statement}
 use Rattle.release_list.proofs.tapes.write_tape.Tie as tie
 use Rattle.release_list.specs.Listing.{tapeLine}
-use Rattle.text.proofs.Writing.{then}
+use Rattle.digits.proofs.Writing.{then}
 use borrow.Author.Needs.{needs}
 use native.Mathlib.Omega.{arith}
 

@@ -2,7 +2,7 @@
 ghost use mathlib.Core.List.{_∷_, []};
 ghost use Prim.Native.Nat.{_+_, _<_, _≤_};
 ghost use lib.ListN.{length};
-ghost use Rattle.text.specs.Text.{Put, decimal, twoDigits};
+ghost use Rattle.digits.specs.Digits.{Put, decimal, twoDigits};
 
 pub fn write_byte(out: &mut [u8], at: usize, b: u8) -> usize
     requires { ⌜ at < length (now out) ⌝ }
@@ -45,7 +45,7 @@ pub fn write_some(out: &mut [u8], at: usize, n: u32) -> usize
 }
 
 // Six digits at most.
-pub(crate) fn write_many(out: &mut [u8], at: usize, n: u32) -> usize
+pub fn write_many(out: &mut [u8], at: usize, n: u32) -> usize
     requires { ⌜ (n < 1000000) × (at + 6 ≤ length (now out)) ⌝ }
     ensures { λ r. ⌜ Put (now (out .entry)) at (decimal n) (now (out .exit)) r × (r ≤ at + 6) ⌝ }
 {

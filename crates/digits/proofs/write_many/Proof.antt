@@ -1,6 +1,6 @@
-use Rattle.text.proofs.Writing.{writing}
-use Rattle.text.proofs.digits.write_many.Statement.{statement}
-use Rattle.text.proofs.digits.write_many.Tie as tie
+use Rattle.digits.proofs.Writing.{writing}
+use Rattle.digits.proofs.write_many.Statement.{statement}
+use Rattle.digits.proofs.write_many.Tie as tie
 use borrow.Author.Needs.{needs}
 
 ruleset by = (writing, needs)

@@ -1,5 +1,5 @@
-use Rattle.text.proofs.digits.write_two.Statement.{statement}
-use Rattle.text.proofs.digits.write_two.Tie as tie
+use Rattle.digits.proofs.write_two.Statement.{statement}
+use Rattle.digits.proofs.write_two.Tie as tie
 use borrow.Author.Needs.{needs}
 use lib.ListN.{length-set}
 use mathlib.Core.Path.{refl}
