@@ -94,7 +94,7 @@ pub(crate) fn lent() {
 pub(crate) fn unbooked_equal() {
     let mut journal = [0u8; 200];
     steps::heading(b"unbooked equal");
-    codec::write(1, jobs::copy(), &mut journal);
+    records::write(1, jobs::copy(), &mut journal);
     let new = books::new(4, 1, 8, 1).ledger;
     let l = steps::propose(new, &mut journal, b"copy", jobs::copy());
     steps::show(l, &journal, 0);

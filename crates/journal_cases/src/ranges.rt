@@ -72,7 +72,7 @@ fn each(l: Ledger, journal: &[u8; 200]) -> Ledger {
 // The first n bytes of a record with a byte after it are proposed.
 fn cut(l: Ledger, journal: &mut [u8], n: usize, name: &[u8]) -> Ledger {
     let mut bytes = [0u8; 101];
-    codec::write(1, jobs::master(), &mut bytes);
+    records::write(1, jobs::master(), &mut bytes);
     let all: &[u8] = &bytes;
     if n <= all.len() {
         return steps::report(name, operations::propose(l, journal, &all[0..n]));

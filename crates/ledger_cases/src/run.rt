@@ -7,7 +7,7 @@ use vaults::Column;
 
 fn proposed(name: &[u8], l: Ledger, journal: &mut [u8], job: Job) -> Ledger {
     let mut bytes = [0u8; 100];
-    codec::write(1, job, &mut bytes);
+    records::write(1, job, &mut bytes);
     steps::report(name, operations::propose(l, journal, &bytes))
 }
 

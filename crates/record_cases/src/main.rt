@@ -118,7 +118,7 @@ fn nudge(bytes: &mut [u8; 100], at: usize, step: u8) {
 // The record, with one byte moved by a step.
 fn off_by(job: Job, name: &[u8], at: usize, step: u8) {
     let mut bytes = [0u8; 100];
-    codec::write(1, job, &mut bytes);
+    records::write(1, job, &mut bytes);
     nudge(&mut bytes, at, step);
     io::write_all(STDOUT_FILENO, name);
     io::write_all(STDOUT_FILENO, b" ");
@@ -230,7 +230,7 @@ fn drives() {
 
 fn line(job: Job, name: &[u8], drive: u8, label: &[u8; 8]) {
     let mut bytes = [0u8; 100];
-    codec::write(1, job, &mut bytes);
+    records::write(1, job, &mut bytes);
     io::write_all(STDOUT_FILENO, name);
     io::write_all(STDOUT_FILENO, b" ");
     io::print_decimal(STDOUT_FILENO, drive as u64);
@@ -324,7 +324,7 @@ fn first(bytes: &[u8], n: usize, name: &[u8]) {
 
 fn lengths() {
     let mut bytes = [0u8; 101];
-    codec::write(1, migration(), &mut bytes);
+    records::write(1, migration(), &mut bytes);
     let all: &[u8] = &bytes;
     first(all, 0, b"empty");
     first(all, 99, b"short");
@@ -352,7 +352,7 @@ fn trimmed(kind: u8, from: u32, to: u32, cut: u32) -> Job {
 // Its line: the frames, and the answer for its first n bytes.
 fn cut_line(name: &[u8], job: Job, n: usize) {
     let mut bytes = [0u8; 104];
-    codec::write(2, job, &mut bytes);
+    records::write(2, job, &mut bytes);
     io::write_all(STDOUT_FILENO, name);
     io::write_all(STDOUT_FILENO, b" 2 ");
     io::print_decimal(STDOUT_FILENO, n as u64);

@@ -11,7 +11,7 @@ fn new_of(name: &[u8], version: u16) {
 // The first record, and the same again.
 fn whole(l: Ledger, journal: &mut [u8; 208]) -> Ledger {
     let mut bytes = [0u8; 104];
-    codec::write(2, jobs::master(), &mut bytes);
+    records::write(2, jobs::master(), &mut bytes);
     let l = steps::report(b"whole", operations::propose(l, journal, &bytes));
     steps::report(b"again", operations::propose(l, journal, &bytes))
 }
@@ -19,7 +19,7 @@ fn whole(l: Ledger, journal: &mut [u8; 208]) -> Ledger {
 // Without its last four bytes, which is its record of version 1.
 fn cut(l: Ledger, journal: &mut [u8; 208]) -> Ledger {
     let mut bytes = [0u8; 100];
-    codec::write(1, jobs::master(), &mut bytes);
+    records::write(1, jobs::master(), &mut bytes);
     steps::report(b"first.100", operations::propose(l, journal, &bytes))
 }
 
@@ -41,7 +41,7 @@ fn report(name: &[u8], l: Ledger, journal: &mut [u8], n: usize, bytes: &[u8]) ->
 // The second record, in a journal of so many bytes.
 fn second(l: Ledger, journal: &mut [u8; 208]) -> Ledger {
     let mut bytes = [0u8; 104];
-    codec::write(2, jobs::copy(), &mut bytes);
+    records::write(2, jobs::copy(), &mut bytes);
     let l = report(b"second@207", l, journal, 207, &bytes);
     report(b"second@208", l, journal, 208, &bytes)
 }

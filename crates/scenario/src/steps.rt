@@ -58,7 +58,7 @@ pub fn propose(l: Ledger, journal: &mut [u8], name: &[u8], job: Job) -> Ledger
     ensures { λ _. ⌜ now (journal .exit) ≡ journalAfter l (now (journal .entry)) (written 1 job (replicate 100 0)) ⌝ }
 {
     let mut bytes = [0u8; 100];
-    codec::write(1, job, &mut bytes);
+    records::write(1, job, &mut bytes);
     let reply = operations::propose(l, journal, &bytes);
     io::write_all(STDOUT_FILENO, b"propose.");
     report(name, reply)
@@ -163,6 +163,6 @@ pub fn lookup(l: Ledger, journal: &[u8], job: u8) {
     let part = operations::lookup(l, journal, job);
     figures(
         part.len() as u64,
-        record::frames(codec::read(1, part), 4) as u64,
+        record::frames(records::read(1, part), 4) as u64,
     );
 }

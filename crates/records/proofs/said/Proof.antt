@@ -5,10 +5,10 @@ use native.Mathlib.Omega.{arith}
 use lib.ListN.{length, length-set}
 use lib.Seq.{sets}
 use borrow.Author.Needs.{needs}
 use Rattle.codec.proofs.Jobs.{read-done, read-step}
-use Rattle.codec.proofs.said.Statement.{statement}
+use Rattle.records.proofs.said.Statement.{statement}
 use Rattle.codec.specs.Codec.{entriesAt, jobOf}
-use Rattle.codec.proofs.said.Tie as tie
+use Rattle.records.proofs.said.Tie as tie
 
 abbrev Inv-loop : tie.InvT-loop
 Inv-loop bytes entries₀ i₀ entries i = (i ≤ 8) × ((length entries ≡ 8) × (sets entries i (entriesAt bytes (4 + 12 * i) (8 - i)) ≡ entriesAt bytes 4 8))

@@ -1,8 +1,8 @@
 -- The record at the front is read as its own bytes.
 use borrow.Author.Needs.{needs}
-use Rattle.codec.proofs.read.Statement.{statement}
+use Rattle.records.proofs.read.Statement.{statement}
 use Rattle.codec.specs.Codec.{frontJob}
-use Rattle.codec.proofs.read.Tie as tie
+use Rattle.records.proofs.read.Tie as tie
 
 returns : tie.Need-returns
 unfolding frontJob

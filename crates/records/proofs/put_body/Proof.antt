@@ -7,10 +7,10 @@ use lib.Seq.{sets}
 use borrow.Author.Needs.{needs}
 use denote.Ref.{now}
 use Rattle.record.proofs.Eight.{length-mapped}
 use Rattle.codec.proofs.Jobs.{body-done, write-step}
-use Rattle.codec.proofs.put_body.Statement.{statement}
+use Rattle.records.proofs.put_body.Statement.{statement}
 use Rattle.codec.specs.Codec.{bodyOf, entriesBytes}
-use Rattle.codec.proofs.put_body.Tie as tie
+use Rattle.records.proofs.put_body.Tie as tie
 
 abbrev Inv-loop : tie.InvT-loop
 Inv-loop out₀ job i₀ out i =

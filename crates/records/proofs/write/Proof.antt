@@ -7,11 +7,11 @@ use borrow.Author.Needs.{needs}
 use borrow.Author.Tests.{le-leb, lt-leb}
 use denote.Ref.{now}
 use Rattle.record.proofs.Eight.{length-mapped}
 use Rattle.codec.proofs.Jobs.{write-plain, write-trimmed}
 use Rattle.codec.proofs.Sizes.{trimmed-size}
-use Rattle.codec.proofs.write.Statement.{statement}
+use Rattle.records.proofs.write.Statement.{statement}
 use Rattle.codec.specs.Codec.{fitsRecord, recordSize, written}
-use Rattle.codec.proofs.write.Tie as tie
+use Rattle.records.proofs.write.Tie as tie
 
 returns : tie.Need-returns
 unfolding written fitsRecord

@@ -7,9 +7,9 @@ use lib.ListN.{length}
 use lib.Seq.{length-take-le, take-all}
 use borrow.Author.Needs.{needs}
 use denote.Ref.{now}
-use Rattle.codec.proofs.front.Statement.{statement}
+use Rattle.records.proofs.front.Statement.{statement}
 use Rattle.codec.specs.Codec.{recordSize}
-use Rattle.codec.proofs.front.Tie as tie
+use Rattle.records.proofs.front.Tie as tie
 
 slice-aggregate-result : tie.Need-slice-aggregate-result
 slice-aggregate-result c = sym (length-take-le _ _ (le-of-lt (c .before .if1 .taken)))
