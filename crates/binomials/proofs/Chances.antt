@@ -14,11 +14,11 @@ use Rattle.outcome.specs.declared.Refusal.the-variants.{Settings as BadSettings
 use Rattle.federation.proofs.Lawful.{reflect-lawful}
 use Rattle.federation.specs.Federation.{Lawful, isLawful, thresholdOf}
 use Rattle.federation.specs.declared.Settings.{Settings}
-use Rattle.draw.proofs.Binomials.{choose-grows, choose-positive}
-use Rattle.draw.proofs.Rows.{choose-bound}
-use Rattle.draw.proofs.Rounding.{nearest, nearest-once, share-most}
-use Rattle.draw.specs.Binomials.{choose}
-use Rattle.draw.specs.Draw.{Drawn, absent, chance, drawOf, failing, thousandths, unlawful}
+use Rattle.binomials.proofs.Binomials.{choose-grows, choose-positive}
+use Rattle.binomials.proofs.Rows.{choose-bound}
+use Rattle.binomials.proofs.Rounding.{nearest, nearest-once, share-most}
+use Rattle.binomials.specs.Binomials.{choose}
+use Rattle.binomials.specs.Draw.{Drawn, absent, chance, drawOf, failing, thousandths, unlawful}
 
 module _ (s : Settings) (u : ℕ) (e : isLawful s ≡ true) (l : u ≤ s .n) where
   lawful : Lawful s

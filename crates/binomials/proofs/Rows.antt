@@ -8,9 +8,9 @@ use borrow.Author.Tests.{eq-eqb, eqb-true, leb-true, ltb-false, ltb-true, ne-eqb
 use Rattle.base.proofs.Reflect.{by-cases}
 use Rattle.base.proofs.Search.{all-at}
 use Rattle.base.specs.Search.{allBelow}
-use Rattle.draw.proofs.Binomials.{choose-first, choose-last, choose-sum}
-use Rattle.draw.specs.Binomials.{choose}
-use Rattle.draw.specs.Triangle.{Pascal, entryAt}
+use Rattle.binomials.proofs.Binomials.{choose-first, choose-last, choose-sum}
+use Rattle.binomials.specs.Binomials.{choose}
+use Rattle.binomials.specs.Triangle.{Pascal, entryAt}
 
 -- a test over rows and places is a fact at each
 pub at-both : (p : ℕ → ℕ → Bool) (rows : ℕ) (places : ℕ → ℕ) → allBelow rows (λ n. allBelow (places n) (p n)) ≡ true → (n k : ℕ) → n < rows → k < places n

@@ -14,9 +14,9 @@ use Rattle.outcome.specs.declared.Outcome.the-variants.{Done}
 use Rattle.federation.proofs.Lawful.{reflect-lawful}
 use Rattle.federation.specs.Federation.{Lawful, thresholdOf}
 use Rattle.federation.specs.declared.Settings.{Settings}
-use Rattle.draw.specs.Binomials.{choose, factorial}
-use Rattle.draw.specs.Draw.{drawOf, failing, thousandths, toEven}
-use Rattle.draw.specs.Halves.{C9, Kept, NearestUp, changed, halvesUp, same}
+use Rattle.binomials.specs.Binomials.{choose, factorial}
+use Rattle.binomials.specs.Draw.{drawOf, failing, thousandths, toEven}
+use Rattle.binomials.specs.Halves.{C9, Kept, NearestUp, changed, halvesUp, same}
 
 -- what "halves rounded up" means
 pub nearest-up : (part whole : ℕ) → 0 < whole → NearestUp part whole (halvesUp part whole)

@@ -9,8 +9,8 @@ use lib.Dec.{eqb}
 use lib.ListN.{drop, getD}
 use borrow.Author.Tests.{eqb-true}
 use Rattle.base.specs.Search.{allBelow}
-use Rattle.draw.proofs.Rows.{at-both}
-use Rattle.draw.specs.Triangle.{entryAt, triangle}
+use Rattle.binomials.proofs.Rows.{at-both}
+use Rattle.binomials.specs.Triangle.{entryAt, triangle}
 
 -- so many places of a row from one on, 0 past its end
 abbrev places : ℕ → ℕ → List ℕ → List ℕ

@@ -13,8 +13,8 @@ use Rattle.federation.specs.Federation.{isFederation, isKnown, isLawfulUpTo, th
 use Rattle.federation.specs.declared.Settings.{Settings}
 use Rattle.outcome.specs.declared.Outcome.the-variants.{Done, Refused}
 use Rattle.outcome.specs.declared.Refusal.the-variants.{TooManyAbsent}
-use Rattle.draw.specs.Binomials.{choose, factorial}
-use Rattle.draw.specs.Draw.{Nearest, drawOf, failing, gap, thousandths, toEven}
+use Rattle.binomials.specs.Binomials.{choose, factorial}
+use Rattle.binomials.specs.Draw.{Nearest, drawOf, failing, gap, thousandths, toEven}
 
 -- r thousandths are at most half a thousandth above the share and at most half below it, and on an exact half r is even
 pub record Rounded (part whole r : ℕ) : Type 0 where

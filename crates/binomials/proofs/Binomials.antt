@@ -8,7 +8,7 @@ use native.Mathlib.Omega.{arith}
 use lib.Dec.{ltb}
 use borrow.Author.Tests.{le-ltb, lt-ltb, ltb-false, ltb-true}
 use Rattle.base.proofs.Reflect.{by-cases}
-use Rattle.draw.specs.Binomials.{choose, factorial}
+use Rattle.binomials.specs.Binomials.{choose, factorial}
 
 factorial-positive : (n : ℕ) → 0 < factorial n
 unfolding factorial

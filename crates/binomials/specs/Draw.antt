@@ -9,7 +9,7 @@ use Rattle.outcome.specs.declared.Outcome.the-variants.{Done, Refused}
 use Rattle.outcome.specs.declared.Refusal.the-variants.{Settings as BadSettings, TooManyAbsent}
 use Rattle.federation.specs.Federation.{Lawful, isLawful, thresholdOf}
 use Rattle.federation.specs.declared.Settings.{Settings}
-use Rattle.draw.specs.Binomials.{choose}
+use Rattle.binomials.specs.Binomials.{choose}
 
 -- "an exact half to the even neighbour": of a number and the next
 unfoldable pub toEven : ℕ → ℕ

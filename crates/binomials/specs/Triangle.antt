@@ -4,7 +4,7 @@ use mathlib.Core.List.{List, [], _∷_}
 use mathlib.Core.Path.{_≡_}
 use Prim.Native.Nat.{_+_, _<_, _≤_, suc, ℕ}
 use lib.ListN.{getD}
-use Rattle.draw.specs.Binomials.{choose}
+use Rattle.binomials.specs.Binomials.{choose}
 
 -- a row to a line, as it is printed
 abbrev pub triangle : List (List ℕ)

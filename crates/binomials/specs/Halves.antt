@@ -5,8 +5,8 @@ use Rattle.outcome.specs.declared.Outcome.{Outcome}
 use Rattle.outcome.specs.declared.Outcome.the-variants.{Done}
 use Rattle.federation.specs.Federation.{thresholdOf}
 use Rattle.federation.specs.declared.Settings.{Settings}
-use Rattle.draw.specs.Binomials.{choose}
-use Rattle.draw.specs.Draw.{failing}
+use Rattle.binomials.specs.Binomials.{choose}
+use Rattle.binomials.specs.Draw.{failing}
 
 -- the rounding before M-103, document 01's "halves rounded up"
 unfoldable pub halvesUp : ℕ → ℕ → ℕ
