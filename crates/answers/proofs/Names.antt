@@ -14,7 +14,8 @@ use Rattle.rows.specs.Table.{letters}
 use Rattle.sets.specs.Bits.{hasBit}
 use Rattle.sets.specs.Jobs.{jobHas, jobWith, jobsBelow, noJobs}
 use Rattle.sets.specs.declared.job_set.JobSet.{JobSet}
-use Rattle.text.specs.Text.{Put, membersFrom}
+use Rattle.digits.specs.Digits.{Put}
+use Rattle.text.specs.Text.{membersFrom}
 
 -- what is still to be written of a list: nothing of it is written yet, or something is
 abbrev remaining : Bool → List ℕ → List ℕ

@@ -19,8 +19,8 @@ use Rattle.outcome.specs.declared.Outcome.{Outcome}
 use Rattle.rows.specs.Table.{letters}
 use Rattle.rows.specs.Writing.{longestBy, textBy}
 use Rattle.sets.specs.declared.job_set.JobSet.{JobSet}
-use Rattle.text.proofs.Writing.{made, then}
-use Rattle.text.specs.Text.{Put, decimal}
+use Rattle.digits.proofs.Writing.{made, then}
+use Rattle.digits.specs.Digits.{Put, decimal}
 use Rattle.vaults.specs.declared.Votes.{Votes}
 
 -- ---- the bytes from a place on

@@ -11,7 +11,7 @@ ghost use Rattle.answers.specs.Room.{answerLong, answerRoom};
 ghost use Rattle.explanations.specs.Answers.{answerText, doneText, jobLine, jobRow, refusedText};
 ghost use Rattle.ledger.specs.Decisions.{statusOf};
 ghost use Rattle.rows.specs.Writing.{textBy};
-ghost use Rattle.text.specs.Text.{Put};
+ghost use Rattle.digits.specs.Digits.{Put};
 use federation::Settings;
 use outcome::Outcome;
 use outcome::Verdict;

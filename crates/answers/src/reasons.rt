@@ -2,7 +2,7 @@
 ghost use Prim.Native.Nat.{_≤_};
 ghost use lib.ListN.{length};
 ghost use Rattle.explanations.specs.Words.{reason};
-ghost use Rattle.text.specs.Text.{Put};
+ghost use Rattle.digits.specs.Digits.{Put};
 
 // The rows one after the other, by their numbers; 0 is no refusal, and its row is empty.
 const REASONS: [u8; 1254] = *b"\

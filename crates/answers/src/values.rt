@@ -4,7 +4,7 @@ ghost use Prim.Native.Nat.{_*_, _+_, _<_, _≤_};
 ghost use lib.ListN.{length};
 ghost use Rattle.explanations.specs.Answers.{figure, names, toSign};
 ghost use Rattle.explanations.specs.Words.{meaning, status};
-ghost use Rattle.text.specs.Text.{Put};
+ghost use Rattle.digits.specs.Digits.{Put};
 use sets::JobSet;
 
 // The rows of `put_meaning` one after the other, by the kinds; those of 0 and 6 are empty.
@@ -111,5 +111,5 @@ pub(crate) fn put_figure(out: &mut [u8], at: usize, kind: u8, value: u32, member
     if kind == 13 {
         return put_names(out, at, members);
     }
-    text::write_number(out, at, value)
+    digits::write_number(out, at, value)
 }

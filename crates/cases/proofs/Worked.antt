@@ -14,8 +14,8 @@ use Rattle.journal.specs.Journal.{equalAt, equalIn, hasRoom, insideOf, slotAt}
 use Rattle.ledger.specs.State.{applied, booking, isSane, newLedger}
 use Rattle.ledger.specs.Decisions.{placing, proposal, settling}
 use Rattle.ledger.specs.Steps.{newOf, proposeDecision, proposeOf, saneGate}
-use Rattle.draw.specs.Binomials.{choose, factorial}
-use Rattle.draw.specs.Draw.{drawOf, failing, thousandths, toEven}
+use Rattle.binomials.specs.Binomials.{choose, factorial}
+use Rattle.binomials.specs.Draw.{drawOf, failing, thousandths, toEven}
 use Rattle.cases.specs.Table.{answered, given, table}
 
 pub cases : answered table ≡ given table

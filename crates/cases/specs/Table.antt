@@ -9,7 +9,7 @@ use Rattle.outcome.specs.declared.Outcome.{Outcome}
 use Rattle.outcome.specs.declared.Outcome.the-variants.{Done}
 use Rattle.ledger.specs.State.{newLedger}
 use Rattle.ledger.specs.Steps.{newOf, proposeOf}
-use Rattle.draw.specs.Draw.{drawOf}
+use Rattle.binomials.specs.Draw.{drawOf}
 
 pub record Row : Type 0 where
   pub case : ℕ

@@ -1,25 +1,24 @@
-// Reading a record and writing one.
+// The parts of a record: sizes, numbers and entries, and the definitions of the whole, which the crate `records` reads and writes.
 ghost use mathlib.Core.Path.{_≡_};
 ghost use Prim.Native.Nat.{_+_, _*_, _≤_, _<_, _^_};
-ghost use lib.ListN.{length, getD, take};
+ghost use lib.ListN.{length, getD};
 ghost use lib.Seq.{sets};
-ghost use Rattle.codec.specs.Codec.{leAt, leBytes, entryAt, entryBytes, jobOf, frontJob, bodyOf, fitsRecord, written};
+ghost use Rattle.codec.specs.Codec.{leAt, leBytes, entryAt, entryBytes, jobOf};
 ghost use Rattle.codec.specs.Codec.{saysTrimmed, recordSize, placeOf, wholeIn};
 ghost use Rattle.record.specs.Entries.{noEntry};
 use record::Entry;
-use record::Job;
 
 // How many bytes the longest record has, an entry, what stands before the entries, and what before the trimmed frames.
 pub const LONGEST: usize = 104;
 
-const ENTRY: usize = 12;
+pub const ENTRY: usize = 12;
 
-const HEAD: usize = 4;
+pub const HEAD: usize = 4;
 
-const BODY: usize = 100;
+pub const BODY: usize = 100;
 
 // Whether records of the version say how many frames are trimmed.
-fn says_trimmed(version: u16) -> bool
+pub fn says_trimmed(version: u16) -> bool
     ensures { λ r. ⌜ r ≡ saysTrimmed version ⌝ }
 {
     version == 2
@@ -51,7 +50,7 @@ pub fn whole_in(version: u16, n: usize) -> usize
 }
 
 // The byte at i; past the end it counts as 0.
-fn byte_at(s: &[u8], i: usize) -> u8
+pub fn byte_at(s: &[u8], i: usize) -> u8
     ensures { λ r. ⌜ r ≡ getD (now (s .entry)) i 0 ⌝ }
 {
     if i < s.len() {
@@ -61,7 +60,7 @@ fn byte_at(s: &[u8], i: usize) -> u8
 }
 
 // The little-endian number of count bytes from at on.
-fn number_at(s: &[u8], at: usize, count: usize) -> u64
+pub fn number_at(s: &[u8], at: usize, count: usize) -> u64
     requires { ⌜ (at < 65536) × (count ≤ 8) ⌝ }
     ensures { λ r. ⌜ (r ≡ leAt (now (s .entry)) at count) × (r < 2 ^ (8 * count)) ⌝ }
 {
@@ -101,7 +100,7 @@ fn entry_in(s: &[u8], at: usize) -> Entry
 }
 
 // Any entry; only one that is cut short is read byte by byte.
-fn entry_at(s: &[u8], at: usize) -> Entry
+pub fn entry_at(s: &[u8], at: usize) -> Entry
     requires { ⌜ at < 60000 ⌝ }
     ensures { λ r. ⌜ r ≡ entryAt (now (s .entry)) at ⌝ }
 {
@@ -140,45 +139,6 @@ pub fn outputs_of(bytes: &[u8]) -> u8
     byte_at(bytes, 3)
 }
 
-// The job of a record's own bytes; bytes past the end count as 0.
-fn said(bytes: &[u8]) -> Job
-    ensures { λ r. ⌜ r ≡ jobOf (now (bytes .entry)) ⌝ }
-{
-    let mut entries = [Entry {
-        label: 0,
-        frames: 0,
-    }; 8];
-    for i in 0..8 {
-        entries[i] = entry_at(bytes, HEAD + ENTRY * i);
-    }
-    Job {
-        kind: byte_at(bytes, 0),
-        drive: byte_at(bytes, 1),
-        inputs: byte_at(bytes, 2),
-        outputs: byte_at(bytes, 3),
-        entries,
-        trimmed: number_at(bytes, BODY, 4) as u32,
-    }
-}
-
-// The bytes of the record at the front.
-fn front(version: u16, bytes: &[u8]) -> &[u8]
-    ensures { λ r. ⌜ now r ≡ take (recordSize version) (now (bytes .entry)) ⌝ }
-{
-    let size = record_size(version);
-    if size < bytes.len() {
-        return &bytes[..size];
-    }
-    bytes
-}
-
-// The job of the record at the front; bytes past the end count as 0, and what follows the record is not read.
-pub fn read(version: u16, bytes: &[u8]) -> Job
-    ensures { λ r. ⌜ r ≡ frontJob version (now (bytes .entry)) ⌝ }
-{
-    said(front(version, bytes))
-}
-
 // A number's bytes, the low one first, where there is room for them.
 pub fn put_number(out: &mut [u8], at: usize, count: usize, value: u64)
     requires { ⌜ at + count ≤ length (now out) ⌝ }
@@ -191,39 +151,10 @@ pub fn put_number(out: &mut [u8], at: usize, count: usize, value: u64)
     }
 }
 
-fn put_entry(out: &mut [u8], at: usize, entry: Entry)
+pub fn put_entry(out: &mut [u8], at: usize, entry: Entry)
     requires { ⌜ at + 12 ≤ length (now out) ⌝ }
     ensures { λ _. ⌜ now (out .exit) ≡ sets (now (out .entry)) at (entryBytes entry) ⌝ }
 {
     put_number(out, at, 8, entry.label);
     put_number(out, at + 8, 4, entry.frames as u64);
-}
-
-// Puts at the front what records of both versions have.
-fn put_body(job: Job, out: &mut [u8])
-    requires { ⌜ 100 ≤ length (now out) ⌝ }
-    ensures { λ _. ⌜ now (out .exit) ≡ sets (now (out .entry)) 0 (bodyOf job) ⌝ }
-{
-    out[0] = job.kind;
-    out[1] = job.drive;
-    out[2] = job.inputs;
-    out[3] = job.outputs;
-    for i in 0..8 {
-        put_entry(out, HEAD + ENTRY * i, job.entries[i]);
-    }
-}
-
-// Puts the job's record at the front of out. An out that is too short is left as it was, and the answer is false.
-pub fn write(version: u16, job: Job, out: &mut [u8]) -> bool
-    ensures { λ r. ⌜ (r ≡ fitsRecord version (now (out .entry))) × (now (out .exit) ≡ written version job (now (out .entry))) ⌝ }
-{
-    if out.len() < record_size(version) {
-        return false;
-    }
-    put_body(job, out);
-    if says_trimmed(version) {
-        put_number(out, BODY, 4, job.trimmed as u64);
-        return true;
-    }
-    true
 }

@@ -13,8 +13,8 @@ use Rattle.codec.specs.Codec.{leAt}
 use Rattle.rows.specs.Table.{accession, rawRow, row, shaped}
 use Rattle.printing.specs.Member.{itemRoom}
 use Rattle.rows.specs.Writing.{fits, longestBy, textBy}
-use Rattle.text.proofs.Writing.{made, then}
-use Rattle.text.specs.Text.{Put}
+use Rattle.digits.proofs.Writing.{made, then}
+use Rattle.digits.specs.Digits.{Put}
 use Rattle.notation.specs.Lines.{hasShape, proposalRow, rowOf, shapedFor}
 use Rattle.words.specs.Room.{longestRow, rowRoom}
 use Rattle.disassembly.specs.Rows.{Stands}

@@ -16,8 +16,8 @@ use Rattle.rows.specs.Table.{letters, row}
 use Rattle.rows.specs.Writing.{longestBy, textBy}
 use Rattle.runfile.specs.Run.{headerSize, longest, opens, versionIn}
 use Rattle.runfile.specs.Steps.{kindAt, nextAt}
-use Rattle.text.proofs.Writing.{then}
-use Rattle.text.specs.Text.{Put}
+use Rattle.digits.proofs.Writing.{then}
+use Rattle.digits.specs.Digits.{Put}
 use Rattle.reading.specs.Reading.{Read}
 use Rattle.reading.specs.declared.Step.{Step}
 use Rattle.notation.proofs.Lengths.{at-brief, header-brief}

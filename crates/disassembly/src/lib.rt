@@ -12,7 +12,7 @@ ghost use Rattle.notation.specs.Lines.{lineOf, rowOf};
 ghost use Rattle.printing.specs.Member.{itemRoom};
 ghost use Rattle.rows.specs.Writing.{longestBy};
 ghost use Rattle.runfile.specs.Run.{headerSize, longest, opens, versionIn};
-ghost use Rattle.text.specs.Text.{Put};
+ghost use Rattle.digits.specs.Digits.{Put};
 
 // A buffer of this size takes any text: twenty characters for each byte of the longest file, and room for an item while it is written.
 pub const TEXT: usize = 1310920;

@@ -3,7 +3,7 @@ mod triangle;
 
 ghost use mathlib.Core.Path.{_≡_};
 ghost use Prim.Native.Nat.{_<_, _≤_};
-ghost use Rattle.draw.specs.Draw.{drawOf, thousandths};
+ghost use Rattle.binomials.specs.Draw.{drawOf, thousandths};
 use federation::Settings;
 use outcome::Outcome;
 use outcome::Refusal;

@@ -133,7 +133,7 @@ pub fn examine(version: u16, bytes: &[u8]) -> Verdict
     ensures { λ r. ⌜ r ≡ examined version (now (bytes .entry)) ⌝ }
 {
     if bytes.len() == codec::record_size(version) {
-        return check(codec::read(version, bytes));
+        return check(records::read(version, bytes));
     }
     Verdict::Fail(Refusal::Malformed)
 }

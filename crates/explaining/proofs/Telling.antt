@@ -24,7 +24,8 @@ use Rattle.sets.specs.declared.job_set.JobSet.{JobSet}
 use Rattle.naming.specs.declared.Remembered.{Remembered}
 use Rattle.telling.specs.Room.{stepLong, stepRoom}
 use Rattle.answers.specs.Room.{answerLong}
-use Rattle.text.specs.Text.{Put, longestText}
+use Rattle.digits.specs.Digits.{Put}
+use Rattle.text.specs.Text.{longestText}
 use Rattle.explaining.specs.Told.{Listed, Told, atFront, saidBy}
 
 -- ---- to carry out a step, its text goes into a buffer of its own

@@ -8,7 +8,7 @@ ghost use Rattle.explanations.specs.Words.{reason};
 ghost use Rattle.progress.specs.Pieces.{Going};
 ghost use Rattle.progress.specs.Turns.{Holds};
 ghost use Rattle.telling.specs.Room.{stepRoom};
-ghost use Rattle.text.specs.Text.{Put};
+ghost use Rattle.digits.specs.Digits.{Put};
 use ledger::Ledger;
 use naming::Remembered;
 use progress::Progress;

@@ -13,7 +13,8 @@ use Rattle.rows.specs.Writing.{textBy}
 use Rattle.codec.specs.Codec.{leAt}
 use Rattle.sets.specs.Bits.{hasBit, withBit}
 use Rattle.sets.specs.Jobs.{jobHas, jobWith, jobsBelow, noJobs}
-use Rattle.text.specs.Text.{decimal, digits, membersFrom}
+use Rattle.digits.specs.Digits.{decimal, digits}
+use Rattle.text.specs.Text.{membersFrom}
 use Rattle.explanations.specs.Answers.{answerText, doneText, figure, jobLine, names, refusedText, toSign}
 use Rattle.explanations.specs.Words.{meaning, reason, status}
 

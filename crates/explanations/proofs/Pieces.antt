@@ -9,7 +9,7 @@ use borrow.Author.Tests.{le-leb, lt-leb}
 use Rattle.ledger.specs.State.{votesAt}
 use Rattle.ledger.specs.declared.Ledger.{Ledger}
 use Rattle.runfile.specs.Run.{Run, begins, opens, turn}
-use Rattle.text.proofs.Writing.{made}
+use Rattle.digits.proofs.Writing.{made}
 use Rattle.explanations.specs.Answers.{jobLine}
 use Rattle.explanations.specs.Explained.{AllSaid, Said, Says, Whole, explained, explainedFrom, explainedNext, nextText, printed, sheetFrom, sheetNext}
 use Rattle.explanations.specs.Words.{reason}

@@ -15,7 +15,8 @@ use Rattle.rows.specs.Writing.{textBy}
 use Rattle.sets.specs.Bits.{hasBit}
 use Rattle.sets.specs.Jobs.{jobsBelow}
 use Rattle.sets.specs.declared.job_set.JobSet.{JobSet}
-use Rattle.text.specs.Text.{decimal, membersOf}
+use Rattle.digits.specs.Digits.{decimal}
+use Rattle.text.specs.Text.{membersOf}
 use Rattle.vaults.specs.declared.Votes.{Votes}
 use Rattle.explanations.specs.Words.{meaning, reason, status}
 

@@ -17,7 +17,7 @@ use Rattle.rows.specs.Table.{letters}
 use Rattle.runfile.specs.Run.{Run, begins, commandOf, ended, opens, turn}
 use Rattle.runfile.specs.Steps.{isUnknown, kindAt, listedBy, replyOf}
 use Rattle.sets.specs.declared.job_set.JobSet.{JobSet}
-use Rattle.text.specs.Text.{Put, decimal}
+use Rattle.digits.specs.Digits.{Put, decimal}
 use Rattle.explanations.specs.Answers.{answerText, jobLine}
 use Rattle.explanations.specs.Words.{reason}
 

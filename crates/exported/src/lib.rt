@@ -2,7 +2,7 @@
 ghost use Prim.Native.Nat.{_≤_};
 ghost use Rattle.release_file.specs.Releases.{releasesText};
 ghost use Rattle.progress.specs.Pieces.{Filled};
-ghost use Rattle.text.specs.Text.{Put};
+ghost use Rattle.digits.specs.Digits.{Put};
 
 // The first piece of the text, which is the whole of it in a buffer that has room for the longest text of one step more.
 #[no_mangle]

@@ -14,7 +14,7 @@ use Rattle.sets.specs.Jobs.{noJobs}
 use Rattle.codec.specs.Codec.{recordSize}
 use Rattle.journal.specs.Journal.{isBooked, isWhole, jobAt}
 use Rattle.equivocation.proofs.Partners.{listed-by}
-use Rattle.draw.specs.Draw.{drawOf}
+use Rattle.binomials.specs.Draw.{drawOf}
 use Rattle.ledger.proofs.Gates.{booked-entered, entered, in-place, reflect-sane}
 use Rattle.ledger.proofs.Places.{proposed}
 use Rattle.ledger.proofs.Writes.{unwritten}

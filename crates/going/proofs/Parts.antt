@@ -4,8 +4,8 @@ use mathlib.Core.Path.{_∙_, _≡_, ap, refl, sym}
 use Prim.Native.Nat.{ℕ}
 use native.Mathlib.Omega.{arith}
 use Rattle.progress.specs.Coming.{Part}
-use Rattle.text.specs.Text.{Put}
-use Rattle.text.proofs.Writing.{then}
+use Rattle.digits.specs.Digits.{Put}
+use Rattle.digits.proofs.Writing.{then}
 
 pub nothing-more : {text out : List ℕ} {at : ℕ} → Part text out at out at text
 nothing-more = record { piece = []; cut = refl; put = record { moved = omega arith; wrote = refl } }

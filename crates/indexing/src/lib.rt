@@ -140,7 +140,7 @@ pub fn build(
             records,
             version,
             journal,
-            codec::read(version, journal::slot(version, journal, k)),
+            records::read(version, journal::slot(version, journal, k)),
             k,
         );
     }

@@ -7,7 +7,7 @@ use Rattle.outcome.specs.declared.Verdict.{Verdict}
 use Rattle.outcome.specs.declared.Verdict.the-variants.{Fail, Pass}
 use Rattle.federation.specs.declared.Settings.{Settings}
 use Rattle.journal.specs.Journal.{isBooked}
-use Rattle.draw.specs.Draw.{drawOf}
+use Rattle.binomials.specs.Draw.{drawOf}
 use Rattle.ledger.specs.Decisions.{answering, clientPreflighting, committing, gated, preflighting, proposal, refusing}
 use Rattle.ledger.specs.Decisions.{releasing, snapshotting, statusOf, voting}
 use Rattle.ledger.specs.Steps.{gateOf}

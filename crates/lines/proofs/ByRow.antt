@@ -11,8 +11,8 @@ use borrow.Author.Tests.{eq-eqb, le-leb, le-ltb, lt-leb, lt-ltb, ne-eqb}
 use Rattle.base.proofs.Reflect.{and-false}
 use Rattle.rows.specs.Reading.{Parsed as Said, readBy}
 use Rattle.rows.specs.Table.{accession, migration, raw, rawRow, row, rows, shaped}
-use Rattle.text.proofs.Writing.{made}
-use Rattle.text.specs.Text.{Put}
+use Rattle.digits.proofs.Writing.{made}
+use Rattle.digits.specs.Digits.{Put}
 use Rattle.notation.specs.Lines.{proposalRead, rowFor, scan, secondHeader, noWord, stepRead, tooMany, unseen, wrong}
 use Rattle.notation.specs.declared.Shape.{Shape}
 use Rattle.parsing.specs.Took.{ReadTo}

@@ -12,10 +12,10 @@ use Rattle.rows.proofs.Sound.{read-size}
 use Rattle.rows.specs.Items.{formOf}
 use Rattle.rows.specs.Writing.{widths}
 use Rattle.runfile.specs.Run.{isHeader, longest, opened, opens, opensUpTo}
-use Rattle.text.proofs.Writing.{then}
+use Rattle.digits.proofs.Writing.{then}
 use Rattle.rows.specs.Reading.{Parsed as Said, readBy}
 use Rattle.rows.specs.Table.{letters, row}
-use Rattle.text.specs.Text.{Put}
+use Rattle.digits.specs.Digits.{Put}
 use Rattle.notation.specs.Files.{headerRead}
 use Rattle.notation.specs.Lines.{rowFor, wrong}
 use Rattle.parsing.specs.Took.{ReadTo}

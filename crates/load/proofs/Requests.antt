@@ -11,8 +11,9 @@ use Rattle.federation.proofs.Lawful.{reflect-lawful}
 use Rattle.generator.specs.Generator.{drawn, next}
 use Rattle.outcome.specs.declared.Outcome.the-variants.{Refused}
 use Rattle.outcome.specs.declared.Refusal.the-variants.{Settings as BadSettings}
-use Rattle.text.proofs.Writing.{then}
-use Rattle.text.specs.Text.{Put, lineFor}
+use Rattle.digits.proofs.Writing.{then}
+use Rattle.digits.specs.Digits.{Put}
+use Rattle.text.specs.Text.{lineFor}
 use Rattle.load.specs.Loads.{answerOf, isRequest, loadBytes, stepsBytes, stepsOf}
 use Rattle.load.specs.Plans.{faultyOf, planOf, planWith}
 use Rattle.load.specs.Steps.{headerBytes}

@@ -14,7 +14,7 @@ use Rattle.codec.proofs.Numbers.{sets-append}
 use Rattle.codec.specs.Codec.{bytesOf, fitsRecord, recordSize, saysTrimmed, written}
 use Rattle.generator.specs.Generator.{drawn, next}
 use Rattle.record.specs.declared.Job.{Job}
-use Rattle.text.specs.Text.{Put}
+use Rattle.digits.specs.Digits.{Put}
 use Rattle.load.specs.Loads.{stepsBytes, stepsFrom}
 use Rattle.load.specs.Records.{jobFor, mainJob, rivalJob, sideJob}
 use Rattle.load.specs.Steps.{stepBytes, stepFor}

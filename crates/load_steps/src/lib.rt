@@ -6,7 +6,7 @@ ghost use lib.ListN.{length};
 ghost use Rattle.codec.specs.Codec.{bytesOf, leBytes};
 ghost use Rattle.load.specs.Records.{jobFor};
 ghost use Rattle.load.specs.Steps.{headerBytes, stepBytes};
-ghost use Rattle.text.specs.Text.{Put};
+ghost use Rattle.digits.specs.Digits.{Put};
 use load::Step;
 
 fn put_two(out: &mut [u8], at: usize, a: u8, b: u8) -> usize
@@ -57,7 +57,7 @@ fn put_record(out: &mut [u8], at: usize, first: u32, job: u8) -> usize
     ensures { λ r. ⌜ Put (now (out .entry)) at (bytesOf 1 (jobFor first job)) (now (out .exit)) r × (r ≡ at + 100) ⌝ }
 {
     let end = at + 100;
-    codec::write(1, load_contents::job(first, job), &mut out[at..end]);
+    records::write(1, load_contents::job(first, job), &mut out[at..end]);
     end
 }
 

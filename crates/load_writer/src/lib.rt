@@ -5,7 +5,7 @@ ghost use lib.ListN.{length};
 ghost use Rattle.codec.specs.Codec.{leAt};
 ghost use Rattle.load.specs.Loads.{answerOf, isRequest, loadBytes, stepsBytes};
 ghost use Rattle.load.specs.Plans.{Fair};
-ghost use Rattle.text.specs.Text.{Put};
+ghost use Rattle.digits.specs.Digits.{Put};
 use federation::Settings;
 use load::Plan;
 use load_contents::wide;

@@ -18,7 +18,7 @@ use Rattle.rows.proofs.RoundTrip.{row-in}
 use Rattle.rows.specs.Items.{Form, between, constant, fitsAs, formOf, hexadecimal, isPlain, literal, members, number, plain, textAs, width}
 use Rattle.rows.specs.Table.{accession, half, letters, migration, row, shaped, times, trimmedRow}
 use Rattle.rows.specs.Writing.{endsNext, fits, longestBy, readable, textBy, widths}
-use Rattle.text.specs.Text.{decimal, digits}
+use Rattle.digits.specs.Digits.{decimal, digits}
 use Rattle.notation.specs.Files.{perByte}
 use Rattle.notation.specs.Lines.{closes, counted, mark, proposalRead, scan, unseen}
 use Rattle.notation.specs.declared.Shape.{Shape}

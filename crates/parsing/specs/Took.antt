@@ -5,7 +5,7 @@ use Prim.Native.Nat.{_≤_, ℕ}
 use lib.ListN.{drop, length}
 use Rattle.rows.specs.Items.{Token as Said}
 use Rattle.rows.specs.Reading.{Parsed as Said-row}
-use Rattle.text.specs.Text.{Put}
+use Rattle.digits.specs.Digits.{Put}
 use Rattle.parsing.specs.declared.Parsed.{Parsed}
 use Rattle.parsing.specs.declared.Token.{Token}
 

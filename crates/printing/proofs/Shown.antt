@@ -15,8 +15,8 @@ use Rattle.rows.proofs.Numbers.{above}
 use Rattle.rows.specs.Items.{between, fitsAs, formOf, hexadecimal, literal, members, number, hexDigit, isPlain, listed, setText, textAs, width}
 use Rattle.rows.specs.Table.{letters}
 use Rattle.sets.specs.Bits.{hasBit}
-use Rattle.text.proofs.Writing.{then}
-use Rattle.text.specs.Text.{Put, decimal}
+use Rattle.digits.proofs.Writing.{then}
+use Rattle.digits.specs.Digits.{Put, decimal}
 use Rattle.words.proofs.Copies.{put-none}
 use Rattle.printing.specs.Member.{Shown, member}
 

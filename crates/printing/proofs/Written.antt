@@ -11,7 +11,7 @@ use Rattle.codec.specs.Codec.{leAt}
 use Rattle.parsing.proofs.Turns.{at-end, at-place}
 use Rattle.rows.specs.Items.{fitsAs, formOf, textAs, width}
 use Rattle.rows.specs.Writing.{fits, longestAs, longestBy, textBy}
-use Rattle.text.specs.Text.{Put}
+use Rattle.digits.specs.Digits.{Put}
 
 -- ---- fitting
 pub record Fitting (row s : List ℕ) (i at : ℕ) : Type 0 where

@@ -5,7 +5,7 @@ use Prim.Native.Nat.{_+_, _≤_, ℕ}
 use Rattle.rows.specs.Items.{formOf, textAs}
 use Rattle.rows.specs.Table.{letters}
 use Rattle.rows.specs.Writing.{longestAs}
-use Rattle.text.specs.Text.{Put, decimal}
+use Rattle.digits.specs.Digits.{Put, decimal}
 
 unfoldable pub member : Bool → ℕ → List ℕ
 member first i = cond first [] (letters ",") ++ decimal i

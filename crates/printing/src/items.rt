@@ -5,7 +5,7 @@ ghost use Prim.Native.Nat.{_%_, _+_, _/_, _<_, _^_, _≤_};
 ghost use lib.ListN.{length};
 ghost use Rattle.rows.specs.Items.{fitsAs, formOf, hexDigit, isPlain, setText, width};
 ghost use Rattle.printing.specs.Member.{Shown, itemRoom, member};
-ghost use Rattle.text.specs.Text.{Put};
+ghost use Rattle.digits.specs.Digits.{Put};
 
 // The value can be said: a byte that is not shown is the row's, and a label has its characters.
 pub(crate) fn fits(i: u8, value: u32) -> bool
@@ -67,10 +67,10 @@ pub fn put_member(out: &mut [u8], at: usize, first: bool, vault: u8) -> usize
     ensures { λ r. ⌜ Put (now (out .entry)) at (member first vault) (now (out .exit)) r × (r ≤ at + 11) ⌝ }
 {
     if first {
-        return text::write_number(out, at, wide(vault));
+        return digits::write_number(out, at, wide(vault));
     }
     let end = put_byte(out, at, b',');
-    text::write_number(out, end, wide(vault))
+    digits::write_number(out, end, wide(vault))
 }
 
 fn put_set(out: &mut [u8], at: usize, set: u16) -> usize
@@ -103,10 +103,10 @@ pub(crate) fn write(i: u8, value: u32, out: &mut [u8], at: usize) -> usize
         return at;
     }
     if i == b'#' {
-        return text::write_number(out, at, value);
+        return digits::write_number(out, at, value);
     }
     if i == b'$' {
-        return text::write_number(out, at, value);
+        return digits::write_number(out, at, value);
     }
     if i == b'@' {
         return put_set(out, at, value as u16);

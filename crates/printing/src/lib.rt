@@ -7,7 +7,7 @@ ghost use lib.ListN.{drop, getD, length};
 ghost use Rattle.codec.specs.Codec.{leAt};
 ghost use Rattle.rows.specs.Writing.{fits, longestBy, textBy};
 ghost use Rattle.printing.specs.Member.{itemRoom};
-ghost use Rattle.text.specs.Text.{Put};
+ghost use Rattle.digits.specs.Digits.{Put};
 pub use items::put_member;
 
 fn wide(x: u8) -> u32

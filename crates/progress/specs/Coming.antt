@@ -13,7 +13,8 @@ use Rattle.ledger.specs.declared.Ledger.{Ledger}
 use Rattle.runfile.specs.Run.{Run, lastFrom, textFrom}
 use Rattle.reading.specs.declared.Step.{Step}
 use Rattle.naming.specs.declared.Remembered.{Remembered}
-use Rattle.text.specs.Text.{Put, longestText}
+use Rattle.digits.specs.Digits.{Put}
+use Rattle.text.specs.Text.{longestText}
 use Rattle.progress.specs.declared.Progress.{Progress}
 use Rattle.progress.specs.declared.Turned.{Turned}
 use Rattle.progress.specs.declared.Cursor.{Cursor}

@@ -8,7 +8,8 @@ use lib.ListN.{length, replicate, take}
 use Rattle.journal.specs.Journal.{capacity}
 use Rattle.index.specs.Places.{numbersSize, setsSize}
 use Rattle.index.specs.Records.{recordsSize}
-use Rattle.text.specs.Text.{Put, longestText}
+use Rattle.digits.specs.Digits.{Put}
+use Rattle.text.specs.Text.{longestText}
 use Rattle.ledger.specs.declared.Ledger.{Ledger}
 use Rattle.runfile.specs.Run.{Run, begins, headerSize, journalSize, lastFrom, longest, opens, runText, textFrom}
 use Rattle.progress.specs.declared.Progress.{Progress}

@@ -9,7 +9,8 @@ use Rattle.runfile.specs.Run.{Run, commandOf, textOf, turn}
 use Rattle.runfile.specs.Steps.{listedBy, replyOf}
 use Rattle.naming.specs.Kept.{Right}
 use Rattle.naming.specs.declared.Remembered.{Remembered}
-use Rattle.text.specs.Text.{Put, longestText}
+use Rattle.digits.specs.Digits.{Put}
+use Rattle.text.specs.Text.{longestText}
 use Rattle.progress.specs.declared.Progress.{Progress}
 use Rattle.progress.specs.declared.Turned.{Turned}
 use Rattle.progress.specs.Pieces.{Going, runOf}

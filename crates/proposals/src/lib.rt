@@ -64,7 +64,7 @@ pub fn propose(
     if bytes.len() != codec::record_size(version) {
         return decisions::refuse(Refusal::Malformed);
     }
-    let job = codec::read(version, bytes);
+    let job = records::read(version, bytes);
     let verdict = examination::check(job);
     match verdict {
         Verdict::Pass => settle(records, version, journal, booked, bytes, job),

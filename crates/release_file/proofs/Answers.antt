@@ -20,7 +20,8 @@ use Rattle.progress.specs.Pieces.{Going, Started, blank, runOf}
 use Rattle.progress.specs.declared.Progress.{Progress}
 use Rattle.runfile.specs.History.{finalRun}
 use Rattle.runfile.specs.Run.{journalSize, lastFrom, opens}
-use Rattle.text.specs.Text.{Put, lineFor}
+use Rattle.digits.specs.Digits.{Put}
+use Rattle.text.specs.Text.{lineFor}
 
 -- a run that check 1 has let through begins on tables of zeros
 pub begun : (input journal before after : List ℕ) (p : Progress) → opens input ≡ true → journal ≡ blank journalSize → Started input before after p

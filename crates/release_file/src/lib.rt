@@ -4,7 +4,7 @@ mod unread;
 
 ghost use Prim.Native.Nat.{_≤_};
 ghost use Rattle.release_file.specs.Releases.{releasesText};
-ghost use Rattle.text.specs.Text.{Put};
+ghost use Rattle.digits.specs.Digits.{Put};
 use outcome::Outcome;
 use outcome::Refusal;
 

@@ -40,7 +40,7 @@ fn list_job(
 {
     if is_finished(settings, votes.acknowledgements) {
         let version = settings.version;
-        let job = codec::read(version, journal::lookup(version, journal, booked, k));
+        let job = records::read(version, journal::lookup(version, journal, booked, k));
         return release_lines::list_inputs(out, cursor, job, k as u32);
     }
     cursor

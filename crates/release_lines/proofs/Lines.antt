@@ -14,8 +14,8 @@ use Rattle.record.specs.Entries.{isUsed, noEntry}
 use Rattle.record.specs.declared.Entry.{Entry}
 use Rattle.record.specs.declared.Job.{Job}
 use Rattle.consequences.specs.Freed.{Freed}
-use Rattle.text.proofs.Writing.{then}
-use Rattle.text.specs.Text.{Put}
+use Rattle.digits.proofs.Writing.{then}
+use Rattle.digits.specs.Digits.{Put}
 use Rattle.release_lines.specs.Tapes.{Listed, ofJob, tapeLine, tapeLines}
 use Rattle.release_lines.specs.declared.Cursor.{Cursor}
 

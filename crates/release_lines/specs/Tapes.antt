@@ -6,7 +6,7 @@ use lib.ListN.{length}
 use Rattle.codec.specs.Codec.{leBytes}
 use Rattle.record.specs.declared.Entry.{Entry}
 use Rattle.consequences.specs.Freed.{Freed}
-use Rattle.text.specs.Text.{Put, decimal}
+use Rattle.digits.specs.Digits.{Put, decimal}
 use Rattle.release_lines.specs.declared.Cursor.{Cursor}
 
 -- a label is eight characters, the first one lowest

@@ -5,7 +5,7 @@ ghost use Prim.Native.Nat.{_*_, _+_, _<_, _≤_};
 ghost use lib.ListN.{length};
 ghost use Rattle.codec.specs.Codec.{leBytes};
 ghost use Rattle.conflicts.specs.Tapes.{usedFrom};
-ghost use Rattle.text.specs.Text.{Put};
+ghost use Rattle.digits.specs.Digits.{Put};
 ghost use Rattle.release_lines.specs.Tapes.{Listed, longestTape, ofJob, tapeLine};
 use record::Entry;
 use record::Job;
@@ -29,11 +29,11 @@ fn write_tape(out: &mut [u8], at: usize, tape: Entry, job: u32) -> usize
     ensures { λ r. ⌜ Put (now (out .entry)) at (tapeLine (record { tape = tape; job = job })) (now (out .exit)) r × (r ≤ at + longestTape) ⌝ }
 {
     let a = write_label(out, at, tape.label);
-    let b = text::write_byte(out, a, b' ');
-    let c = text::write_number(out, b, tape.frames);
-    let d = text::write_byte(out, c, b' ');
-    let e = text::write_some(out, d, job);
-    text::write_byte(out, e, b'\n')
+    let b = digits::write_byte(out, a, b' ');
+    let c = digits::write_number(out, b, tape.frames);
+    let d = digits::write_byte(out, c, b' ');
+    let e = digits::write_some(out, d, job);
+    digits::write_byte(out, e, b'\n')
 }
 
 // Entry e of a job, where it is used.

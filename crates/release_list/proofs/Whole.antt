@@ -11,8 +11,8 @@ use Rattle.outcome.specs.declared.Outcome.the-variants.{Done, Refused}
 use Rattle.outcome.specs.declared.Refusal.{Refusal}
 use Rattle.outcome.specs.declared.Verdict.{Verdict}
 use Rattle.outcome.specs.declared.Verdict.the-variants.{Fail, Pass}
-use Rattle.text.proofs.Writing.{then}
-use Rattle.text.specs.Text.{Put, decimal}
+use Rattle.digits.proofs.Writing.{then}
+use Rattle.digits.specs.Digits.{Put, decimal}
 use Rattle.release_lines.specs.Tapes.{Listed}
 use Rattle.release_lines.specs.declared.Cursor.{Cursor}
 use Rattle.release_list.specs.Listing.{Released, listText, tapesFreed}

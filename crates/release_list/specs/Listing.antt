@@ -12,7 +12,7 @@ use Rattle.outcome.specs.declared.Outcome.{Outcome}
 use Rattle.outcome.specs.declared.Outcome.the-variants.{Done, Refused}
 use Rattle.outcome.specs.declared.Verdict.{Verdict}
 use Rattle.outcome.specs.declared.Verdict.the-variants.{Fail, Pass}
-use Rattle.text.specs.Text.{Put, decimal}
+use Rattle.digits.specs.Digits.{Put, decimal}
 use Rattle.release_lines.specs.Tapes.{tapeLines}
 use Rattle.release_list.specs.declared.Releases.{Releases}
 

@@ -5,7 +5,7 @@ ghost use lib.ListN.{length};
 ghost use Rattle.codec.specs.Codec.{placeOf};
 ghost use Rattle.ledger.specs.State.{versionOf};
 ghost use Rattle.release_list.specs.Listing.{Released, listText, tapesFreed};
-ghost use Rattle.text.specs.Text.{Put};
+ghost use Rattle.digits.specs.Digits.{Put};
 use ledger::Ledger;
 use outcome::Outcome;
 use outcome::Verdict;
@@ -26,8 +26,8 @@ fn write_list(out: &mut [u8], ledger: Ledger, journal: &[u8]) -> Cursor
         × (r .at ≤ 12805) × (r .count ≡ length (tapesFreed ledger (now (journal .entry)))) ⌝ }
 {
     let end = release_jobs::list_jobs(out, ledger, journal);
-    let at = text::write_some(out, end.at, end.count);
-    let at = text::write_byte(out, at, b'\n');
+    let at = digits::write_some(out, end.at, end.count);
+    let at = digits::write_byte(out, at, b'\n');
     Cursor {
         at,
         count: end.count,

@@ -9,15 +9,15 @@ pub fn reread(version: u16, job: Job) -> Job
     ensures { λ r. ⌜ r ≡ saidOf version job ⌝ }
 {
     let mut bytes = [0u8; codec::LONGEST];
-    codec::write(version, job, &mut bytes);
-    codec::read(version, &bytes)
+    records::write(version, job, &mut bytes);
+    records::read(version, &bytes)
 }
 
 fn again(version: u16, bytes: &[u8], out: &mut [u8])
     requires { ⌜ (length (now bytes) ≡ recordSize version) × (length (now out) ≡ recordSize version) ⌝ }
     ensures { λ _. ⌜ now (out .exit) ≡ now (bytes .entry) ⌝ }
 {
-    codec::write(version, codec::read(version, bytes), out);
+    records::write(version, records::read(version, bytes), out);
 }
 
 // The record of the job that the bytes say: it is the same bytes, in version 1 and in version 2.

@@ -10,7 +10,7 @@ use borrow.Author.Tests.{ltb-false}
 use Rattle.base.proofs.Reflect.{by-test}
 use Rattle.codec.specs.Codec.{AreBytes, leAt}
 use Rattle.sets.specs.Bits.{hasBit}
-use Rattle.text.specs.Text.{decimal, digits}
+use Rattle.digits.specs.Digits.{decimal, digits}
 use Rattle.rows.specs.Items.{Form, constant, formOf, hexDigit, hexadecimal, listed, literal, members, number, plain, setText, textAs, width}
 use Rattle.rows.specs.Table.{letters}
 use Rattle.rows.specs.Writing.{longestAs, longestBy, textBy}

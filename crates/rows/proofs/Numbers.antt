@@ -10,7 +10,7 @@ use borrow.Author.Tests.{le-leb, le-ltb, lt-leb, lt-ltb, ltb-false, ltb-true}
 use Rattle.base.proofs.Reflect.{and-true, by-test, or-false, reflect-false}
 use Rattle.codec.specs.Codec.{AreBytes, leAt}
 use Rattle.sets.specs.Bits.{withMember}
-use Rattle.text.specs.Text.{decimal, digits}
+use Rattle.digits.specs.Digits.{decimal, digits}
 use Rattle.rows.specs.Items.{between, closed, fine, hexDigit, hexOf, isDigit, numbersIn}
 use Rattle.rows.specs.Writing.{ends}
 

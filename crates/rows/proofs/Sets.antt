@@ -12,7 +12,7 @@ use Rattle.base.proofs.Reflect.{and-true, by-cases, by-test}
 use Rattle.base.specs.Lists.{sameList}
 use Rattle.sets.proofs.Bits.{has-member-other, has-member-same, has-none, member-lt, members-same}
 use Rattle.sets.specs.Bits.{hasBit, withMember}
-use Rattle.text.specs.Text.{decimal}
+use Rattle.digits.specs.Digits.{decimal}
 use Rattle.rows.specs.Items.{Token, fault, fine, listed, noNumber, numbersIn, saysNone, setIn, setText}
 use Rattle.rows.specs.Table.{letters}
 use Rattle.rows.proofs.Numbers.{decimal-in, ended, endsHead}

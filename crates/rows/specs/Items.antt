@@ -7,7 +7,7 @@ use lib.Dec.{eqb, leb, ltb}
 use lib.ListN.{drop, getD, take}
 use Rattle.base.specs.Lists.{sameList}
 use Rattle.sets.specs.Bits.{hasBit, withMember}
-use Rattle.text.specs.Text.{decimal}
+use Rattle.digits.specs.Digits.{decimal}
 use Rattle.rows.specs.Table.{letters}
 
 -- a byte that is not shown, a number of so many bytes, a set of vaults, a byte in hexadecimal, a label's character, and a character that stands for itself

@@ -7,7 +7,8 @@ use native.Mathlib.Omega.{arith}
 use lib.ListN.{length}
 use Rattle.progress.specs.Pieces.{Advanced, Filled, Piece, Started, blank, runOf}
 use Rattle.runfile.specs.Run.{journalSize, runText}
-use Rattle.text.specs.Text.{Put, longestText}
+use Rattle.digits.specs.Digits.{Put}
+use Rattle.text.specs.Text.{longestText}
 use Rattle.progress.specs.declared.Progress.{Progress}
 use Rattle.run.proofs.Pieces.{nothing-yet}
 use Rattle.runfile.proofs.Turns.{none-left}

@@ -6,9 +6,9 @@ use lib.ListN.{length, take}
 use native.Mathlib.Omega.{arith}
 use Rattle.progress.specs.Pieces.{Piece, Pieces, Printed, Whole, printed}
 use Rattle.runfile.specs.Run.{Run, textFrom}
-use Rattle.text.specs.Text.{Put}
+use Rattle.digits.specs.Digits.{Put}
 use Rattle.runfile.proofs.Turns.{none-left}
-use Rattle.text.proofs.Writing.{made, then}
+use Rattle.digits.proofs.Writing.{made, then}
 
 pub nothing-yet : {text rest out : List ℕ} → text ≡ rest → Piece text out out 0 rest
 nothing-yet e = record { piece = []; cut = e; put = record { moved = refl; wrote = refl }; fits = omega arith }

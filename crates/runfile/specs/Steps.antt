@@ -9,7 +9,7 @@ use Rattle.outcome.specs.declared.Outcome.the-variants.{Refused}
 use Rattle.outcome.specs.declared.Refusal.the-variants.{Unreadable}
 use Rattle.sets.specs.Jobs.{noJobs}
 use Rattle.sets.specs.declared.job_set.JobSet.{JobSet}
-use Rattle.draw.specs.Draw.{drawOf}
+use Rattle.binomials.specs.Draw.{drawOf}
 use Rattle.codec.specs.Codec.{recordSize}
 use Rattle.vaults.specs.declared.Column.the-variants.{Acknowledgements, Signatures}
 use Rattle.ledger.specs.Steps.{dependenciesOf, equivocatorsOf}

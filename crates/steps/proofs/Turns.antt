@@ -8,7 +8,8 @@ use Rattle.ledger.specs.Given.{Writable}
 use Rattle.ledger.specs.declared.Decision.{Decision}
 use Rattle.ledger.specs.declared.Listing.{Listing}
 use Rattle.text.proofs.Members.{nothing-listed}
-use Rattle.text.specs.Text.{Put, lineFor, longestLine, longestText, textFor}
+use Rattle.digits.specs.Digits.{Put}
+use Rattle.text.specs.Text.{lineFor, longestLine, longestText, textFor}
 use Rattle.steps.proofs.Quiet.{writable}
 use Rattle.questions.specs.Answers.{Answered, alone, surveyed}
 use Rattle.naming.specs.Kept.{Found}

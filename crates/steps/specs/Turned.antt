@@ -9,7 +9,8 @@ use Rattle.journal.specs.Journal.{capacity, jobAt}
 use Rattle.ledger.specs.declared.Decision.{Decision}
 use Rattle.ledger.specs.declared.Listing.{Listing}
 use Rattle.runfile.specs.Steps.{commandIn}
-use Rattle.text.specs.Text.{Put, longestText, textFor}
+use Rattle.digits.specs.Digits.{Put}
+use Rattle.text.specs.Text.{longestText, textFor}
 use Rattle.kinds.specs.Decided.{decidedBy}
 use Rattle.questions.specs.Answers.{alone, surveyed}
 use Rattle.naming.specs.Kept.{Found}

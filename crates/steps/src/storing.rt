@@ -34,7 +34,7 @@ pub(crate) fn store(
             records,
             version,
             &journal[..],
-            codec::read(version, bytes),
+            records::read(version, bytes),
             booked,
         );
         return;

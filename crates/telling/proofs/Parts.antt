@@ -30,8 +30,8 @@ use Rattle.runfile.specs.declared.Kind.{Kind}
 use Rattle.runfile.specs.declared.Kind.the-variants.{ClientPreflight, Commit, Dependencies, Draw, Equivocating, FaultyAcknowledge, FaultySign, Generations}
 use Rattle.runfile.specs.declared.Kind.the-variants.{Preflight, Propose, Release, Show, Snapshot, Unknown}
 use Rattle.sets.specs.declared.job_set.JobSet.{JobSet}
-use Rattle.text.proofs.Writing.{then}
-use Rattle.text.specs.Text.{Put, decimal}
+use Rattle.digits.proofs.Writing.{then}
+use Rattle.digits.specs.Digits.{Put, decimal}
 use Rattle.words.proofs.Copies.{put-none}
 
 -- ---- the text of a step

@@ -8,7 +8,7 @@ ghost use Rattle.explanations.specs.Explained.{answerAt, saidAt, stepText};
 ghost use Rattle.federation.specs.Federation.{latest, thresholdOf};
 ghost use Rattle.runfile.specs.Run.{longest};
 ghost use Rattle.telling.specs.Room.{lineLong, lineRoom, stepLong, stepRoom};
-ghost use Rattle.text.specs.Text.{Put};
+ghost use Rattle.digits.specs.Digits.{Put};
 use federation::Settings;
 use outcome::Outcome;
 use sets::JobSet;
@@ -83,7 +83,7 @@ pub fn put_step(
         (stepText number settings (now (journal .entry)) booked (now (input .entry)) pos outcome members) (now (out .exit)) r
         × (r ≤ stepLong) ⌝ }
 {
-    let a = text::write_number(out, 0, number);
+    let a = digits::write_number(out, 0, number);
     let b = put_said(settings.version, input, pos, out, a);
     let c = words::put(out, b, b": ");
     let d = put_answer(

@@ -21,8 +21,9 @@ use Rattle.sets.proofs.Jobs.{job-without-other, job-without-same, jobs-same, wi
 use Rattle.sets.specs.Bits.{bit, hasBit}
 use Rattle.sets.specs.Jobs.{InWords, jobCount, jobHas, jobWith, jobWithout, noJobs}
 use Rattle.sets.specs.declared.job_set.JobSet.{JobSet}
-use Rattle.text.proofs.Writing.{then}
-use Rattle.text.specs.Text.{AscendFrom, Lists, Put, lineFor, linesOf, longestLines, membersFrom, membersOf, numberLine, textFor}
+use Rattle.digits.proofs.Writing.{then}
+use Rattle.digits.specs.Digits.{Put}
+use Rattle.text.specs.Text.{AscendFrom, Lists, lineFor, linesOf, longestLines, membersFrom, membersOf, numberLine, textFor}
 
 -- ---- the first bit
 

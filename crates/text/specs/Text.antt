@@ -1,31 +1,17 @@
 -- What is printed: "For each step a line: step number from 1, 0 or the refusal, a value; single spaces between", and a line for each number that
--- it lists. Text is written at a cursor.
+-- it lists.
 use mathlib.Core.Bool.{cond, true}
 use mathlib.Core.List.{List, [], _++_, _∷_}
 use mathlib.Core.Logic.{_↔_}
 use mathlib.Core.Path.{_≡_}
-use Prim.Native.Nat.{_+_, _/_, _%_, _≤_, suc, zero, ℕ}
-use lib.Dec.{ltb}
+use Prim.Native.Nat.{_≤_, suc, zero, ℕ}
 use lib.ListN.{length}
-use lib.Seq.{sets}
 use Rattle.base.specs.Lists.{In}
+use Rattle.digits.specs.Digits.{decimal}
 use Rattle.outcome.specs.Figures.{numberOf, valueOf}
 use Rattle.outcome.specs.declared.Outcome.{Outcome}
 use Rattle.sets.specs.Jobs.{jobCount, jobHas}
 use Rattle.sets.specs.declared.job_set.JobSet.{JobSet}
-
--- the digits of n, of which there are at most k + 1
-unfoldable pub digits : ℕ → ℕ → List ℕ
-digits zero n = (48 + n) ∷ []
-digits (suc k) n = cond (ltb n 10) ((48 + n) ∷ []) (digits k (n / 10) ++ ((48 + n % 10) ∷ []))
-
--- a number in decimal: it has no more than n + 1 digits
-unfoldable pub decimal : ℕ → List ℕ
-decimal n = digits n n
-
--- the two digits of a number below 100
-abbrev pub twoDigits : ℕ → List ℕ
-twoDigits n = (48 + n / 10) ∷ (48 + n % 10) ∷ []
 
 -- a line: three numbers, single spaces between
 unfoldable pub lineOf : ℕ → ℕ → ℕ → List ℕ
@@ -77,8 +63,3 @@ textFor step outcome members = lineFor step outcome ++ linesOf (membersOf member
 -- a line and as many numbers as a set can have
 abbrev pub longestText : ℕ
 longestText = 663
-
--- the text was written at the cursor, which moved on by its length
-pub record Put (before : List ℕ) (at : ℕ) (text after : List ℕ) (r : ℕ) : Type 0 where
-  pub moved : r ≡ at + length text
-  pub wrote : after ≡ sets before at text

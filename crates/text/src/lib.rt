@@ -1,14 +1,11 @@
 // What is printed for a step: its line, in decimal, and the numbers that it lists.
-mod digits;
 mod listing;
 
 ghost use mathlib.Core.Path.{_≡_};
 ghost use Prim.Native.Nat.{_+_, _<_, _≤_};
 ghost use lib.ListN.{length};
-ghost use Rattle.text.specs.Text.{Put, lineFor, lineOf, longestLine, longestText, textFor};
-pub use digits::write_byte;
-pub use digits::write_number;
-pub use digits::write_some;
+ghost use Rattle.digits.specs.Digits.{Put};
+ghost use Rattle.text.specs.Text.{lineFor, lineOf, longestLine, longestText, textFor};
 use outcome::Outcome;
 use sets::JobSet;
 

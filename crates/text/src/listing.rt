@@ -5,8 +5,8 @@ ghost use lib.ListN.{length};
 ghost use lib.Count.{trailingZeros};
 ghost use Rattle.base.specs.Search.{firstBelow};
 ghost use Rattle.sets.specs.Jobs.{jobHas};
-ghost use Rattle.text.specs.Text.{Put, linesOf, longestLines, membersOf, numberLine};
-use crate::digits;
+ghost use Rattle.digits.specs.Digits.{Put};
+ghost use Rattle.text.specs.Text.{linesOf, longestLines, membersOf, numberLine};
 use sets::JobSet;
 
 // The first bit of a word, or 64.

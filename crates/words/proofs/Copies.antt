@@ -12,8 +12,8 @@ use lib.Seq.{drop-cons, drop-length, length-sets, sets}
 use Rattle.codec.proofs.Numbers.{sets-append}
 use Rattle.codec.specs.Codec.{recordSize, saysTrimmed}
 use Rattle.rows.specs.Table.{half, letters, rawRow, row, shaped, times, trimmedRow}
-use Rattle.text.proofs.Writing.{then}
-use Rattle.text.specs.Text.{Put}
+use Rattle.digits.proofs.Writing.{then}
+use Rattle.digits.specs.Digits.{Put}
 use Rattle.words.specs.Room.{arrow}
 use borrow.Author.Tests.{eq-eqb, ne-eqb}
 

@@ -1,5 +1,5 @@
 -- The row, then the line's end.
-use Rattle.text.proofs.Writing.{then}
+use Rattle.digits.proofs.Writing.{then}
 use Rattle.explaining.proofs.refuse.Statement.{statement}
 use Rattle.explaining.proofs.refuse.Tie as tie
 use native.Mathlib.Omega.{arith}

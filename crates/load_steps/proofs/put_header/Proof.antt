@@ -2,7 +2,7 @@
 use native.Mathlib.Omega.{arith}
 use borrow.Author.Needs.{needs}
 use Rattle.codec.specs.Codec.{leBytes}
-use Rattle.text.proofs.Writing.{then}
+use Rattle.digits.proofs.Writing.{then}
 use Rattle.load_steps.proofs.put_header.Statement.{statement}
 use Rattle.load.specs.Steps.{headerBytes}
 use Rattle.load_steps.proofs.put_header.Tie as tie

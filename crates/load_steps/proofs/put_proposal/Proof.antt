@@ -1,7 +1,7 @@
 -- The kind, then the record.
 use native.Mathlib.Omega.{arith}
 use borrow.Author.Needs.{needs}
-use Rattle.text.proofs.Writing.{then}
+use Rattle.digits.proofs.Writing.{then}
 use Rattle.load_steps.proofs.put_proposal.Statement.{statement}
 use Rattle.load_steps.proofs.put_proposal.Tie as tie
 

@@ -1,4 +1,4 @@
-use Rattle.text.proofs.Writing.{then}
+use Rattle.digits.proofs.Writing.{then}
 use Rattle.text.proofs.write_text.Statement.{statement}
 use Rattle.text.proofs.write_text.Tie as tie
 use borrow.Author.Needs.{needs}

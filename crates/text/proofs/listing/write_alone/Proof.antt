@@ -1,6 +1,6 @@
 use borrow.Author.Needs.{needs}
 use native.Mathlib.Omega.{arith}
-use Rattle.text.proofs.Writing.{then}
+use Rattle.digits.proofs.Writing.{then}
 use Rattle.text.specs.Text.{numberLine}
 use Rattle.text.proofs.listing.write_alone.Statement.{statement}
 use Rattle.text.proofs.listing.write_alone.Tie as tie
