@@ -1,3 +1,3 @@
-pub mod Chosen
+pub mod Made
 pub mod Saying
 pub mod Walks

@@ -26,7 +26,7 @@ use Rattle.notation.proofs.Views.{known-at, opened-of}
 use Rattle.notation.specs.Files.{bytesAt, disassembled, headerLine, isKnown, linesFrom, longestText, perByte, sayable, wholeFrom}
 use Rattle.notation.specs.Lines.{lineOf, rowOf}
 use Rattle.disassembly.specs.Printed.{printed, textRoom}
-use Rattle.disassembly.specs.Rows.{Stands}
+use Rattle.row_choice.specs.Rows.{Stands}
 
 pub opens-said : (input : List ℕ) → sayable input ≡ true → opens input ≡ true
 unfolding sayable

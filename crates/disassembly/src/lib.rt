@@ -1,6 +1,4 @@
 // A run file written as a text.
-mod choice;
-
 ghost use mathlib.Core.Bool.{true};
 ghost use mathlib.Core.List.{_++_, [], _∷_};
 ghost use mathlib.Core.Path.{_≡_};
@@ -32,7 +30,7 @@ pub fn put_step(version: u16, step: &[u8], out: &mut [u8], start: usize) -> usiz
         × (r ≤ start + longestBy (rowOf version (now (step .entry)))) ⌝ }
 {
     let mut buffer = [0u8; words::ROOM];
-    let n = choice::row_of(version, step, &mut buffer);
+    let n = row_choice::row_of(version, step, &mut buffer);
     printing::write_row(lines::front(&buffer, n), step, out, start)
 }
 

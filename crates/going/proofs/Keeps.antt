@@ -34,7 +34,7 @@ use Rattle.ledger.specs.declared.Ledger.{Ledger}
 use Rattle.vaults.specs.declared.Vault.{Vault}
 use Rattle.runfile.specs.Run.{journalSize}
 use Rattle.progress.specs.Kept.{Kept}
-use Rattle.steps.specs.Stored.{Stored}
+use Rattle.storing.specs.Stored.{Stored}
 
 -- ---- what is kept, after a change
 -- a ledger with the same settings, counts and order, and a vault to visit next

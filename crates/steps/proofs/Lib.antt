@@ -1,3 +1,2 @@
 pub mod Quiet
-pub mod Records
 pub mod Turns

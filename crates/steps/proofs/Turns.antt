@@ -13,7 +13,7 @@ use Rattle.text.specs.Text.{lineFor, longestLine, longestText, textFor}
 use Rattle.steps.proofs.Quiet.{writable}
 use Rattle.questions.specs.Answers.{Answered, alone, surveyed}
 use Rattle.naming.specs.Kept.{Found}
-use Rattle.steps.specs.Stored.{Stored}
+use Rattle.storing.specs.Stored.{Stored}
 use Rattle.steps.specs.Turned.{CarriedOut, Said, Surveyed, decisionAt, recordIn}
 use Rattle.questions.specs.declared.Books.{Books}
 use Rattle.naming.specs.declared.Remembered.{Remembered}

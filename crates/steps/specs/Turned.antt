@@ -14,7 +14,7 @@ use Rattle.text.specs.Text.{longestText, textFor}
 use Rattle.kinds.specs.Decided.{decidedBy}
 use Rattle.questions.specs.Answers.{alone, surveyed}
 use Rattle.naming.specs.Kept.{Found}
-use Rattle.steps.specs.Stored.{Stored}
+use Rattle.storing.specs.Stored.{Stored}
 use Rattle.questions.specs.declared.Books.{Books}
 use Rattle.reading.specs.declared.Step.{Step}
 use Rattle.steps.specs.declared.Looked.{Looked}

@@ -1,6 +1,5 @@
 // One step of a run file that was read: it is decided from what it looks at, its text is written and its record stored. These are parts of
 // the run, which keeps the journal and its index, and knows what they require.
-mod storing;
 mod turning;
 
 use ledger::Change;

@@ -9,7 +9,6 @@ ghost use Rattle.steps.specs.Turned.{CarriedOut, Surveyed};
 ghost use Rattle.text.specs.Text.{longestText};
 use crate::Looked;
 use crate::Told;
-use crate::storing;
 use kinds::View;
 use questions::Books;
 use reading::Step;

@@ -1,5 +1,6 @@
 -- The header's row is the version's.
-use Rattle.disassembly.proofs.Chosen.{line-end, line-put, row-end, row-room, stands}
+use Rattle.row_choice.proofs.Chosen.{stands}
+use Rattle.disassembly.proofs.Made.{line-end, line-put, row-end, row-room}
 use Rattle.disassembly.proofs.Saying.{header-few, header-is, header-long, header-some}
 use Rattle.disassembly.proofs.put_header.Statement.{statement}
 use Rattle.disassembly.proofs.put_header.Tie as tie

@@ -1,5 +1,5 @@
 -- The row stands at the front of the buffer, and the step is written by it.
-use Rattle.disassembly.proofs.Chosen.{row-end, row-room, step-put}
+use Rattle.disassembly.proofs.Made.{row-end, row-room, step-put}
 use Rattle.disassembly.proofs.put_step.Statement.{statement}
 use Rattle.disassembly.proofs.put_step.Tie as tie
 use Rattle.notation.specs.Lines.{lineOf}

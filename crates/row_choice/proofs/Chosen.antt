@@ -1,6 +1,6 @@
 -- The row that a step is written by stands at the front of the buffer.
 use mathlib.Core.Bool.{Bool, _&&_, cond, false, true}
-use mathlib.Core.List.{List, [], _++_, _∷_}
+use mathlib.Core.List.{List}
 use mathlib.Core.Path.{_∙_, _≡_, ap, refl, sym}
 use Prim.Native.Nat.{_+_, _-_, _<_, _≤_, suc, zero, ℕ}
 use native.Mathlib.Omega.{arith}
@@ -11,13 +11,12 @@ use borrow.Author.Tests.{eq-eqb, eqb-true, le-leb, leb-true, lt-leb, ne-eqb}
 use Rattle.base.proofs.Reflect.{and-false, and-true, by-test}
 use Rattle.codec.specs.Codec.{leAt}
 use Rattle.rows.specs.Table.{accession, rawRow, row, shaped}
-use Rattle.printing.specs.Member.{itemRoom}
-use Rattle.rows.specs.Writing.{fits, longestBy, textBy}
-use Rattle.digits.proofs.Writing.{made, then}
+use Rattle.rows.specs.Writing.{fits}
+use Rattle.digits.proofs.Writing.{made}
 use Rattle.digits.specs.Digits.{Put}
 use Rattle.notation.specs.Lines.{hasShape, proposalRow, rowOf, shapedFor}
 use Rattle.words.specs.Room.{longestRow, rowRoom}
-use Rattle.disassembly.specs.Rows.{Stands}
+use Rattle.row_choice.specs.Rows.{Stands}
 
 -- ---- its shape
 module _ (s : List ℕ) where
@@ -105,23 +104,3 @@ module _ (version : ℕ) (s : List ℕ) {p : List ℕ} {r : ℕ} where
   of-kind k w e n q d = rw (ne-eqb (getD s 0 0) 1 (λ x. n (e ∙ x))) (rw (q ∙ e) at d)
 
 pub ruleset choices = (few-inputs, few-outputs, stands, shaped-stands, by-shape, by-bytes, by-bytes-too, of-proposal, of-kind)
-
--- ---- a line made by a row that stands at the front of a buffer, and its end
-module _ {f b : List ℕ} {n : ℕ} (t : List ℕ) (d : Stands t b n) (e : f ≡ take n b) where
-  -- there is room for it
-  pub row-room : (start size : ℕ) → start + longestBy t + itemRoom ≤ size → start + longestBy f + itemRoom ≤ size
-  row-room start size h = rw (e ∙ d .row-is) h
-
-  module _ (start r : ℕ) (h : r ≤ start + longestBy f) where
-    pub row-end : r ≤ start + longestBy t
-    row-end = rw (e ∙ d .row-is) at h
-
-    pub line-end : (q : ℕ) → q ≡ r + 1 → q ≤ start + longestBy t + 1
-    line-end q i = omega (arith, row-end, i)
-
-  pub step-put : {o p : List ℕ} {start r : ℕ} (s : List ℕ) → Put o start (textBy f s) p r → Put o start (textBy t s) p r
-  step-put s w = rw (e ∙ d .row-is) at w
-
-  pub line-put : {o p q : List ℕ} {start at r : ℕ} (s : List ℕ) → Put o start (textBy f s) p at → Put p at (10 ∷ []) q r
-      → Put o start (textBy t s ++ (10 ∷ [])) q r
-  line-put s w x = then (rw (e ∙ d .row-is) at w) x

@@ -19,7 +19,7 @@ use Rattle.ledger.specs.Decisions.{isBook}
 use Rattle.ledger.specs.Given.{Writable}
 use Rattle.ledger.specs.declared.Change.{Change}
 use Rattle.ledger.specs.declared.Change.the-variants.{Book, Count, Grant, Hold, Nothing, Record, Release, See, Sign}
-use Rattle.steps.specs.Stored.{Stored, bookedAfter}
+use Rattle.storing.specs.Stored.{Stored, bookedAfter}
 
 module _ (change : Change) (r : Bool) (booked at version : ℕ) (journal input : List ℕ) (e : r ≡ isBook change) (t : r ≡ true)
     (w : Writable change booked version journal (take (recordSize version) (drop at input))) where

@@ -1,7 +1,7 @@
 -- A new record is put and entered, and no other change touches the journal (proofs/Records.antt).
-use Rattle.steps.proofs.Records.{records-laws}
-use Rattle.steps.proofs.storing.store.Statement.{statement}
-use Rattle.steps.proofs.storing.store.Tie as tie
+use Rattle.storing.proofs.Records.{records-laws}
+use Rattle.storing.proofs.store.Statement.{statement}
+use Rattle.storing.proofs.store.Tie as tie
 use borrow.Author.Needs.{needs}
 
 ruleset by = (records-laws, needs)

@@ -5,10 +5,10 @@ ghost use Rattle.codec.specs.Codec.{recordSize};
 ghost use Rattle.index.specs.Index.{Indexed};
 ghost use Rattle.ledger.specs.Given.{Writable};
 ghost use Rattle.runfile.specs.Run.{longest};
-ghost use Rattle.steps.specs.Stored.{Stored};
+ghost use Rattle.storing.specs.Stored.{Stored};
 use ledger::Change;
 
-pub(crate) fn store(
+pub fn store(
     change: Change,
     numbers: &mut [u16],
     sets: &mut [u64],

@@ -1,7 +1,7 @@
 use Rattle.base.proofs.Tests.{flag-true}
-use Rattle.disassembly.proofs.Chosen.{choices, of-kind, stands}
-use Rattle.disassembly.proofs.choice.row_of.Statement.{statement}
-use Rattle.disassembly.proofs.choice.row_of.Tie as tie
+use Rattle.row_choice.proofs.Chosen.{choices, of-kind, stands}
+use Rattle.row_choice.proofs.row_of.Statement.{statement}
+use Rattle.row_choice.proofs.row_of.Tie as tie
 use native.Mathlib.Omega.{arith}
 use borrow.Author.Needs.{needs}
 

@@ -1,7 +1,7 @@
 use Rattle.base.proofs.Tests.{tests}
-use Rattle.disassembly.proofs.Chosen.{shapes}
-use Rattle.disassembly.proofs.choice.has_shape.Statement.{statement}
-use Rattle.disassembly.proofs.choice.has_shape.Tie as tie
+use Rattle.row_choice.proofs.Chosen.{shapes}
+use Rattle.row_choice.proofs.has_shape.Statement.{statement}
+use Rattle.row_choice.proofs.has_shape.Tie as tie
 use borrow.Author.Needs.{needs}
 
 ruleset by = (shapes, tests, needs)

@@ -1,7 +1,7 @@
 use Rattle.base.proofs.Tests.{flag-true}
-use Rattle.disassembly.proofs.Chosen.{choices}
-use Rattle.disassembly.proofs.choice.proposal_row.Statement.{statement}
-use Rattle.disassembly.proofs.choice.proposal_row.Tie as tie
+use Rattle.row_choice.proofs.Chosen.{choices}
+use Rattle.row_choice.proofs.proposal_row.Statement.{statement}
+use Rattle.row_choice.proofs.proposal_row.Tie as tie
 use borrow.Author.Needs.{needs}
 
 ruleset by = (choices, flag-true, needs)

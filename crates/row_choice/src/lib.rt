@@ -3,7 +3,7 @@ ghost use mathlib.Core.Bool.{true};
 ghost use mathlib.Core.Path.{_≡_};
 ghost use Prim.Native.Nat.{_<_, _≤_};
 ghost use lib.ListN.{length};
-ghost use Rattle.disassembly.specs.Rows.{Stands};
+ghost use Rattle.row_choice.specs.Rows.{Stands};
 ghost use Rattle.notation.specs.Lines.{hasShape, proposalRow, rowOf, shapedFor};
 ghost use Rattle.rows.specs.Table.{rawRow};
 ghost use Rattle.words.specs.Room.{rowRoom};
@@ -67,7 +67,7 @@ fn proposal_row(version: u16, step: &[u8], buffer: &mut [u8]) -> usize
 }
 
 // Puts the row at the front of `buffer`.
-pub(crate) fn row_of(version: u16, step: &[u8], buffer: &mut [u8]) -> usize
+pub fn row_of(version: u16, step: &[u8], buffer: &mut [u8]) -> usize
     requires { ⌜ rowRoom ≤ length (now buffer) ⌝ }
     ensures { λ r. ⌜ Stands (rowOf version (now (step .entry))) (now (buffer .exit)) r ⌝ }
 {
