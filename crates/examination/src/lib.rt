@@ -1,9 +1,7 @@
-// Checks 7 to 9, and checks 6 to 9 in the order of document 01's table.
+// Checks 7 and 8, and checks 6 to 9 in the order of document 01's table.
 ghost use mathlib.Core.Path.{_≡_};
-ghost use Prim.Native.Nat.{_≤_, _<_, _^_};
-ghost use Rattle.base.specs.Search.{anyBelow, firstBelow, sumFrom};
-ghost use Rattle.record.specs.Entries.{usedFrames};
-ghost use Rattle.checks.specs.Checks.{hasLabelOf, repeatedAt, isWritten, unsupportedAt, balanced, checkOf, examined};
+ghost use Rattle.base.specs.Search.{anyBelow, firstBelow};
+ghost use Rattle.checks.specs.Checks.{hasLabelOf, repeatedAt, isWritten, unsupportedAt, checkOf, examined};
 use outcome::Refusal;
 use outcome::Verdict;
 use record::Job;
@@ -85,28 +83,6 @@ fn first_unsupported(job: Job) -> u8
     8
 }
 
-// The frames of a half's used entries, exactly: four numbers of 32 bits fit 64.
-fn total(job: Job, half: usize) -> u64
-    requires { ⌜ half ≤ 4 ⌝ }
-    ensures { λ r. ⌜ (r ≡ sumFrom (usedFrames job) half 4) × (r < 2 ^ 34) ⌝ }
-{
-    let mut sum: u64 = 0;
-    for i in 0..4 {
-        sum += entries::used_frames(job, half + i) as u64;
-    }
-    sum
-}
-
-// Check 9. Five numbers of 32 bits fit 64.
-fn is_balanced(job: Job) -> bool
-    ensures { λ r. ⌜ r ≡ balanced job ⌝ }
-{
-    if job.kind == 1 {
-        return total(job, 0) == total(job, 4) + job.trimmed as u64;
-    }
-    true
-}
-
 // The first of checks 6 to 9 that the job fails.
 pub fn check(job: Job) -> Verdict
     ensures { λ r. ⌜ r ≡ checkOf job ⌝ }
@@ -122,7 +98,7 @@ pub fn check(job: Job) -> Verdict
     if unsupported < 8 {
         return Verdict::Fail(Refusal::Unsupported(unsupported));
     }
-    if is_balanced(job) {
+    if balances::is_balanced(job) {
         return Verdict::Pass;
     }
     Verdict::Fail(Refusal::Unbalanced)

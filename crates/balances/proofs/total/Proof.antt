@@ -5,9 +5,9 @@ use native.Mathlib.Omega.{arith}
 use borrow.Author.Needs.{needs}
 use Rattle.base.proofs.Search.{sum-end, sum-next, sum-start}
 use Rattle.base.specs.Search.{sumFrom}
-use Rattle.examination.proofs.total.Statement.{statement}
+use Rattle.balances.proofs.total.Statement.{statement}
 use Rattle.record.specs.Entries.{usedFrames}
-use Rattle.examination.proofs.total.Tie as tie
+use Rattle.balances.proofs.total.Tie as tie
 
 abbrev Inv-loop : tie.InvT-loop
 Inv-loop job half sum₀ i₀ sum i =

@@ -2,9 +2,9 @@
 use borrow.Author.Needs.{needs}
 use borrow.Author.Tests.{eq-eqb}
 use Rattle.base.proofs.Tests.{chain}
-use Rattle.examination.proofs.is_balanced.Statement.{statement}
+use Rattle.balances.proofs.is_balanced.Statement.{statement}
 use Rattle.checks.specs.Checks.{balanced}
-use Rattle.examination.proofs.is_balanced.Tie as tie
+use Rattle.balances.proofs.is_balanced.Tie as tie
 
 returns : tie.Need-returns
 unfolding balanced
