@@ -1,13 +1,10 @@
 -- The parts of an answer and of a job's line, put together.
-use mathlib.Core.Bool.{Bool, _||_, cond}
-use mathlib.Core.List.{List, [], _++_, _∷_}
-use mathlib.Core.Path.{_∙_, _≡_, ap, refl, sym}
-use Prim.Native.Nat.{_*_, _+_, _-_, _<_, _≤_, ℕ}
+use mathlib.Core.List.{List, [], _∷_}
+use mathlib.Core.Path.{_∙_, _≡_, sym}
+use Prim.Native.Nat.{_*_, _+_, _≤_, ℕ}
 use native.Mathlib.Omega.{arith}
 use lib.Count.{ones}
-use lib.Dec.{eqb}
-use lib.ListN.{drop, drop-of-length-le, length, length-drop, take}
-use lib.Seq.{drop-length, take-all, take-nil}
+use lib.ListN.{drop, length, take}
 use borrow.Author.Tests.{eq-eqb, ne-eqb}
 use Rattle.explanations.proofs.Lengths.{job-brief, reason-brief}
 use Rattle.explanations.specs.Answers.{answerText, doneText, figure, jobLine, jobRow, names, refusedText, toSign}
@@ -22,13 +19,6 @@ use Rattle.sets.specs.declared.job_set.JobSet.{JobSet}
 use Rattle.digits.proofs.Writing.{made, then}
 use Rattle.digits.specs.Digits.{Put, decimal}
 use Rattle.vaults.specs.declared.Votes.{Votes}
-
--- ---- the bytes from a place on
-pub rest-here : (l : List ℕ) (at : ℕ) → take (length l - at) (drop at l) ≡ drop at l
-rest-here l at = take-all (length l - at) (drop at l) (omega (arith, length-drop at l))
-
-pub rest-past : (l : List ℕ) (at : ℕ) → length l ≤ at → take (length l - length l) (drop (length l) l) ≡ drop at l
-rest-past l at h = ap (take (length l - length l)) (drop-length l) ∙ take-nil (length l - length l) ∙ sym (drop-of-length-le l {i = at} h)
 
 -- ---- a row at the front of a buffer
 pub row-made : {o p f t : List ℕ} {n : ℕ} → 128 ≤ length o → n ≤ 128 → Put o 0 t p n → f ≡ take n p → f ≡ t

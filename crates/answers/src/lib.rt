@@ -4,9 +4,9 @@ mod values;
 
 ghost use mathlib.Core.List.{_∷_, []};
 ghost use mathlib.Core.Path.{_≡_};
-ghost use Prim.Native.Nat.{_+_, _<_, _≤_};
+ghost use Prim.Native.Nat.{_+_, _≤_};
 ghost use lib.Count.{ones};
-ghost use lib.ListN.{drop, length};
+ghost use lib.ListN.{length};
 ghost use Rattle.answers.specs.Room.{answerLong, answerRoom};
 ghost use Rattle.explanations.specs.Answers.{answerText, doneText, jobLine, jobRow, refusedText};
 ghost use Rattle.ledger.specs.Decisions.{statusOf};
@@ -18,16 +18,6 @@ use outcome::Verdict;
 pub use reasons::put_reason;
 use sets::JobSet;
 use vaults::Votes;
-
-// The bytes from a place on.
-pub fn from(bytes: &[u8], at: usize) -> &[u8]
-    ensures { λ r. ⌜ now r ≡ drop at (now (bytes .entry)) ⌝ }
-{
-    if at < bytes.len() {
-        return &bytes[at..];
-    }
-    &bytes[bytes.len()..]
-}
 
 fn put_done(out: &mut [u8], at: usize, kind: u8, value: u32, members: JobSet) -> usize
     requires { ⌜ at + answerRoom ≤ length (now out) ⌝ }
@@ -54,10 +44,10 @@ fn put_refused(
     let n = reasons::put_reason(&mut buffer, number);
     if number == 16 {
         let quorum = [threshold];
-        return printing::write_row(lines::front(&buffer, n), &quorum, out, at);
+        return printing::write_row(parts::front(&buffer, n), &quorum, out, at);
     }
     let place = 4 + 12 * entry as usize;
-    printing::write_row(lines::front(&buffer, n), from(bytes, place), out, at)
+    printing::write_row(parts::front(&buffer, n), parts::from(bytes, place), out, at)
 }
 
 // The answer to a step of a kind; the bytes are those of the record that the step is about.
@@ -117,7 +107,7 @@ fn put_state(out: &mut [u8], state: u32, job: u8, signed: u8, acknowledged: u8) 
     let mut buffer = [0u8; 128];
     let n = put_job_row(&mut buffer, state);
     let facts = [job, signed, acknowledged];
-    printing::write_row(lines::front(&buffer, n), &facts, out, 0)
+    printing::write_row(parts::front(&buffer, n), &facts, out, 0)
 }
 
 // A job's line and its end, at the front of `out`.

@@ -1,6 +1,6 @@
 // What a value means, a job's state, and sets.
 ghost use mathlib.Core.Path.{_≡_};
-ghost use Prim.Native.Nat.{_*_, _+_, _<_, _≤_};
+ghost use Prim.Native.Nat.{_+_, _<_, _≤_};
 ghost use lib.ListN.{length};
 ghost use Rattle.explanations.specs.Answers.{figure, names, toSign};
 ghost use Rattle.explanations.specs.Words.{meaning, status};

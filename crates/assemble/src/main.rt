@@ -30,7 +30,7 @@ fn assemble(text: &[u8]) {
     let mut out = [0u8; assembly::OUT];
     let made = assembly::assemble(text, &mut out);
     if made.reason == 0 {
-        print(lines::front(&out, made.end));
+        print(parts::front(&out, made.end));
         return;
     }
     print(b"line ");

@@ -1,18 +1,18 @@
 -- The loop over the lines: what has been made, with the lines that remain, makes what the whole text makes.
-use mathlib.Core.Bool.{Bool, _&&_, cond, false, true}
-use mathlib.Core.List.{List, [], _++_, _∷_}
-use mathlib.Core.Path.{_∙_, _≡_, ap, refl, subst, sym}
-use Prim.Native.Nat.{_*_, _+_, _-_, _<_, _≤_, suc, zero, ℕ}
+use mathlib.Core.Bool.{Bool, cond, false, true}
+use mathlib.Core.List.{List, [], _++_}
+use mathlib.Core.Path.{_∙_, _≡_, ap, refl, sym}
+use Prim.Native.Nat.{_+_, _-_, _<_, _≤_, suc, zero, ℕ}
 use native.Mathlib.Omega.{arith}
-use lib.Dec.{eqb, leb, ltb}
-use lib.ListN.{drop, getD, length, length-append, length-drop, length-take, take}
+use lib.Dec.{eqb, leb}
+use lib.ListN.{drop, length, length-append, length-drop, take}
 use lib.Seq.{length-take-le}
 use borrow.Author.Tests.{eq-eqb, eqb-false, eqb-true, le-leb, leb-true, lt-leb, ne-eqb}
 use Rattle.base.proofs.Reflect.{by-test}
 use Rattle.rows.proofs.Sound.{if-fine}
 use Rattle.rows.specs.Reading.{Parsed as Read}
 use Rattle.runfile.specs.Run.{longest, versionIn}
-use Rattle.notation.specs.Files.{Made as Said, afterLine, assembled, finished, headerRead, isNone, lineOver, lineRead, madeFrom, noHeader, skipBlanks, taken}
+use Rattle.notation.specs.Files.{Made as Said, afterLine, assembled, finished, headerRead, isNone, lineOver, lineRead, madeFrom, skipBlanks, taken}
 use Rattle.notation.specs.Files.{tooLong}
 use Rattle.notation.specs.Lines.{moreText, stepRead}
 use Rattle.parsing.specs.Took.{ReadTo}

@@ -3,19 +3,18 @@
 use mathlib.Core.Bool.{Bool, cond, false, true, true≢false}
 use mathlib.Core.List.{List, [], _++_, _∷_, map}
 use mathlib.Core.Logic.{_≢_, _⊎_, inl, inr, ⊎-elim}
-use mathlib.Core.Path.{_∙_, _≡_, ap, ap₂, refl, subst, sym}
+use mathlib.Core.Path.{_∙_, _≡_, ap, refl, subst, sym}
 use Prim.Native.Nat.{_+_, _<_, _≤_, suc, zero, ℕ}
 use native.Mathlib.Nat.{eq-or-lt-of-le, le-refl, le-trans}
 use native.Mathlib.Omega.{arith}
 use lib.Count.{ones}
 use lib.Dec.{eqb, leb}
-use lib.ListN.{getD}
 use Rattle.base.proofs.Members.{any-in, distinct-append, distinct-apart, distinct-left, distinct-right, image-once, in-any, in-append, in-getD, in-left, in-map}
 use Rattle.base.proofs.Members.{in-right, map-append, map-in, reflect-member}
-use Rattle.base.proofs.Reflect.{by-cases, by-test, reflect-eq, reflect-le, refuted}
+use Rattle.base.proofs.Reflect.{by-cases, by-test, reflect-eq, reflect-le}
 use Rattle.base.specs.Lists.{Distinct, In, anyIn}
 use Rattle.base.specs.Reflect.{Reflects}
-use Rattle.conflicts.proofs.Tapes.{WellFormed, checked-well-formed}
+use Rattle.conflicts.proofs.Tapes.{checked-well-formed}
 use Rattle.conflicts.specs.Tapes.{inputTapes, labels, outputTapes}
 use Rattle.federation.specs.Federation.{thresholdOf}
 use Rattle.federation.specs.declared.Settings.{Settings}
@@ -30,7 +29,7 @@ use Rattle.ledger.proofs.Invariant.{Inv, tally}
 use Rattle.consequences.proofs.Ready.{all-voted}
 use Rattle.ledger.proofs.Safety.{certified-apart}
 use Rattle.ledger.specs.Demand3.{bookedJob}
-use Rattle.consequences.specs.Freed.{Finished, Free, FreeForGood, Freed, Retired, freedBy, freedFrom, freedIn, isFinished}
+use Rattle.consequences.specs.Freed.{Free, FreeForGood, Freed, Retired, freedBy, freedFrom, freedIn, isFinished}
 use Rattle.ledger.specs.Register.{Register, feed, feedAll, isDone, log, newRegister, tabled}
 use Rattle.ledger.specs.Decisions.{statusOf}
 use Rattle.ledger.specs.State.{acknowledgersOf, votesAt, votesIn}

@@ -18,5 +18,5 @@ fn main() {
     let n = io::read_full(STDIN_FILENO, &mut input);
     let mut out = text_buffer();
     let end = disassembly::disassemble(&input[..n], &mut out);
-    io::write_all(STDOUT_FILENO, lines::front(&out, end));
+    io::write_all(STDOUT_FILENO, parts::front(&out, end));
 }

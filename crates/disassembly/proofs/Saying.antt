@@ -1,11 +1,10 @@
 -- The lines one after another: what is written, with the lines that remain, is the whole; and there is room, since no line has more than twenty
 -- characters for each byte of its step.
-use mathlib.Core.Bool.{Bool, _&&_, cond, false, true, true≢false}
+use mathlib.Core.Bool.{Bool, false, true}
 use mathlib.Core.List.{List, [], _++_, _∷_, append-assoc}
 use mathlib.Core.Path.{_∙_, _≡_, ap, refl, sym}
 use Prim.Native.Nat.{_*_, _+_, _-_, _<_, _≤_, suc, zero, ℕ}
 use native.Mathlib.Omega.{arith}
-use lib.Dec.{leb}
 use lib.ListN.{drop, length, length-append, take}
 use lib.Seq.{length-sets, sets}
 use borrow.Author.Tests.{le-leb, leb-true, lt-leb}

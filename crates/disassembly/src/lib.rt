@@ -31,7 +31,7 @@ pub fn put_step(version: u16, step: &[u8], out: &mut [u8], start: usize) -> usiz
 {
     let mut buffer = [0u8; words::ROOM];
     let n = row_choice::row_of(version, step, &mut buffer);
-    printing::write_row(lines::front(&buffer, n), step, out, start)
+    printing::write_row(parts::front(&buffer, n), step, out, start)
 }
 
 // The line of a step and its end.
@@ -51,7 +51,7 @@ fn put_header(version: u16, input: &[u8], out: &mut [u8]) -> usize
 {
     let mut buffer = [0u8; words::ROOM];
     let n = words::put_row(&mut buffer, (version - 1) as usize);
-    let end = printing::write_row(lines::front(&buffer, n), part(input, 3, 9), out, 0);
+    let end = printing::write_row(parts::front(&buffer, n), part(input, 3, 9), out, 0);
     words::put(out, end, b"\n")
 }
 

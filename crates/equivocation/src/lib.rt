@@ -4,7 +4,6 @@ ghost use mathlib.Core.Path.{_≡_};
 ghost use Prim.Native.Nat.{_≤_};
 ghost use lib.Bits.{bitOr};
 ghost use mathlib.Core.Bool.{cond};
-ghost use lib.Count.{ones};
 ghost use lib.Dec.{leb};
 ghost use Rattle.index.specs.Index.{IndexedEntries};
 ghost use Rattle.journal.specs.Journal.{jobAt};

@@ -1,12 +1,12 @@
 -- What a step's explanation is, by what the run says of the step; and what is left to say afterwards.
-use mathlib.Core.List.{List, [], _++_, _∷_}
-use mathlib.Core.Path.{_∙_, _≡_, ap, refl, sym}
+use mathlib.Core.List.{List, _++_}
+use mathlib.Core.Path.{_∙_, _≡_, ap, sym}
 use Prim.Native.Nat.{_+_, _<_, _≤_, ℕ}
 use native.Mathlib.Omega.{arith}
 use lib.ListN.{length}
 use Rattle.explanations.proofs.Pieces.{job-left, step-left}
 use Rattle.explanations.specs.Answers.{jobLine}
-use Rattle.explanations.specs.Explained.{Says, explainedFrom, nextText, sheetFrom, stepText}
+use Rattle.explanations.specs.Explained.{explainedFrom, nextText, stepText}
 use Rattle.index.proofs.Tables.{indexed-tables}
 use Rattle.index.specs.Sets.{Tables}
 use Rattle.journal.specs.Journal.{capacity}

@@ -1,7 +1,7 @@
 // A run explained in pieces: a step at a time, then a line for each booked job.
 ghost use mathlib.Core.List.{_++_, _∷_, []};
 ghost use mathlib.Core.Path.{_≡_};
-ghost use Prim.Native.Nat.{_+_, _<_, _≤_};
+ghost use Prim.Native.Nat.{_<_, _≤_};
 ghost use lib.ListN.{length};
 ghost use Rattle.explaining.specs.Told.{Listed, Told, atFront, saidBy};
 ghost use Rattle.explanations.specs.Words.{reason};

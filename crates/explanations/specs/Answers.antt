@@ -1,5 +1,5 @@
 -- What was answered to a step, in words.
-use mathlib.Core.Bool.{Bool, _||_, cond, not}
+use mathlib.Core.Bool.{_||_, cond, not}
 use mathlib.Core.List.{List, [], _++_, _∷_}
 use Prim.Native.Nat.{_*_, _+_, ℕ}
 use lib.Count.{ones}

@@ -1,7 +1,7 @@
 -- Laws of the memo. It stands by first positions, so it is right whatever the order is; and since generations depend on the jobs
 -- up to a position alone, it stays right when another job arrives and when other jobs are booked.
 use mathlib.Core.List.{List}
-use mathlib.Core.Logic.{_⊎_, inl, inr, ⊎-elim}
+use mathlib.Core.Logic.{inl, inr, ⊎-elim}
 use mathlib.Core.Path.{_∙_, _≡_, ap, refl, sym}
 use Prim.Native.Nat.{_+_, _-_, _<_, _≤_, suc, ℕ}
 use native.Mathlib.Nat.{le-antisymm}

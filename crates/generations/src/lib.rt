@@ -1,6 +1,6 @@
 // How many migrations lie between a job and the accessions that its tapes come from.
 ghost use mathlib.Core.Path.{_≡_};
-ghost use Prim.Native.Nat.{_+_, _*_, _<_, _≤_, max};
+ghost use Prim.Native.Nat.{_+_, _<_, _≤_, max};
 ghost use lib.ListN.{getD, length};
 ghost use Rattle.base.specs.Search.{firstBelow};
 ghost use Rattle.codec.specs.Codec.{placeOf, recordSize};

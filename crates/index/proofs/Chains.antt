@@ -1,7 +1,7 @@
 -- A chain of places, each linked to the last before it, leads to the last that matches.
 use mathlib.Core.Bool.{Bool, _||_, cond, false, true, true≢false}
 use mathlib.Core.Path.{_∙_, _≡_, refl, sym}
-use Prim.Native.Nat.{_-_, _<_, _≤_, suc, zero, ℕ}
+use Prim.Native.Nat.{_<_, _≤_, suc, zero, ℕ}
 use native.Mathlib.Omega.{arith}
 use Rattle.base.proofs.Reflect.{by-cases, by-test, not-true-false}
 use Rattle.base.proofs.Search.{first-any, first-is, first-least, first-none, least-first}

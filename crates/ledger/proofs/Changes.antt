@@ -6,7 +6,7 @@ use Rattle.snapshot.specs.Snapshot.{seenAfter}
 use mathlib.Core.Bool.{Bool, cond, false, not, true}
 use mathlib.Core.List.{List, [], _++_}
 use mathlib.Core.Path.{_∙_, _≡_, ap, refl, subst, sym}
-use Prim.Native.Nat.{_*_, _<_, _^_, _≤_, ℕ}
+use Prim.Native.Nat.{_<_, _^_, _≤_, ℕ}
 use native.Mathlib.Nat.{le-trans}
 use native.Mathlib.Omega.{arith}
 use lib.Bits.{and-le-r, bitAnd}

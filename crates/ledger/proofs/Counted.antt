@@ -1,7 +1,7 @@
 -- Which refusals of a client's request count: those of the shared checks and of check 22 have numbers that do not, those of 11 to 14 and 23 have others.
 use mathlib.Core.Bool.{Bool, Bool·beq, cond, false, true}
 use mathlib.Core.List.{List}
-use mathlib.Core.Path.{_≡_, refl}
+use mathlib.Core.Path.{_≡_}
 use Prim.Native.Nat.{ℕ}
 use lib.Dec.{ltb}
 use Rattle.base.specs.Search.{firstBelow}

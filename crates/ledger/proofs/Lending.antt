@@ -1,7 +1,7 @@
 -- What lending a journal does: where the lent bytes overlap the booked ones they agree, so the booked records that lie inside are
 -- read as they are; a step that books nothing leaves the booked bytes, however short the lent journal, and one that books a record
 -- appends it. Every journal that agrees with the booked bytes is lent by some event, and only such.
-use mathlib.Core.Bool.{Bool, cond, false, true}
+use mathlib.Core.Bool.{cond}
 use mathlib.Core.List.{List, [], _++_, _∷_, append-assoc}
 use mathlib.Core.Path.{_∙_, _≡_, ap, ap₂, refl, sym}
 use Prim.Native.Nat.{_+_, _<_, _≤_, suc, zero, ℕ}

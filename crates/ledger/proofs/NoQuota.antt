@@ -1,7 +1,7 @@
 -- No kind but 12 reads or writes a history: what it decides is said of other parts of the ledger, and its change is another one.
 use mathlib.Core.Bool.{Bool, cond, false, true, true≢false}
 use mathlib.Core.List.{List}
-use mathlib.Core.Path.{_≡_, refl, sym}
+use mathlib.Core.Path.{_≡_, refl}
 use Prim.Native.Nat.{ℕ}
 use lib.Count.{ones}
 use lib.Dec.{ltb}

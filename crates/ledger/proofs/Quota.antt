@@ -8,7 +8,7 @@ use Prim.Native.Nat.{_<_, ℕ}
 use native.Mathlib.Decide.{ℕ-discrete}
 use native.Mathlib.Omega.{arith}
 use lib.Dec.{eqb}
-use lib.ListN.{getD, length, set}
+use lib.ListN.{getD, set}
 use lib.Seq.{getD-set-other, getD-set-same}
 use borrow.Author.Tests.{eq-eqb, ltb-true, ne-eqb}
 use Rattle.base.proofs.Reflect.{and-true, by-cases, not-true-false}
@@ -19,7 +19,7 @@ use Rattle.quota.proofs.Windows.{Ruled, bits, patience, remembers, spent-is, wi
 use Rattle.quota.specs.Asks.{Ask, spends}
 use Rattle.quota.specs.Quota.{historyPlace, isClient, isSpent, remembered}
 use Rattle.sets.specs.Jobs.{jobHas}
-use Rattle.ledger.proofs.Changes.{Shape, shape-sane, signedBy}
+use Rattle.ledger.proofs.Changes.{Shape, shape-sane}
 use Rattle.ledger.proofs.Counted.{Says, admission-says, gate-says}
 use Rattle.ledger.proofs.Demand3.{along, filled, first, kept}
 use Rattle.ledger.proofs.Effects.{sign-signed}
@@ -40,7 +40,7 @@ use Rattle.ledger.specs.Decisions.{
   withinQuota,
 }
 use Rattle.ledger.specs.Meaning.{Entered, Sane}
-use Rattle.ledger.specs.Quota.{Fair, Quota, asPreflight, askOf, asked, asks, counts, isClientPreflight, isOver, signedIn}
+use Rattle.ledger.specs.Quota.{Quota, asPreflight, askOf, asked, asks, counts, isClientPreflight, isOver, signedIn}
 use Rattle.ledger.specs.Refused.{isCounted}
 use Rattle.ledger.specs.Register.{Register, isDone, newRegister}
 use Rattle.ledger.specs.State.{applied, counted, historyAt, newLedger, signersOf, vaultAt, versionOf, voted, withVault}

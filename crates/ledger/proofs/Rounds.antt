@@ -1,8 +1,8 @@
 -- A round of the snapshot. After i visits the jobs seen include what the first i vaults held when it began, since what is held stays held, and each of them is
 -- held by a correct vault, since it was when it was seen. Every other step leaves both the jobs seen and whose turn it is.
-use mathlib.Core.Bool.{Bool, _&&_, cond, false, true, true≢false}
+use mathlib.Core.Bool.{Bool, cond, false, true, true≢false}
 use mathlib.Core.List.{List, [], _++_, _∷_}
-use mathlib.Core.Logic.{_⊎_, inl, inr, ⊎-elim}
+use mathlib.Core.Logic.{⊎-elim}
 use mathlib.Core.Path.{_∙_, _≡_, ap, refl, subst, sym}
 use Prim.Native.Nat.{_+_, _<_, _≤_, suc, ℕ}
 use native.Mathlib.Nat.{le-refl}
@@ -15,22 +15,20 @@ use Rattle.sets.specs.Bits.{hasBit}
 use Rattle.sets.specs.Jobs.{jobCount, jobHas}
 use Rattle.sets.specs.declared.job_set.JobSet.{JobSet}
 use Rattle.snapshot.proofs.Visits.{begins-anew, goes-on, sees-held, sees-only, sees-still}
-use Rattle.snapshot.specs.Snapshot.{following}
 use Rattle.federation.specs.declared.Settings.{Settings}
 use Rattle.ledger.proofs.Changes.{Change, Idle, Shape, appends, changes, counts, grants, holds, idle, nothing, releases}
 use Rattle.ledger.proofs.Changes.{seenNext, sees, shape-sane, signs, votes}
 use Rattle.ledger.proofs.Demand3.{along, first, kept, same-settings, settings-along, settings-first}
 use Rattle.ledger.proofs.Effects.{hold-next, hold-seen}
 use Rattle.ledger.proofs.Gates.{reflect-sane}
-use Rattle.ledger.proofs.Growth.{grow, grows-on, grows-same}
+use Rattle.ledger.proofs.Growth.{grow}
 use Rattle.ledger.proofs.Invariant.{Inv, Keeps, still}
 use Rattle.ledger.proofs.Views.{heldAt}
 use Rattle.ledger.specs.Decisions.{snapshotting}
-use Rattle.ledger.specs.Demand3.{Correct, Held, HeldBy}
-use Rattle.ledger.specs.Growth.{Grows}
-use Rattle.ledger.specs.Register.{Register, feed, feedAll, isDone, log, newRegister}
-use Rattle.ledger.specs.Rounds.{Counted, Round, Rounds, isSnapshot, visits}
-use Rattle.ledger.specs.State.{applied, booking, counted, vaultAt, visited, voted, withVault}
+use Rattle.ledger.specs.Demand3.{Held, HeldBy}
+use Rattle.ledger.specs.Register.{Register, isDone, newRegister}
+use Rattle.ledger.specs.Rounds.{Rounds, isSnapshot, visits}
+use Rattle.ledger.specs.State.{booking, counted, vaultAt, visited, voted, withVault}
 use Rattle.ledger.specs.Steps.{saneGate, snapshotDecision}
 use Rattle.ledger.specs.Worlds.{
   Event,

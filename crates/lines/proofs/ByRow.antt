@@ -1,16 +1,15 @@
 -- A line is read by the row that its word chooses.
-use mathlib.Core.Bool.{Bool, _&&_, cond, false, true}
-use mathlib.Core.List.{List, []}
-use mathlib.Core.Path.{_∙_, _≡_, ap, refl, sym}
-use Prim.Native.Nat.{_+_, _-_, _<_, _≤_, ℕ}
+use mathlib.Core.List.{List}
+use mathlib.Core.Path.{_∙_, _≡_, refl, sym}
+use Prim.Native.Nat.{_<_, _≤_, ℕ}
 use native.Mathlib.Nat.{add-zero}
 use native.Mathlib.Omega.{arith}
-use lib.Dec.{eqb, leb, ltb}
+use lib.Dec.{leb}
 use lib.ListN.{drop, length, take}
-use borrow.Author.Tests.{eq-eqb, le-leb, le-ltb, lt-leb, lt-ltb, ne-eqb}
+use borrow.Author.Tests.{le-leb, le-ltb, lt-leb, lt-ltb, ne-eqb}
 use Rattle.base.proofs.Reflect.{and-false}
 use Rattle.rows.specs.Reading.{Parsed as Said, readBy}
-use Rattle.rows.specs.Table.{accession, migration, raw, rawRow, row, rows, shaped}
+use Rattle.rows.specs.Table.{rawRow, row, rows, shaped}
 use Rattle.digits.proofs.Writing.{made}
 use Rattle.digits.specs.Digits.{Put}
 use Rattle.notation.specs.Lines.{proposalRead, rowFor, scan, secondHeader, noWord, stepRead, tooMany, unseen, wrong}

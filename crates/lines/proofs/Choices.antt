@@ -1,13 +1,13 @@
 -- The loops over a row's word and over the table: what remains gives the same answer as the whole.
-use mathlib.Core.Bool.{Bool, _&&_, cond, false, true}
+use mathlib.Core.Bool.{Bool, cond, false, true}
 use mathlib.Core.List.{List, [], _∷_}
 use mathlib.Core.Path.{_∙_, _≡_, ap, refl, sym}
-use Prim.Native.Nat.{_+_, _-_, _<_, _≤_, suc, zero, ℕ}
+use Prim.Native.Nat.{_+_, _<_, _≤_, suc, ℕ}
 use native.Mathlib.Omega.{arith}
-use lib.Dec.{eqb, leb, ltb}
+use lib.Dec.{leb}
 use lib.ListN.{drop, getD, length}
 use lib.Seq.{drop-cons}
-use borrow.Author.Tests.{eq-eqb, le-leb, le-ltb, lt-leb, lt-ltb, ne-eqb}
+use borrow.Author.Tests.{eq-eqb, le-ltb, lt-ltb, ne-eqb}
 use Rattle.parsing.proofs.Turns.{at-end, at-place}
 use Rattle.rows.specs.Table.{row, rows, table}
 use Rattle.notation.specs.Lines.{begins, firstOf, rowFor, wordEnds}

@@ -1,7 +1,7 @@
 -- What was read of a line: where it is right, its bytes follow those that stood before `end`, which stay as they were in any case.
 use mathlib.Core.List.{List, _++_}
 use mathlib.Core.Path.{_≡_}
-use Prim.Native.Nat.{_+_, _*_, _≤_, ℕ}
+use Prim.Native.Nat.{_+_, _≤_, ℕ}
 use lib.ListN.{drop, length, take}
 use Rattle.rows.specs.Reading.{Parsed as Said}
 use Rattle.parsing.specs.declared.Parsed.{Parsed}

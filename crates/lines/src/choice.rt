@@ -1,18 +1,8 @@
 // Which row a line is read by: its first word says it.
 ghost use mathlib.Core.Path.{_≡_};
 ghost use Prim.Native.Nat.{_≤_};
-ghost use lib.ListN.{drop, length, take};
+ghost use lib.ListN.{drop, length};
 ghost use Rattle.notation.specs.Lines.{begins, rowFor, wordEnds};
-
-// The first n bytes of a buffer.
-pub fn front(buffer: &[u8], n: usize) -> &[u8]
-    ensures { λ r. ⌜ (now r ≡ take n (now (buffer .entry))) × (length (now r) ≤ n) ⌝ }
-{
-    if n < buffer.len() {
-        return &buffer[..n];
-    }
-    buffer
-}
 
 fn word_ends(text: &[u8], at: usize) -> bool
     requires { ⌜ at ≤ length (now text) ⌝ }

@@ -14,7 +14,6 @@ ghost use Rattle.notation.specs.Lines.{proposalRead, stepRead};
 ghost use Rattle.runfile.specs.Run.{opened};
 ghost use Rattle.parsing.specs.Took.{ReadTo};
 ghost use Rattle.words.specs.Room.{longestRow, rowRoom};
-pub use choice::front;
 use notation::Shape;
 use parsing::Parsed;
 pub use shape::closes;
@@ -51,7 +50,7 @@ fn proposal_read(
         return wrong(9, at, end);
     }
     let n = words::put_shaped(buffer, version, k, s.inputs, s.outputs, wide(s.trimmed));
-    parsing::read_row(choice::front(buffer, n), text, at, out, end)
+    parsing::read_row(parts::front(buffer, n), text, at, out, end)
 }
 
 fn raw_read(
@@ -66,7 +65,7 @@ fn raw_read(
     ensures { λ r. ⌜ ReadTo (readBy (rawRow version) (drop at (now (text .entry)))) (now (text .entry)) end (now (out .entry)) (now (out .exit)) r ⌝ }
 {
     let n = words::put_raw(buffer, version);
-    parsing::read_row(choice::front(buffer, n), text, at, out, end)
+    parsing::read_row(parts::front(buffer, n), text, at, out, end)
 }
 
 // By a row of the table.
@@ -142,7 +141,7 @@ pub fn header_read(text: &[u8], at: usize, out: &mut [u8]) -> Parsed
     if p.reason != 0 {
         return wrong(p.reason, at, 0);
     }
-    if is_lawful(choice::front(out, p.end)) {
+    if is_lawful(parts::front(out, p.end)) {
         return p;
     }
     wrong(12, at, 0)

@@ -2,7 +2,6 @@
 ghost use mathlib.Core.Bool.{_&&_, _||_, cond, false, true};
 ghost use mathlib.Core.Path.{_≡_};
 ghost use Prim.Native.Nat.{_≤_};
-ghost use lib.Dec.{eqb};
 ghost use lib.ListN.{drop, length};
 ghost use Rattle.notation.specs.Lines.{closes, counted, mark, scan, unseen};
 use notation::Shape;

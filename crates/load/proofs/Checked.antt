@@ -1,8 +1,8 @@
 -- Every record of a load passes checks 6 to 9, whatever its first draw.
 use mathlib.Core.Bool.{cond, true, true≢false}
-use mathlib.Core.List.{[], _∷_, append-nil}
+use mathlib.Core.List.{[], _∷_}
 use mathlib.Core.Logic.{inr}
-use mathlib.Core.Path.{_∙_, _≡_, ap, refl, sym}
+use mathlib.Core.Path.{_∙_, _≡_, refl, sym}
 use Prim.Native.Nat.{_%_, _*_, _+_, _-_, _/_, _<_, _^_, _≤_, suc, zero, ℕ}
 use native.Mathlib.Omega.{arith}
 use lib.Dec.{eqb, lit<}

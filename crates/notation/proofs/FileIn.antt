@@ -1,28 +1,28 @@
 -- The text of a run file assembles to the same bytes: line by line, what has been made are the bytes up to the step that comes next.
-use mathlib.Core.Bool.{Bool, _&&_, cond, false, true, true≢false}
+use mathlib.Core.Bool.{false, true}
 use mathlib.Core.List.{List, [], _++_, _∷_}
-use mathlib.Core.Logic.{_⊎_, inl, inr, ⊎-elim}
+use mathlib.Core.Logic.{inl, inr}
 use mathlib.Core.Path.{_∙_, _≡_, ap, refl, subst, sym}
 use Prim.Native.Nat.{_*_, _+_, _-_, _<_, _≤_, suc, zero, ℕ}
 use native.Mathlib.Omega.{arith}
-use lib.Dec.{eqb, leb, ltb}
-use lib.ListN.{drop, getD, length, length-append, length-take, take}
+use lib.Dec.{leb, ltb}
+use lib.ListN.{getD, length, length-append, length-take, take}
 use lib.Seq.{getD-take, take-all}
-use borrow.Author.Tests.{eqb-true, le-leb, leb-false, leb-true, ne-eqb}
+use borrow.Author.Tests.{le-leb, leb-false, leb-true, ne-eqb}
 use Rattle.base.proofs.Reflect.{and-true, by-test}
 use Rattle.codec.specs.Codec.{AreBytes, leAt}
 use Rattle.rows.proofs.RoundTrip.{row-in}
 use Rattle.rows.specs.Items.{between, formOf}
 use Rattle.rows.specs.Table.{accession, letters, row}
 use Rattle.rows.specs.Writing.{endsNext, fits, readable, textBy, widths}
-use Rattle.runfile.specs.Run.{headerSize, isHeader, longest, opened, opens, opensUpTo, versionIn}
-use Rattle.runfile.specs.Steps.{bodySize, kindAt, kindOf, nextAt}
+use Rattle.runfile.specs.Run.{longest, opens, versionIn}
+use Rattle.runfile.specs.Steps.{kindAt, nextAt}
 use Rattle.notation.specs.Files.{Made, Makes, afterLine, assembled, bytesAt, disassembled, finished, headerLine, headerRead, isKnown, isNone, lineOver}
 use Rattle.notation.specs.Files.{lineRead, linesFrom, madeFrom, sayable, skipBlanks, taken, wholeFrom}
 use Rattle.notation.specs.Lines.{begins, closes, firstOf, lineOf, rowFor, wordEnds}
 use Rattle.notation.proofs.Shapes.{Version}
 use Rattle.notation.proofs.Steps.{Reads, Word, each-kind, fixed, shown, word-of}
-use Rattle.notation.proofs.Views.{Known, Nine, Opened, bytes-are, bytes-bytes, bytes-size, first-three, headed, known-at, nine, nine-of, opened-of}
+use Rattle.notation.proofs.Views.{Known, Nine, bytes-are, bytes-bytes, bytes-size, first-three, headed, known-at, nine, nine-of, opened-of}
 use Rattle.notation.proofs.Views.{opens-same, taken-to}
 
 abbrev making : ℕ → List ℕ → Made

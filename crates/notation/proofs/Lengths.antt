@@ -1,9 +1,9 @@
 -- No text is too long: a line and its end have at most twenty characters for each byte of its step. Each kind's row is looked at.
-use mathlib.Core.Bool.{Bool, _&&_, cond, true}
-use mathlib.Core.List.{List, [], _++_, _∷_}
-use mathlib.Core.Logic.{_⊎_, inl, inr}
-use mathlib.Core.Path.{_∙_, _≡_, ap, refl, sym}
-use Prim.Native.Nat.{_*_, _+_, _-_, _<_, _≤_, suc, zero, ℕ}
+use mathlib.Core.Bool.{_&&_, cond, true}
+use mathlib.Core.List.{List, [], _∷_}
+use mathlib.Core.Logic.{inl, inr}
+use mathlib.Core.Path.{_≡_}
+use Prim.Native.Nat.{_*_, _-_, _<_, _≤_, suc, zero, ℕ}
 use native.Mathlib.Omega.{arith}
 use lib.Dec.{eqb, leb}
 use lib.ListN.{drop, getD, length, length-append, take}
@@ -13,9 +13,9 @@ use Rattle.codec.specs.Codec.{AreBytes, leAt, recordSize, saysTrimmed}
 use Rattle.rows.proofs.Lengths.{row-few}
 use Rattle.rows.proofs.RoundTrip.{bytes-after}
 use Rattle.rows.specs.Items.{formOf}
-use Rattle.rows.specs.Table.{accession, rawRow, row, shaped, times}
+use Rattle.rows.specs.Table.{rawRow, row, times}
 use Rattle.rows.specs.Writing.{fits, longestBy}
-use Rattle.runfile.specs.Run.{headerSize, longest, opens, versionIn}
+use Rattle.runfile.specs.Run.{headerSize, opens, versionIn}
 use Rattle.runfile.specs.Steps.{bodySize, kindAt, kindOf, nextAt}
 use Rattle.notation.specs.Files.{bytesAt, disassembled, headerLine, isKnown, linesFrom, perByte, sayable, wholeFrom}
 use Rattle.notation.specs.Lines.{hasShape, lineOf, proposalRow, rowOf, shapedFor}

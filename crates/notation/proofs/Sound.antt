@@ -1,13 +1,13 @@
 -- What assembles is a run file that has no refusal 1 or 2 in it: a line gives the bytes of one whole step, and a file of whole steps with one
 -- more is a file of whole steps.
-use mathlib.Core.Bool.{Bool, _&&_, _||_, cond, false, true, true≢false}
-use mathlib.Core.List.{List, [], _++_, _∷_, append-assoc}
+use mathlib.Core.Bool.{_&&_, false, true, true≢false}
+use mathlib.Core.List.{List, [], _++_, _∷_}
 use mathlib.Core.Logic.{_⊎_, inl, inr, ⊎-elim}
 use mathlib.Core.Path.{_∙_, _≡_, ap, refl, subst, sym}
-use Prim.Native.Nat.{_*_, _+_, _-_, _<_, _≤_, suc, zero, ℕ}
+use Prim.Native.Nat.{_+_, _-_, _<_, _≤_, suc, zero, ℕ}
 use native.Mathlib.Omega.{arith}
 use lib.Dec.{eqb, leb, ltb}
-use lib.ListN.{List·getD-append, drop, getD, length, length-append, take}
+use lib.ListN.{List·getD-append, getD, length, length-append}
 use lib.Seq.{getD-append-add}
 use borrow.Author.Tests.{eq-eqb, eqb-false, eqb-true, le-leb, leb-false, leb-true, lt-ltb, ltb-false, ltb-true, ne-eqb}
 use Rattle.base.proofs.Reflect.{and-true, by-test}
@@ -17,14 +17,14 @@ use Rattle.rows.specs.Items.{formOf}
 use Rattle.rows.specs.Reading.{Parsed, readBy}
 use Rattle.rows.specs.Table.{accession, letters, migration, raw, rawRow, row, rows, shaped, times}
 use Rattle.rows.specs.Writing.{widths}
-use Rattle.runfile.specs.Run.{headerSize, longest, opens, versionIn}
+use Rattle.runfile.specs.Run.{longest, opens, versionIn}
 use Rattle.runfile.specs.Steps.{bodySize, kindAt, kindOf, nextAt}
 use Rattle.notation.specs.Files.{Made, afterLine, assembled, finished, headerRead, isKnown, isNone, lineOver, lineRead, madeFrom, sayable, skipBlanks}
 use Rattle.notation.specs.Files.{taken, wholeFrom}
 use Rattle.notation.specs.Lines.{proposalRead, rowFor, stepRead}
 use Rattle.notation.specs.declared.Shape.{Shape}
 use Rattle.notation.proofs.Shapes.{Version, wide}
-use Rattle.notation.proofs.Views.{Known, Nine, Opened, at-known, headed, known-at, nine, nine-of, opened-of, opens-same}
+use Rattle.notation.proofs.Views.{Known, Nine, at-known, headed, known-at, nine, nine-of, opened-of, opens-same}
 
 -- ---- the bytes of one step
 pub record Stepped (version : ℕ) (s : List ℕ) : Type 0 where

@@ -1,27 +1,26 @@
 -- A step's line is read as the step. Each kind's row is looked at: its word is no other row's, and it has the bytes of the kind's body.
-use mathlib.Core.Bool.{Bool, _&&_, _||_, cond, false, not, true, true≢false}
+use mathlib.Core.Bool.{Bool, _&&_, cond, false, true, true≢false}
 use mathlib.Core.List.{List, [], _++_, _∷_, append-assoc}
-use mathlib.Core.Logic.{_⊎_, inl, inr, ⊎-elim}
+use mathlib.Core.Logic.{inl, inr}
 use mathlib.Core.Path.{_∙_, _≡_, ap, refl, sym}
-use Prim.Native.Nat.{_+_, _-_, _<_, _≤_, suc, zero, ℕ}
+use Prim.Native.Nat.{_+_, _≤_, suc, ℕ}
 use native.Mathlib.Omega.{arith}
 use lib.Dec.{eqb, leb, ltb}
 use lib.ListN.{drop, getD, length}
 use lib.Seq.{drop-drop}
 use borrow.Author.Tests.{eqb-true, leb-true}
 use Rattle.base.proofs.Reflect.{and-true, by-cases, by-test}
-use Rattle.base.specs.Search.{anyBelow, firstBelow}
 use Rattle.codec.specs.Codec.{AreBytes, leAt, recordSize, saysTrimmed}
 use Rattle.rows.proofs.RoundTrip.{row-in}
 use Rattle.rows.specs.Items.{Form, between, constant, formOf, hexadecimal, literal, members, number, plain, textAs, width}
-use Rattle.rows.specs.Reading.{Parsed, readBy}
+use Rattle.rows.specs.Reading.{Parsed}
 use Rattle.rows.specs.Table.{accession, letters, migration, raw, rawRow, row, rows, shaped, times}
 use Rattle.rows.specs.Writing.{endsNext, fits, readable, textBy, widths}
 use Rattle.runfile.specs.Steps.{bodySize, kindOf}
 use Rattle.notation.specs.Files.{isKnown, lineOver, skipBlanks}
 use Rattle.notation.specs.Lines.{begins, closes, firstOf, hasShape, lineOf, proposalRead, proposalRow, rowFor, rowOf, scan, shapedFor, stepRead, unseen}
 use Rattle.notation.specs.Lines.{wordEnds}
-use Rattle.notation.proofs.Shapes.{Version, good-accession, good-migration, proposal-in, said, wide}
+use Rattle.notation.proofs.Shapes.{Version, good-accession, good-migration, proposal-in, wide}
 
 -- what is true of each kind is true of all that are known
 pub by-kind : (P : ℕ → Type 0) → P 1 → P 2 → P 3 → P 4 → P 5 → P 6 → P 7 → P 8 → P 9 → P 10 → P 11 → P 12 → P 13 → (b : ℕ)

@@ -1,19 +1,19 @@
 -- Parts of a run file: its nine bytes of header, and a step at a place.
 use mathlib.Core.Bool.{Bool, _&&_, cond, false, true, true≢false}
 use mathlib.Core.List.{List, [], _++_, _∷_}
-use mathlib.Core.Logic.{_⊎_, inl, inr}
+use mathlib.Core.Logic.{inl, inr}
 use mathlib.Core.Path.{_∙_, _≡_, ap, refl, sym}
-use Prim.Native.Nat.{_*_, _+_, _-_, _<_, _≤_, suc, zero, ℕ}
+use Prim.Native.Nat.{_+_, _-_, _<_, _≤_, suc, ℕ}
 use native.Mathlib.Omega.{arith}
 use lib.Dec.{eqb, leb, ltb}
-use lib.ListN.{List·getD-append, drop, getD, length, length-append, length-drop, length-take, take}
-use lib.Seq.{drop-cons, getD-drop, getD-take, take-add, take-all}
-use borrow.Author.Tests.{eqb-true, le-leb, leb-false, leb-true, lt-ltb, ltb-true}
+use lib.ListN.{drop, getD, length, length-drop, length-take, take}
+use lib.Seq.{drop-cons, getD-drop, getD-take, take-add}
+use borrow.Author.Tests.{eqb-true, le-leb, leb-true, lt-ltb, ltb-true}
 use Rattle.base.proofs.Reflect.{and-true, by-test}
 use Rattle.codec.specs.Codec.{AreBytes}
 use Rattle.federation.specs.Federation.{isKnown as isKnownVersion, isLawfulUpTo, latest}
 use Rattle.runfile.specs.Run.{isHeader, longest, opened, opens, opensUpTo, versionIn}
-use Rattle.runfile.specs.Steps.{bodySize, endOf, kindAt, kindOf, nextAt, wordAt}
+use Rattle.runfile.specs.Steps.{bodySize, endOf, kindAt, kindOf, nextAt}
 use Rattle.runfile.specs.declared.Kind.{Kind}
 use Rattle.runfile.specs.declared.Kind.the-variants.{ClientPreflight, Commit, Dependencies, Draw, Equivocating, FaultyAcknowledge, FaultySign, Generations}
 use Rattle.runfile.specs.declared.Kind.the-variants.{Preflight, Propose, Release, Show, Snapshot, Unknown}

@@ -4,7 +4,7 @@ use mathlib.Core.List.{List, [], _++_, _∷_}
 use mathlib.Core.Path.{_≡_}
 use Prim.Native.Nat.{_*_, _+_, _-_, _≤_, suc, zero, ℕ}
 use lib.Dec.{eqb, leb, ltb}
-use lib.ListN.{drop, getD, length, take}
+use lib.ListN.{drop, length, take}
 use Rattle.codec.specs.Codec.{AreBytes}
 use Rattle.rows.specs.Reading.{Parsed, readBy}
 use Rattle.rows.specs.Table.{accession, letters, row}

@@ -1,9 +1,9 @@
 -- One line: which row it is read by, and the bytes of its step; and which row a step is written by.
 use mathlib.Core.Bool.{Bool, _&&_, _||_, cond, false, true}
-use mathlib.Core.List.{List, [], _++_, _∷_}
+use mathlib.Core.List.{List, [], _∷_}
 use Prim.Native.Nat.{_+_, suc, ℕ}
 use lib.Dec.{eqb, leb, ltb}
-use lib.ListN.{drop, getD}
+use lib.ListN.{getD}
 use Rattle.codec.specs.Codec.{leAt}
 use Rattle.rows.specs.Reading.{Parsed, readBy}
 use Rattle.rows.specs.Table.{accession, ahead, migration, raw, rawRow, row, rows, shaped, table}

@@ -1,11 +1,8 @@
 -- A loop over a row: what remains to be read, with the bytes put so far, is what there was to read.
-use mathlib.Core.Bool.{Bool, cond, false, true}
 use mathlib.Core.List.{List, [], _++_, _∷_}
 use mathlib.Core.Path.{_∙_, _≡_, ap, refl, sym}
-use Prim.Native.Nat.{_*_, _+_, _-_, _<_, _≤_, suc, zero, ℕ}
-use native.Mathlib.Nat.{add-zero}
+use Prim.Native.Nat.{_*_, _+_, _<_, _≤_, ℕ}
 use native.Mathlib.Omega.{arith}
-use lib.Dec.{eqb}
 use lib.ListN.{drop, getD, length, length-append}
 use lib.Seq.{length-sets, sets}
 use borrow.Author.Tests.{eq-eqb, ne-eqb}
@@ -14,7 +11,6 @@ use Rattle.codec.specs.Codec.{leBytes}
 use Rattle.rows.specs.Items.{formOf, takeAs, width}
 use Rattle.rows.specs.Reading.{Parsed as Said, readBy}
 use Rattle.parsing.specs.Took.{ReadTo, Took}
-use Rattle.parsing.specs.declared.Parsed.{Parsed}
 use Rattle.parsing.specs.declared.Token.{Token}
 use Rattle.parsing.proofs.Turns.{at-end, at-place}
 

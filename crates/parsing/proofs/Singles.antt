@@ -1,16 +1,15 @@
 -- What an item is read as, by the ways through its tests.
-use mathlib.Core.Bool.{Bool, _&&_, _||_, cond, false, true, true≢false}
-use mathlib.Core.List.{List, [], _∷_}
+use mathlib.Core.Bool.{Bool, _&&_, false, true}
+use mathlib.Core.List.{List}
 use mathlib.Core.Path.{_∙_, _≡_, ap, refl, sym}
-use Prim.Native.Nat.{_*_, _+_, _-_, _<_, _≤_, suc, zero, ℕ}
+use Prim.Native.Nat.{_*_, _+_, _-_, _<_, _≤_, ℕ}
 use native.Mathlib.Omega.{arith}
-use lib.Dec.{eqb, leb, ltb}
+use lib.Dec.{ltb}
 use lib.ListN.{List·getD-eq-default, drop, getD, length, length-drop, length-take, take}
 use lib.Seq.{drop-drop, getD-drop}
-use borrow.Author.Tests.{eq-eqb, le-leb, le-ltb, lt-leb, lt-ltb, ne-eqb}
+use borrow.Author.Tests.{eq-eqb, le-ltb, lt-leb, lt-ltb, ne-eqb}
 use Rattle.base.proofs.Lists.{reflect-same}
 use Rattle.base.proofs.Reflect.{and-false, refutes}
-use Rattle.base.specs.Lists.{sameList}
 use Rattle.rows.specs.Items.{Token as Said, between, fault, fine, formOf, hexIn, hexOf, isDigit, isPlain, lacks, literalIn, noByte, noLabel, numbersIn}
 use Rattle.rows.specs.Items.{plainIn, saysNone, setIn, takeAs, width}
 use Rattle.rows.specs.Table.{letters}

@@ -1,10 +1,10 @@
 -- An item as it is written, by the ways through its tests.
-use mathlib.Core.Bool.{Bool, _&&_, _||_, cond, false, true}
+use mathlib.Core.Bool.{Bool, cond, false, true}
 use mathlib.Core.List.{List, [], _++_, _∷_, append-assoc}
 use mathlib.Core.Path.{_∙_, _≡_, ap, refl, sym}
 use Prim.Native.Nat.{_%_, _*_, _+_, _-_, _/_, _<_, _^_, _≤_, suc, zero, ℕ}
 use native.Mathlib.Omega.{arith}
-use lib.Dec.{eqb, leb, ltb}
+use lib.Dec.{eqb}
 use lib.ListN.{drop, getD, length, length-append}
 use lib.Seq.{getD-drop, length-sets, sets}
 use borrow.Author.Tests.{eq-eqb, le-ltb, lt-ltb, ne-eqb}
@@ -12,7 +12,7 @@ use Rattle.codec.proofs.Numbers.{sets-append}
 use Rattle.codec.specs.Codec.{leAt}
 use Rattle.rows.proofs.Lengths.{item-few}
 use Rattle.rows.proofs.Numbers.{above}
-use Rattle.rows.specs.Items.{between, fitsAs, formOf, hexadecimal, literal, members, number, hexDigit, isPlain, listed, setText, textAs, width}
+use Rattle.rows.specs.Items.{fitsAs, formOf, hexadecimal, literal, members, number, hexDigit, isPlain, listed, setText, textAs, width}
 use Rattle.rows.specs.Table.{letters}
 use Rattle.sets.specs.Bits.{hasBit}
 use Rattle.digits.proofs.Writing.{then}

@@ -13,7 +13,6 @@ use Rattle.generations.specs.Memo.{Memo}
 use Rattle.ledger.specs.Decisions.{gatedListing, listing, requiring, unlisted}
 use Rattle.ledger.specs.Given.{Aged}
 use Rattle.ledger.specs.Holders.{heldSomewhere}
-use Rattle.ledger.specs.Worlds.{dependencies, generations}
 use Rattle.ledger.specs.declared.Decision.{Decision}
 use Rattle.ledger.specs.declared.Listing.{Listing}
 use Rattle.vaults.specs.Vaults.{newVault}

@@ -1,10 +1,10 @@
 -- What the quota gives over any list of a client's counted requests. A request that brought a new signature had at most three among the fifteen before it, so
 -- sixteen in a row have at most four. A refusal by the quota had four among the fifteen before it; after twelve refusals in a row only three of those fifteen
 -- can be others. The history's bits are the list's newest fifteen, so counting its ones counts them.
-use mathlib.Core.Bool.{Bool, cond, false, true, true≢false}
+use mathlib.Core.Bool.{Bool, cond, false, true}
 use mathlib.Core.List.{List, [], _++_, _∷_}
 use mathlib.Core.Logic.{inl, inr}
-use mathlib.Core.Path.{_∙_, _≡_, ap, ap₂, refl, subst, sym}
+use mathlib.Core.Path.{_∙_, _≡_, ap, ap₂, refl, subst}
 use Prim.Native.Nat.{_%_, _*_, _+_, _/_, _<_, _^_, _≤_, suc, zero, zero-le, ℕ}
 use native.Mathlib.Nat.{mul-assoc, mul-comm, not-suc-le-zero, pow-suc}
 use native.Mathlib.Omega.{arith}

@@ -1,7 +1,7 @@
 // A client's quota at a vault: the last fifteen counted requests as a number, the newest in the lowest bit, set where it brought a new signature. Document 02
 // calls a client a desk.
 ghost use mathlib.Core.Path.{_≡_};
-ghost use Prim.Native.Nat.{_<_, _≤_};
+ghost use Prim.Native.Nat.{_<_};
 ghost use Rattle.quota.specs.Quota.{historyPlace, isClient, isSpent, remembered};
 
 // Check 22.

@@ -5,7 +5,7 @@ use Prim.Native.Nat.{_+_, _<_, _≤_, ℕ}
 use native.Mathlib.Omega.{arith}
 use lib.ListN.{getD, length}
 use borrow.Author.Tests.{le-ltb, lt-ltb, ne-eqb}
-use Rattle.codec.proofs.Sizes.{size-least, size-most}
+use Rattle.codec.proofs.Sizes.{size-least}
 use Rattle.codec.specs.Codec.{recordSize}
 use Rattle.runfile.specs.Run.{longest}
 use Rattle.runfile.specs.Steps.{bodySize, commandIn, endOf, kindAt, kindOf}

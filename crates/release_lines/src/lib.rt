@@ -1,6 +1,4 @@
 // The lines of the input tapes of one job, in the release list.
-ghost use mathlib.Core.List.{_∷_, []};
-ghost use mathlib.Core.Path.{_≡_};
 ghost use Prim.Native.Nat.{_*_, _+_, _<_, _≤_};
 ghost use lib.ListN.{length};
 ghost use Rattle.codec.specs.Codec.{leBytes};

@@ -2,15 +2,15 @@
 use mathlib.Core.Bool.{Bool, _&&_, cond, false, true}
 use mathlib.Core.List.{List}
 use mathlib.Core.Path.{_∙_, _≡_, ap, refl, sym}
-use Prim.Native.Nat.{_+_, _-_, _<_, _≤_, suc, zero, ℕ}
+use Prim.Native.Nat.{_+_, _<_, _≤_, suc, zero, ℕ}
 use native.Mathlib.Omega.{arith}
-use lib.Dec.{eqb, leb, ltb}
+use lib.Dec.{eqb, leb}
 use lib.ListN.{drop, getD, length, take}
 use lib.Seq.{getD-drop}
 use borrow.Author.Tests.{eq-eqb, eqb-true, le-leb, leb-true, lt-leb, ne-eqb}
 use Rattle.base.proofs.Reflect.{and-false, and-true, by-test}
 use Rattle.codec.specs.Codec.{leAt}
-use Rattle.rows.specs.Table.{accession, rawRow, row, shaped}
+use Rattle.rows.specs.Table.{rawRow, row, shaped}
 use Rattle.rows.specs.Writing.{fits}
 use Rattle.digits.proofs.Writing.{made}
 use Rattle.digits.specs.Digits.{Put}

@@ -58,7 +58,7 @@ fn proposal_row(version: u16, step: &[u8], buffer: &mut [u8]) -> usize
 {
     if has_shape(step) {
         let n = shaped_row(version, step, buffer);
-        if printing::fits(lines::front(buffer, n), step) {
+        if printing::fits(parts::front(buffer, n), step) {
             return n;
         }
         return raw_row(version, buffer);

@@ -1,7 +1,7 @@
 -- An item has no more characters than its form allows, so neither has a row: a number below 10 ^ k has at most k digits.
 use mathlib.Core.Bool.{Bool, cond, false, true}
 use mathlib.Core.List.{List, [], _++_, _∷_}
-use mathlib.Core.Path.{_∙_, _≡_, refl}
+use mathlib.Core.Path.{_≡_, refl}
 use Prim.Native.Nat.{_%_, _*_, _+_, _/_, _<_, _^_, _≤_, suc, zero, ℕ}
 use native.Mathlib.Omega.{arith}
 use lib.Dec.{eqb, ltb}
@@ -11,7 +11,7 @@ use Rattle.base.proofs.Reflect.{by-test}
 use Rattle.codec.specs.Codec.{AreBytes, leAt}
 use Rattle.sets.specs.Bits.{hasBit}
 use Rattle.digits.specs.Digits.{decimal, digits}
-use Rattle.rows.specs.Items.{Form, constant, formOf, hexDigit, hexadecimal, listed, literal, members, number, plain, setText, textAs, width}
+use Rattle.rows.specs.Items.{Form, constant, formOf, hexadecimal, listed, literal, members, number, plain, setText, textAs, width}
 use Rattle.rows.specs.Table.{letters}
 use Rattle.rows.specs.Writing.{longestAs, longestBy, textBy}
 use Rattle.rows.proofs.Numbers.{leAt-lt}

@@ -1,13 +1,12 @@
 -- A number that was written is read again, digit by digit: each digit adds itself to ten times what stands before it.
-use mathlib.Core.Bool.{Bool, _&&_, _||_, cond, false, not, true}
+use mathlib.Core.Bool.{Bool, _&&_, _||_, cond, false, true}
 use mathlib.Core.List.{List, [], _++_, _∷_, append-assoc}
-use mathlib.Core.Path.{_∙_, _≡_, ap, refl, sym}
+use mathlib.Core.Path.{_∙_, _≡_, ap, refl}
 use Prim.Native.Nat.{_%_, _*_, _+_, _-_, _/_, _<_, _^_, _≤_, suc, zero, ℕ}
 use native.Mathlib.Omega.{arith}
 use lib.Dec.{eqb, leb, ltb}
-use lib.ListN.{getD}
-use borrow.Author.Tests.{le-leb, le-ltb, lt-leb, lt-ltb, ltb-false, ltb-true}
-use Rattle.base.proofs.Reflect.{and-true, by-test, or-false, reflect-false}
+use borrow.Author.Tests.{le-leb, lt-leb, lt-ltb, ltb-false, ltb-true}
+use Rattle.base.proofs.Reflect.{by-test, or-false, reflect-false}
 use Rattle.codec.specs.Codec.{AreBytes, leAt}
 use Rattle.sets.specs.Bits.{withMember}
 use Rattle.digits.specs.Digits.{decimal, digits}

@@ -1,19 +1,18 @@
 -- What a row says of a step is read again by the row: one induction over the row.
-use mathlib.Core.Bool.{Bool, _&&_, _||_, cond, false, not, true}
+use mathlib.Core.Bool.{Bool, false, true}
 use mathlib.Core.List.{List, [], _++_, _∷_, append-assoc}
 use mathlib.Core.Path.{_∙_, _≡_, ap, refl, sym}
-use Prim.Native.Nat.{_%_, _*_, _+_, _-_, _/_, _<_, _^_, _≤_, suc, zero, ℕ}
+use Prim.Native.Nat.{_%_, _+_, _/_, _<_, _^_, ℕ}
 use native.Mathlib.Omega.{arith}
-use lib.Dec.{eqb, leb, ltb}
-use lib.ListN.{drop, getD, length, length-drop, take, take-append-drop}
+use lib.ListN.{drop, length, length-drop, take-append-drop}
 use lib.Seq.{getD-drop}
 use borrow.Author.Tests.{eq-eqb, eqb-true, lt-ltb}
 use Rattle.base.proofs.Reflect.{and-true}
 use Rattle.codec.proofs.RoundTrip.{leBytes-leAt}
 use Rattle.codec.specs.Codec.{AreBytes, leAt, leBytes}
-use Rattle.rows.specs.Items.{Form, constant, fine, fitsAs, formOf, hexDigit, hexIn, hexOf, hexadecimal, literal, literalIn, members, number, plain}
+use Rattle.rows.specs.Items.{Form, constant, fine, fitsAs, formOf, hexIn, hexadecimal, literal, literalIn, members, number, plain}
 use Rattle.rows.specs.Items.{plainIn, takeAs, textAs, width}
-use Rattle.rows.specs.Reading.{Parsed, onward, readBy}
+use Rattle.rows.specs.Reading.{readBy}
 use Rattle.rows.specs.Writing.{endsAs, endsNext, fits, readable, readableAs, textBy, widths}
 use Rattle.rows.proofs.Numbers.{decimal-in, ended, endsHead, hex-in, leAt-lt}
 use Rattle.rows.proofs.Sets.{set-in}

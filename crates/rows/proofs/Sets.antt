@@ -1,14 +1,12 @@
 -- A set that was written is read again: after the members below i, the set so far has exactly the members of the set below i.
-use mathlib.Core.Bool.{Bool, _&&_, _||_, cond, false, not, true, true≢false}
+use mathlib.Core.Bool.{Bool, _&&_, false, true, true≢false}
 use mathlib.Core.List.{List, [], _++_, _∷_, append-assoc}
 use mathlib.Core.Path.{_∙_, _≡_, ap, refl, sym}
-use Prim.Native.Nat.{_%_, _*_, _+_, _-_, _/_, _<_, _^_, _≤_, suc, zero, ℕ}
+use Prim.Native.Nat.{_+_, _<_, _^_, suc, zero, ℕ}
 use native.Mathlib.Omega.{arith}
-use lib.Dec.{eqb, leb, ltb}
-use lib.ListN.{drop, take}
+use lib.Dec.{eqb, ltb}
 use borrow.Author.Tests.{eqb-false, eqb-true, le-ltb, lt-ltb, ltb-false, ltb-true}
-use Rattle.base.proofs.Lists.{reflect-same}
-use Rattle.base.proofs.Reflect.{and-true, by-cases, by-test}
+use Rattle.base.proofs.Reflect.{and-true, by-test}
 use Rattle.base.specs.Lists.{sameList}
 use Rattle.sets.proofs.Bits.{has-member-other, has-member-same, has-none, member-lt, members-same}
 use Rattle.sets.specs.Bits.{hasBit, withMember}

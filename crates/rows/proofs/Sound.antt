@@ -1,19 +1,19 @@
 -- What is read fits: a value has no more bytes than its item, so that nothing is cut, and a row gives as many bytes as it stands for.
-use mathlib.Core.Bool.{Bool, _&&_, _||_, cond, false, not, true, true≢false}
+use mathlib.Core.Bool.{Bool, _&&_, cond, false, true}
 use mathlib.Core.List.{List, [], _++_, _∷_}
-use mathlib.Core.Path.{_∙_, _≡_, ap, refl, sym}
-use Prim.Native.Nat.{_%_, _*_, _+_, _-_, _/_, _<_, _^_, _≤_, suc, zero, ℕ}
+use mathlib.Core.Path.{_≡_, refl}
+use Prim.Native.Nat.{_*_, _+_, _-_, _/_, _<_, _^_, suc, zero, ℕ}
 use native.Mathlib.Omega.{arith}
 use lib.Dec.{eqb, leb, ltb}
-use lib.ListN.{drop, getD, length, length-append}
-use borrow.Author.Tests.{eqb-false, eqb-true, leb-true, ltb-true}
+use lib.ListN.{getD, length, length-append}
+use borrow.Author.Tests.{eqb-false, leb-true, ltb-true}
 use Rattle.base.proofs.Reflect.{and-true, by-test}
 use Rattle.codec.proofs.Numbers.{length-leBytes}
 use Rattle.codec.specs.Codec.{AreBytes, leBytes}
 use Rattle.sets.proofs.Bits.{member-lt}
 use Rattle.sets.specs.Bits.{withMember}
-use Rattle.rows.specs.Items.{Form, closed, constant, fault, fine, formOf, hexIn, hexOf, hexadecimal, isDigit, literal, literalIn, members, noLabel}
-use Rattle.rows.specs.Items.{noMatch, noNumber, noVault, number, numbersIn, plain, plainIn, saysNone, setIn, takeAs, tooLarge, width}
+use Rattle.rows.specs.Items.{Form, closed, constant, formOf, hexIn, hexOf, hexadecimal, isDigit, literal, literalIn, members, noLabel}
+use Rattle.rows.specs.Items.{noMatch, noVault, number, numbersIn, plain, plainIn, saysNone, setIn, takeAs, tooLarge, width}
 use Rattle.rows.specs.Reading.{Parsed, readBy}
 use Rattle.rows.specs.Writing.{widths}
 

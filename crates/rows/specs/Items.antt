@@ -1,8 +1,7 @@
 -- What a character of a row stands for, how that is read at the front of a text, and how it is written.
 use mathlib.Core.List.{List, [], _++_, _∷_}
 use mathlib.Core.Bool.{Bool, _&&_, _||_, cond, false, true}
-use mathlib.Core.Path.{_≡_}
-use Prim.Native.Nat.{_*_, _+_, _-_, _/_, _%_, _^_, _<_, suc, zero, ℕ}
+use Prim.Native.Nat.{_*_, _+_, _-_, _/_, _%_, _^_, suc, zero, ℕ}
 use lib.Dec.{eqb, leb, ltb}
 use lib.ListN.{drop, getD, take}
 use Rattle.base.specs.Lists.{sameList}

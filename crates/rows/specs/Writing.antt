@@ -1,6 +1,6 @@
 -- A step written by a row.
 use mathlib.Core.List.{List, [], _++_, _∷_}
-use mathlib.Core.Bool.{Bool, _&&_, _||_, cond, false, not, true}
+use mathlib.Core.Bool.{Bool, _&&_, _||_, false, not, true}
 use Prim.Native.Nat.{_*_, _+_, suc, ℕ}
 use lib.Dec.{eqb}
 use lib.ListN.{drop}

@@ -4,7 +4,7 @@
 use mathlib.Core.Bool.{cond, true}
 use mathlib.Core.List.{List, [], _++_, _∷_, append-nil}
 use mathlib.Core.Path.{_∙_, _≡_, ap, refl, subst, sym}
-use Prim.Native.Nat.{_*_, _+_, _-_, suc, zero, ℕ}
+use Prim.Native.Nat.{_+_, _-_, suc, zero, ℕ}
 use native.Mathlib.Omega.{arith}
 use lib.Dec.{leb}
 use lib.ListN.{drop, drop-of-length-le, getD, length, length-take, replicate, take, take-append-drop}

@@ -1,5 +1,5 @@
 -- The vaults are visited in turn, and what is seen in a round is what was seen before in it and what the visited vault shows.
-use mathlib.Core.Bool.{Bool, cond, false, true, true≢false}
+use mathlib.Core.Bool.{cond, false, true, true≢false}
 use mathlib.Core.Logic.{_≢_, _⊎_, inl, inr, ⊎-elim}
 use mathlib.Core.Path.{_∙_, _≡_, refl, sym}
 use Prim.Native.Nat.{_+_, _<_, _≤_, ℕ}

@@ -1,9 +1,9 @@
 -- The parts of a step's explanation, put together; and there is room, since no step has more than 105 bytes.
-use mathlib.Core.Bool.{Bool, cond, false, not, true}
-use mathlib.Core.List.{List, [], _++_, _∷_}
+use mathlib.Core.Bool.{Bool, false, not, true}
+use mathlib.Core.List.{List, [], _∷_}
 use mathlib.Core.Logic.{inl, inr}
-use mathlib.Core.Path.{_∙_, _≡_, ap, refl, sym}
-use Prim.Native.Nat.{_*_, _+_, _-_, _<_, _≤_, ℕ}
+use mathlib.Core.Path.{_∙_, _≡_, ap, sym}
+use Prim.Native.Nat.{_+_, _-_, _<_, _≤_, ℕ}
 use native.Mathlib.Omega.{arith}
 use lib.ListN.{drop, getD, length, take}
 use lib.Dec.{eqb}
@@ -18,14 +18,14 @@ use Rattle.journal.specs.Journal.{recordAt}
 use Rattle.notation.proofs.Lengths.{at-brief}
 use Rattle.notation.proofs.Shapes.{Version}
 use Rattle.notation.proofs.Views.{known-at}
-use Rattle.notation.specs.Files.{bytesAt, isKnown}
+use Rattle.notation.specs.Files.{bytesAt}
 use Rattle.notation.specs.Lines.{lineOf, rowOf}
 use Rattle.outcome.specs.declared.Outcome.{Outcome}
 use Rattle.reading.specs.Reading.{Read}
 use Rattle.reading.specs.declared.Step.{Step}
 use Rattle.rows.specs.Table.{letters}
 use Rattle.rows.specs.Writing.{longestBy}
-use Rattle.runfile.specs.Steps.{bodySize, isUnknown, kindAt, kindOf, nextAt}
+use Rattle.runfile.specs.Steps.{bodySize, isUnknown, kindAt, kindOf}
 use Rattle.runfile.specs.declared.Kind.{Kind}
 use Rattle.runfile.specs.declared.Kind.the-variants.{ClientPreflight, Commit, Dependencies, Draw, Equivocating, FaultyAcknowledge, FaultySign, Generations}
 use Rattle.runfile.specs.declared.Kind.the-variants.{Preflight, Propose, Release, Show, Snapshot, Unknown}

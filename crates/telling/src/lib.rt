@@ -1,5 +1,4 @@
 // A step explained: its number, its text and its answer.
-ghost use mathlib.Core.List.{_∷_, []};
 ghost use mathlib.Core.Path.{_≡_};
 ghost use Prim.Native.Nat.{_+_, _<_, _≤_};
 ghost use lib.ListN.{length};
@@ -57,7 +56,7 @@ fn put_answer(
     let kind = reading::byte_at(input, pos);
     let threshold = quorum(settings);
     if kind == 1 {
-        let own = answers::from(input, pos + 1);
+        let own = parts::from(input, pos + 1);
         return answers::put_answer(out, at, kind, outcome, members, threshold, own);
     }
     let job = reading::byte_at(input, pos + 2) as usize;

@@ -3,7 +3,6 @@ ghost use mathlib.Core.List.{_∷_, []};
 ghost use mathlib.Core.Path.{_≡_};
 ghost use Prim.Native.Nat.{_*_, _+_, _<_, _≤_};
 ghost use lib.ListN.{length};
-ghost use Rattle.codec.specs.Codec.{recordSize};
 ghost use Rattle.rows.specs.Table.{half, rawRow, row, shaped, times, trimmedRow};
 ghost use Rattle.digits.specs.Digits.{Put};
 ghost use Rattle.words.specs.Room.{arrow, longestRow, rowRoom};

@@ -2,7 +2,6 @@
 use Rattle.assembly.proofs.Making.{Making, line-turn, makes}
 use Rattle.assembly.proofs.make.Statement.{statement}
 use Rattle.assembly.proofs.make.Tie as tie
-use Prim.Native.Nat.{_-_}
 use lib.ListN.{length}
 use mathlib.Core.Path.{_≡_}
 use borrow.Author.Needs.{needs}

@@ -3,8 +3,6 @@ use Rattle.base.proofs.Tests.{tests}
 use Rattle.disassembly.proofs.Walks.{Walking, walks}
 use Rattle.disassembly.proofs.is_whole.Statement.{statement}
 use Rattle.disassembly.proofs.is_whole.Tie as tie
-use Prim.Native.Nat.{_-_}
-use lib.ListN.{length}
 use borrow.Author.Needs.{needs}
 
 ruleset by = (walks, tests, needs)

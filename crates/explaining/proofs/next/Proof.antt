@@ -3,7 +3,6 @@ use mathlib.Core.Path.{_∙_, sym}
 use Rattle.explaining.proofs.Telling.{kept-tables, to-hold, to-read, to-turn, to-write, told-once}
 use Rattle.explaining.proofs.next.Statement.{statement}
 use Rattle.explaining.proofs.next.Tie as tie
-use native.Mathlib.Omega.{arith}
 use borrow.Author.Needs.{needs}
 
 turn-requires : tie.Need-turn-requires

@@ -1,7 +1,6 @@
 -- The run's place in its buffer alone is another.
 use mathlib.Core.Path.{ap}
 use Rattle.progress.specs.declared.Progress.{Progress}
-use Rattle.progress.specs.declared.Turned.{Turned}
 use Rattle.explaining.proofs.said_by.Statement.{statement}
 use Rattle.explaining.proofs.said_by.Tie as tie
 use borrow.Author.Needs.{needs}

@@ -1,7 +1,6 @@
 -- Cut short where the buffer is longer, else the whole.
 use Rattle.parts.proofs.front.Statement.{statement}
 use Rattle.parts.proofs.front.Tie as tie
-use borrow.Author.Needs.{needs}
 use denote.Ref.{now}
 use lib.ListN.{length-take}
 use lib.Seq.{length-take-le, take-all}

@@ -1,5 +1,5 @@
 -- The body is stored first, and in version 2 the trimmed frames after it. A buffer too short is not touched.
-use mathlib.Core.Path.{_∙_, _≡_, ap, sym}
+use mathlib.Core.Path.{_∙_, _≡_, sym}
 use native.Mathlib.Omega.{arith}
 use Prim.Native.Nat.{_≤_}
 use lib.ListN.{length}

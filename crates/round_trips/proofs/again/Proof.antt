@@ -1,7 +1,5 @@
 -- What is written is the record of the job that the bytes say, and that is the bytes.
-use mathlib.Core.Path.{_≡_}
 use native.Mathlib.Omega.{arith}
-use lib.ListN.{length}
 use borrow.Author.Needs.{needs}
 use Rattle.codec.proofs.Jobs.{front-eight}
 use Rattle.codec.proofs.RoundTrip.{same-bytes}

@@ -1,6 +1,5 @@
 -- What is written is the job's record, and a record says its job.
 use borrow.Author.Needs.{needs}
-use native.Mathlib.Omega.{arith}
 use Rattle.record.proofs.Eight.{length-mapped}
 use Rattle.codec.proofs.RoundTrip.{entries-fit, same-job}
 use Rattle.codec.proofs.Sizes.{size-most}

@@ -1,7 +1,6 @@
 use Rattle.words.proofs.Copies.{half-end, half-put, rows-put}
 use Rattle.words.proofs.put_half.Statement.{statement}
 use Rattle.words.proofs.put_half.Tie as tie
-use native.Mathlib.Omega.{arith}
 use borrow.Author.Needs.{needs}
 
 ruleset by = (rows-put, needs)

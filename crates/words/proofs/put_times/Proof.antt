@@ -3,7 +3,6 @@ use Rattle.words.proofs.Copies.{Repeating, repeats}
 use Rattle.words.proofs.put_times.Statement.{statement}
 use Rattle.words.proofs.put_times.Tie as tie
 use Prim.Native.Nat.{_-_}
-use lib.ListN.{length}
 use borrow.Author.Needs.{needs}
 
 ruleset by = (repeats, needs)

@@ -1,7 +1,6 @@
 use Rattle.words.proofs.Copies.{frames-end, frames-put, rows-put, zeros-put}
 use Rattle.words.proofs.put_trimmed.Statement.{statement}
 use Rattle.words.proofs.put_trimmed.Tie as tie
-use native.Mathlib.Omega.{arith}
 use borrow.Author.Needs.{needs}
 
 ruleset by = (rows-put, needs)

@@ -3,7 +3,6 @@ use Rattle.printing.proofs.Shown.{Listing, list-turn, lists}
 use Rattle.printing.proofs.items.put_set.Statement.{statement}
 use Rattle.printing.proofs.items.put_set.Tie as tie
 use Prim.Native.Nat.{_-_}
-use lib.ListN.{length}
 use borrow.Author.Needs.{needs}
 
 ruleset by = (lists, needs)

@@ -1,6 +1,6 @@
 -- The first bit of the low word, or of the high one where the low one has none.
 use borrow.Author.Needs.{needs}
-use mathlib.Core.Path.{_∙_, _≡_, ap}
+use mathlib.Core.Path.{_∙_, ap}
 use Prim.Native.Nat.{_+_, ℕ}
 use native.Mathlib.Omega.{arith}
 use Rattle.text.proofs.Members.{first-high, first-low}
