@@ -1,9 +1,6 @@
 // An estimate is checked and tightened (document 02, M-110): whether some choice of counts balances, and each entry's tightest range.
 ghost use mathlib.Core.Path.{_≡_};
 ghost use Rattle.ranges.specs.Tighten.{firstFailing, checksOf, tightenOf};
-
-mod form;
-
 use outcome::Outcome;
 use outcome::Verdict;
 use ranges::Estimate;
@@ -22,7 +19,7 @@ fn first_failing(earlier: Verdict, later: Verdict) -> Verdict
 fn check(e: Estimate) -> Verdict
     ensures { λ r. ⌜ r ≡ checksOf e ⌝ }
 {
-    let form = form::check(e);
+    let form = estimate_forms::check(e);
     let order = spans::check_order(e);
     let balance = spans::check_balance(e);
     first_failing(form, first_failing(order, balance))

@@ -2,8 +2,8 @@
 use mathlib.Core.Path.{_∙_, sym}
 use borrow.Author.Needs.{needs}
 use borrow.Author.Tests.{eq-eqb, ne-eqb}
-use Rattle.estimates.proofs.form.without_balance.Statement.{statement}
-use Rattle.estimates.proofs.form.without_balance.Tie as tie
+use Rattle.estimate_forms.proofs.without_balance.Statement.{statement}
+use Rattle.estimate_forms.proofs.without_balance.Tie as tie
 
 pub without-balance-spec : {M : Type 1} → statement M
 without-balance-spec =

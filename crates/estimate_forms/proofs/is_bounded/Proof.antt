@@ -1,9 +1,9 @@
 -- Each return is one way through the test of `isBounded`.
 use borrow.Author.Needs.{needs}
 use Rattle.base.proofs.Tests.{chain}
-use Rattle.estimates.proofs.form.is_bounded.Statement.{statement}
+use Rattle.estimate_forms.proofs.is_bounded.Statement.{statement}
 use Rattle.ranges.specs.Form.{isBounded}
-use Rattle.estimates.proofs.form.is_bounded.Tie as tie
+use Rattle.estimate_forms.proofs.is_bounded.Tie as tie
 
 pub is-bounded-spec : {M : Type 1} → statement M
 unfolding isBounded

@@ -1,9 +1,9 @@
 -- Each return is one way through the test of `formOf`.
 use mathlib.Core.Path.{_∙_, sym}
 use borrow.Author.Needs.{needs}
-use Rattle.estimates.proofs.form.check.Statement.{statement}
+use Rattle.estimate_forms.proofs.check.Statement.{statement}
 use Rattle.ranges.specs.Form.{formOf}
-use Rattle.estimates.proofs.form.check.Tie as tie
+use Rattle.estimate_forms.proofs.check.Tie as tie
 
 pub check-spec : {M : Type 1} → statement M
 unfolding formOf

@@ -6,10 +6,10 @@ use lib.ListN.{length, length-set}
 use lib.Seq.{sets}
 use borrow.Author.Needs.{needs}
 use Rattle.ranges.proofs.Lists.{list-end, list-next, list-start}
-use Rattle.estimates.proofs.form.lowest_job.Statement.{statement}
+use Rattle.estimate_forms.proofs.lowest_job.Statement.{statement}
 use Rattle.ranges.specs.Form.{lowestEntry, lowestJob}
 use Rattle.ranges.specs.Ranges.{listFrom}
-use Rattle.estimates.proofs.form.lowest_job.Tie as tie
+use Rattle.estimate_forms.proofs.lowest_job.Tie as tie
 
 abbrev Inv-loop : tie.InvT-loop
 Inv-loop e entries₀ i₀ entries i =

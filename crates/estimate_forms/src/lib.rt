@@ -1,4 +1,4 @@
-// Checks 6 to 8 of the job that has the lowest counts as its frames. Check 9 is not asked of it: 25 stands in its place.
+// The form of an estimate: checks 6 to 8 of the job that has the lowest counts as its frames. Check 9 is not asked of it: 25 stands in its place.
 ghost use mathlib.Core.Path.{_≡_};
 ghost use Prim.Native.Nat.{_<_};
 ghost use Rattle.base.specs.Search.{allBelow};
@@ -68,7 +68,7 @@ fn without_balance(verdict: Verdict) -> Verdict
     }
 }
 
-pub(crate) fn check(e: Estimate) -> Verdict
+pub fn check(e: Estimate) -> Verdict
     ensures { λ r. ⌜ r ≡ formOf e ⌝ }
 {
     let job = lowest_job(e);
