@@ -6,7 +6,7 @@ use Rattle.base.specs.Search.{allBelow, anyBelow, firstBelow, sumFrom}
 use Rattle.checks.specs.Checks.{balanced, checkOf, countsFormed, entryFormed, examined, hasLabelOf, inputsFormed, isBlank}
 use Rattle.checks.specs.Checks.{isFilled, isWritten, repeatedAt, trimmedFormed, unsupportedAt, wellFormed}
 use Rattle.codec.specs.Codec.{entriesAt, entryAt, jobOf, leAt, placeOf, recordSize, saysTrimmed, wholeIn}
-use Rattle.record.specs.Drives.{isDrive, supports}
+use Rattle.drives.specs.Drives.{isDrive, supports}
 use Rattle.record.specs.Entries.{framesOf, isUsed, labelOf, usedFrames}
 use Rattle.record.specs.Labels.{charAt, isAlphanumeric, isBetween, isLabel, mediumOf}
 use Rattle.federation.specs.Federation.{isFederation, isKnown, isLawfulUpTo, thresholdOf}

@@ -12,7 +12,7 @@ use Rattle.record.specs.declared.Job.{Job}
 use Rattle.codec.specs.Codec.{recordSize, jobOf}
 use Rattle.record.specs.Entries.{labelOf, framesOf, isUsed, usedFrames}
 use Rattle.record.specs.Labels.{isBetween, isLabel, mediumOf}
-use Rattle.record.specs.Drives.{isDrive, supports}
+use Rattle.drives.specs.Drives.{isDrive, supports}
 
 -- ---- 6: "An accession has 0 inputs, a migration 1 to 4; both have 1 to 4 outputs."
 unfoldable pub inputsFormed : Job → Bool

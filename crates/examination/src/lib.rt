@@ -5,7 +5,6 @@ ghost use Rattle.checks.specs.Checks.{hasLabelOf, repeatedAt, isWritten, unsupp
 use outcome::Refusal;
 use outcome::Verdict;
 use record::Job;
-use record::drives;
 use record::entries;
 use record::labels;
 

@@ -4,7 +4,6 @@ ghost use mathlib.Core.Path.{_≡_};
 ghost use Rattle.base.specs.Search.{allBelow};
 ghost use Rattle.checks.specs.Checks.{inputsFormed, countsFormed, isFilled, isBlank, entryFormed, trimmedFormed, wellFormed};
 use record::Job;
-use record::drives;
 use record::entries;
 use record::labels;
 

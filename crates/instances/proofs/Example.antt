@@ -28,7 +28,7 @@ use Rattle.checks.specs.Checks.{
 }
 use Rattle.codec.specs.Codec.{entriesAt, entryAt, jobOf, leAt, placeOf, recordSize, saysTrimmed, wholeIn}
 use Rattle.conflicts.specs.Conflicts.{isLabelAt, isTapeAt, labelIn, makesTape}
-use Rattle.record.specs.Drives.{isDrive, supports}
+use Rattle.drives.specs.Drives.{isDrive, supports}
 use Rattle.record.specs.Entries.{framesOf, isUsed, labelOf, usedFrames}
 use Rattle.record.specs.Labels.{charAt, isAlphanumeric, isBetween, isLabel, mediumOf}
 use Rattle.conflicts.specs.Tapes.{sameTape, usedFrom}

@@ -27,7 +27,7 @@ use Rattle.checks.specs.Checks.{
 }
 use Rattle.codec.specs.Codec.{entriesAt, entryAt, jobOf, leAt, recordSize, saysTrimmed}
 use Rattle.conflicts.specs.Tapes.{sameTape, usedFrom}
-use Rattle.record.specs.Drives.{isDrive, supports}
+use Rattle.drives.specs.Drives.{isDrive, supports}
 use Rattle.record.specs.Entries.{framesOf, isUsed, labelOf, usedFrames}
 use Rattle.record.specs.Labels.{charAt, isAlphanumeric, isBetween, isLabel, mediumOf}
 use Rattle.instances.proofs.Example.{accession, blank, first-tape}

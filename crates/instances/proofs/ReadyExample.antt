@@ -31,7 +31,7 @@ use Rattle.checks.specs.Checks.{
 }
 use Rattle.codec.specs.Codec.{entriesAt, entryAt, jobOf, leAt, placeOf, recordSize, saysTrimmed, wholeIn}
 use Rattle.conflicts.specs.Conflicts.{conflicting, isLabelAt, isTapeAt, labelIn, makesTape, sharesAt, sharesIn}
-use Rattle.record.specs.Drives.{isDrive, supports}
+use Rattle.drives.specs.Drives.{isDrive, supports}
 use Rattle.record.specs.Entries.{framesOf, isUsed, labelOf, usedFrames}
 use Rattle.record.specs.Labels.{charAt, isAlphanumeric, isBetween, isLabel, mediumOf}
 use Rattle.conflicts.specs.Tapes.{usedFrom}

@@ -31,7 +31,7 @@ use Rattle.queries.specs.Admission.{admission, consumedAt, listedBy, listsAt, m
 use Rattle.journal.specs.Journal.{equalAt, equalIn, hasRoom, insideOf, isBooked, jobAt, putAt, recordAt, slotAt}
 use Rattle.quota.specs.Asks.{AllOver, Ask}
 use Rattle.quota.specs.Quota.{historyPlace, isClient, isSpent, remembered}
-use Rattle.record.specs.Drives.{isDrive, supports}
+use Rattle.drives.specs.Drives.{isDrive, supports}
 use Rattle.record.specs.Entries.{framesOf, isUsed, labelOf, usedFrames}
 use Rattle.record.specs.Labels.{charAt, isAlphanumeric, isBetween, isLabel, mediumOf}
 use Rattle.sets.specs.Bits.{hasBit, withBit, withMember, withoutBit}

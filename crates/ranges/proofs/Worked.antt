@@ -6,7 +6,7 @@ use Rattle.base.specs.Search.{allBelow, anyBelow, firstBelow, sumFrom}
 use Rattle.outcome.specs.declared.Outcome.{Outcome}
 use Rattle.outcome.specs.declared.Outcome.the-variants.{Done, Refused}
 use Rattle.outcome.specs.declared.Refusal.the-variants.{Malformed, NoneBalances, Reversed}
-use Rattle.record.specs.Drives.{isDrive, supports}
+use Rattle.drives.specs.Drives.{isDrive, supports}
 use Rattle.record.specs.Entries.{framesOf, isUsed, labelOf, usedFrames}
 use Rattle.record.specs.Labels.{charAt, isAlphanumeric, isBetween, isLabel, mediumOf}
 use Rattle.checks.specs.Checks.{trimmedFormed}

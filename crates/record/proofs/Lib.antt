@@ -1,4 +1,3 @@
 pub mod Eight
 pub mod Meaning
 pub mod Ranges
-pub mod Table

@@ -1,4 +1,3 @@
-pub mod Drives
 pub mod Entries
 pub mod Labels
 pub mod Meaning

@@ -1,5 +1,4 @@
-// Jobs: their entries, the labels and tapes in them, and the house table of drives.
-pub mod drives;
+// Jobs: their entries, and the labels and tapes in them.
 pub mod entries;
 pub mod labels;
 

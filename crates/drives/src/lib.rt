@@ -1,8 +1,8 @@
 // The house table: which media a drive reads and writes.
 ghost use mathlib.Core.Path.{_≡_};
-ghost use Rattle.record.specs.Drives.{supports, isDrive};
-use crate::labels;
-use crate::labels::MEDIA;
+ghost use Rattle.drives.specs.Drives.{supports, isDrive};
+use record::labels;
+use record::labels::MEDIA;
 
 // A row for each of drives 5 to 9, a column for each medium, L5 to L9 and M8.
 const READS: [[bool; 6]; 5] = [

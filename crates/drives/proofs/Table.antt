@@ -1,6 +1,6 @@
 -- The two constant tables say what the house table's rows list, and M8's rule: one computed test over both, turned into
 -- the rule at each drive and medium. A medium past the last column is in no row.
--- as in src/drives.rt
+-- as in src/lib.rt
 use mathlib.Core.Bool.{Bool, _&&_, _||_, cond, false, not, true}
 use mathlib.Core.List.{List, [], _∷_}
 use mathlib.Core.Path.{_≡_, refl, subst, sym}
@@ -12,8 +12,8 @@ use borrow.Author.Tests.{le-leb, ltb-true, ne-eqb, not-true}
 use Rattle.base.proofs.Reflect.{and-false, and-true}
 use Rattle.base.proofs.Search.{all-at}
 use Rattle.base.specs.Search.{allBelow}
-use Rattle.record.specs.Drives.{isDrive, isInTable, isListed, readRows, supports, writeRows}
+use Rattle.drives.specs.Drives.{isDrive, isInTable, isListed, readRows, supports, writeRows}
 use Rattle.record.specs.Labels.{M8, isBetween, media}
 
 abbrev reads : List (List Bool)
 reads =

@@ -3,11 +3,11 @@ use mathlib.Core.Bool.{false, true}
 use native.Mathlib.Omega.{arith}
 use borrow.Author.Needs.{needs}
 use Rattle.base.proofs.Tests.{tests}
-use Rattle.record.proofs.Table.{supports-cell, supports-none}
-use Rattle.record.proofs.drives.supports.Statement.{statement}
-use Rattle.record.specs.Drives.{isDrive, supports}
+use Rattle.drives.proofs.Table.{supports-cell, supports-none}
+use Rattle.drives.proofs.supports.Statement.{statement}
+use Rattle.drives.specs.Drives.{isDrive, supports}
 use Rattle.record.specs.Labels.{isBetween}
-use Rattle.record.proofs.drives.supports.Tie as tie
+use Rattle.drives.proofs.supports.Tie as tie
 
 returns : tie.Need-returns
 unfolding supports isDrive isBetween

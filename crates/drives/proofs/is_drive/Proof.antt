@@ -1,8 +1,8 @@
 -- A drive is a number between 5 and 9.
 use borrow.Author.Needs.{needs}
-use Rattle.record.proofs.drives.is_drive.Statement.{statement}
-use Rattle.record.specs.Drives.{isDrive}
-use Rattle.record.proofs.drives.is_drive.Tie as tie
+use Rattle.drives.proofs.is_drive.Statement.{statement}
+use Rattle.drives.specs.Drives.{isDrive}
+use Rattle.drives.proofs.is_drive.Tie as tie
 
 returns : tie.Need-returns
 unfolding isDrive
