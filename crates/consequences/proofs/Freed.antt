@@ -40,14 +40,6 @@ pub reflect-finished : (l : Ledger) (k : ℕ) → Reflects (isFinished l k) (thr
 unfolding isFinished
 reflect-finished l k = reflect-le (thresholdOf (l .settings)) (ones (acknowledgersOf l k))
 
--- kind 6 answers 2 for finished jobs, and for no others
-pub shown-finished : (l : Ledger) (k : ℕ) → eqb (statusOf (l .settings) (votesAt l k)) 2 ≡ isFinished l k
-unfolding isFinished statusOf votesIn
-shown-finished l k =
-    by-cases (λ f. eqb (cond f 2 (cond (leb (thresholdOf (l .settings)) (ones (votesAt l k .signatures))) 1 0)) 2 ≡ f)
-    (leb (thresholdOf (l .settings)) (ones (votesAt l k .acknowledgements))) (λ e. refl)
-    (λ e. by-cases (λ c. eqb (cond c 1 0) 2 ≡ false) (leb (thresholdOf (l .settings)) (ones (votesAt l k .signatures))) (λ x. refl) (λ x. refl))
-
 -- ---- the list by its members
 module _ (l : Ledger) (job : ℕ → Job) where
   -- an input of a finished one of the n jobs from k on
@@ -247,3 +239,11 @@ free-for-good n b faulty version lawful es fs =
       later,
       λ x m. (stays-listed fs w r i x m, later .gone x (stays-listed fs w r i x m)),
     )
+
+-- kind 6 answers 2 for finished jobs, and for no others
+pub shown-finished : (l : Ledger) (k : ℕ) → eqb (statusOf (l .settings) (votesAt l k)) 2 ≡ isFinished l k
+unfolding isFinished statusOf votesIn
+shown-finished l k =
+    by-cases (λ f. eqb (cond f 2 (cond (leb (thresholdOf (l .settings)) (ones (votesAt l k .signatures))) 1 0)) 2 ≡ f)
+    (leb (thresholdOf (l .settings)) (ones (votesAt l k .acknowledgements))) (λ e. refl)
+    (λ e. by-cases (λ c. eqb (cond c 1 0) 2 ≡ false) (leb (thresholdOf (l .settings)) (ones (votesAt l k .signatures))) (λ x. refl) (λ x. refl))
