@@ -12,8 +12,8 @@ use Rattle.explanations.specs.Answers.{joined, names, others, toSign}
 use Rattle.printing.specs.Member.{member}
 use Rattle.rows.specs.Table.{letters}
 use Rattle.sets.specs.Bits.{hasBit}
-use Rattle.sets.specs.Jobs.{jobHas, jobWith, jobsBelow, noJobs}
-use Rattle.sets.specs.declared.job_set.JobSet.{JobSet}
+use Rattle.job_sets.specs.Jobs.{jobHas, jobWith, jobsBelow, noJobs}
+use Rattle.job_sets.specs.declared.job_set.JobSet.{JobSet}
 use Rattle.digits.specs.Digits.{Put}
 use Rattle.text.specs.Text.{membersFrom}
 

@@ -15,7 +15,7 @@ use Rattle.outcome.specs.Figures.{numberOf, valueOf}
 use Rattle.outcome.specs.declared.Outcome.{Outcome}
 use Rattle.rows.specs.Table.{letters}
 use Rattle.rows.specs.Writing.{longestBy, textBy}
-use Rattle.sets.specs.declared.job_set.JobSet.{JobSet}
+use Rattle.job_sets.specs.declared.job_set.JobSet.{JobSet}
 use Rattle.digits.proofs.Writing.{made, then}
 use Rattle.digits.specs.Digits.{Put, decimal}
 use Rattle.vaults.specs.declared.Votes.{Votes}

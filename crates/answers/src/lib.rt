@@ -13,10 +13,10 @@ ghost use Rattle.ledger.specs.Decisions.{statusOf};
 ghost use Rattle.rows.specs.Writing.{textBy};
 ghost use Rattle.digits.specs.Digits.{Put};
 use federation::Settings;
+use job_sets::JobSet;
 use outcome::Outcome;
 use outcome::Verdict;
 pub use reasons::put_reason;
-use sets::JobSet;
 use vaults::Votes;
 
 fn put_done(out: &mut [u8], at: usize, kind: u8, value: u32, members: JobSet) -> usize

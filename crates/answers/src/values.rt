@@ -5,7 +5,7 @@ ghost use lib.ListN.{length};
 ghost use Rattle.explanations.specs.Answers.{figure, names, toSign};
 ghost use Rattle.explanations.specs.Words.{meaning, status};
 ghost use Rattle.digits.specs.Digits.{Put};
-use sets::JobSet;
+use job_sets::JobSet;
 
 // The rows of `put_meaning` one after the other, by the kinds; those of 0 and 6 are empty.
 const MEANINGS: [u8; 138] = *b"\

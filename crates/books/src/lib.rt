@@ -3,13 +3,13 @@ ghost use mathlib.Core.Path.{_≡_};
 ghost use Rattle.ledger.specs.State.{isSane, newLedger};
 ghost use Rattle.ledger.specs.Steps.{newOf, wholeGate};
 use federation::Settings;
+use job_sets::JobSet;
 use journal::CAPACITY;
 use ledger::Ledger;
 use ledger::Reply;
 use outcome::Outcome;
 use outcome::Refusal;
 use outcome::Verdict;
-use sets::JobSet;
 use vaults::Vault;
 use vaults::Votes;
 

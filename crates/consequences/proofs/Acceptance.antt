@@ -15,10 +15,10 @@ use Rattle.codec.specs.Codec.{jobOf}
 use Rattle.conflicts.specs.Tapes.{inputTapes, labels, outputTapes, usedFrom}
 use Rattle.record.specs.declared.Entry.{Entry}
 use Rattle.record.specs.declared.Job.{Job}
-use Rattle.sets.proofs.Jobs.{job-without-other, job-without-same}
+use Rattle.job_sets.proofs.Jobs.{job-without-other, job-without-same}
 use Rattle.sets.specs.Bits.{hasBit}
-use Rattle.sets.specs.Jobs.{jobHas, jobWithout}
-use Rattle.sets.specs.declared.job_set.JobSet.{JobSet}
+use Rattle.job_sets.specs.Jobs.{jobHas, jobWithout}
+use Rattle.job_sets.specs.declared.job_set.JobSet.{JobSet}
 use Rattle.ledger.proofs.Changes.{Change, Idle, Shape, appends, changes, counts, grants, holds, idle, nothing, releases, sees, signs}
 use Rattle.ledger.proofs.Changes.{signedBy, tableOf, votes}
 use Rattle.ledger.proofs.Effects.{

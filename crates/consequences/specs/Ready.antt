@@ -13,7 +13,7 @@ use Rattle.codec.specs.Codec.{placeOf}
 use Rattle.conflicts.specs.Tapes.{inputTapes, outputTapes}
 use Rattle.record.specs.declared.Entry.{Entry}
 use Rattle.sets.specs.Bits.{hasBit}
-use Rattle.sets.specs.Jobs.{jobHas}
+use Rattle.job_sets.specs.Jobs.{jobHas}
 use Rattle.federation.specs.Federation.{Lawful, thresholdOf}
 use Rattle.ledger.specs.Demand2.{accepts}
 use Rattle.ledger.specs.Demand3.{Apart, Correct, Held, bookedJob}

@@ -15,6 +15,7 @@ ghost use Rattle.ledger.specs.Steps.{gateOf};
 ghost use Rattle.vaults.specs.Votes.{columnOf};
 ghost use Rattle.ledger.specs.declared.Change.the-variants.{Record};
 use federation::Settings;
+use job_sets::JobSet;
 use ledger::Change;
 use ledger::Decision;
 pub use listings::list;
@@ -22,7 +23,6 @@ pub use listings::unlist;
 use outcome::Outcome;
 use outcome::Refusal;
 use outcome::Verdict;
-use sets::JobSet;
 use vaults::Column;
 use vaults::Votes;
 

@@ -6,15 +6,15 @@ ghost use mathlib.Core.Bool.{_&&_, not};
 ghost use mathlib.Core.Path.{_≡_};
 ghost use Prim.Native.Nat.{_≤_};
 ghost use Rattle.sets.specs.Bits.{hasBit};
-ghost use Rattle.sets.specs.Jobs.{jobHas};
+ghost use Rattle.job_sets.specs.Jobs.{jobHas};
 ghost use Rattle.generations.specs.Memo.{Ready};
 ghost use Rattle.ledger.specs.Given.{Aged};
 ghost use Rattle.ledger.specs.Holders.{isHeld};
 use federation::Settings;
+use job_sets::JobSet;
 use ledger::Decision;
 pub use missing::dependencies;
 use outcome::Refusal;
-use sets::JobSet;
 use vaults::Vault;
 
 fn holds(faulty: u16, held: JobSet, vault: u8, job: usize) -> bool

@@ -7,12 +7,12 @@ ghost use Rattle.ledger.specs.Decisions.{gatedListing, ifAdmitted, requiring, s
 ghost use Rattle.ledger.specs.Given.{Known};
 ghost use Rattle.ledger.specs.Holders.{heldSomewhere};
 ghost use Rattle.sets.specs.Bits.{hasBit};
-ghost use Rattle.sets.specs.Jobs.{jobUnion};
+ghost use Rattle.job_sets.specs.Jobs.{jobUnion};
 use federation::Settings;
+use job_sets::JobSet;
 use ledger::Listing;
 use outcome::Refusal;
 use outcome::Verdict;
-use sets::JobSet;
 use vaults::Vault;
 
 // The jobs so far, and those of a vault that is not faulty.

@@ -14,10 +14,10 @@ use Rattle.federation.specs.declared.Settings.{Settings}
 use Rattle.rivalry.specs.Rivals.{rivalsOf}
 use Rattle.ledger.specs.Equivocation.{isCertified}
 use Rattle.record.specs.declared.Job.{Job}
-use Rattle.sets.proofs.Few.{empty-is}
-use Rattle.sets.proofs.Jobs.{has-no-jobs}
-use Rattle.sets.specs.Jobs.{isEmpty, jobCount, jobHas, jobsBelow, jobsCommon, noJobs}
-use Rattle.sets.specs.declared.job_set.JobSet.{JobSet}
+use Rattle.job_sets.proofs.Few.{empty-is}
+use Rattle.job_sets.proofs.Jobs.{has-no-jobs}
+use Rattle.job_sets.specs.Jobs.{isEmpty, jobCount, jobHas, jobsBelow, jobsCommon, noJobs}
+use Rattle.job_sets.specs.declared.job_set.JobSet.{JobSet}
 use Rattle.vaults.specs.Votes.{noVotes}
 use Rattle.vaults.specs.declared.Votes.{Votes}
 use Rattle.equivocation.specs.Partners.{certifiedJobs, hasFew, jobsWithFew, partnersBy, recordedIn, signedPairs, signersAmong, withIf}

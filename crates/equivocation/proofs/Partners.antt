@@ -21,11 +21,11 @@ use Rattle.ledger.specs.declared.Ledger.{Ledger}
 use Rattle.ledger.specs.declared.Listing.{Listing}
 use Rattle.record.specs.declared.Job.{Job}
 use Rattle.sets.proofs.Bits.{has-common, has-none, has-union}
-use Rattle.sets.proofs.Few.{jobs-below-same, none-count, none-of, one-member, one-of}
-use Rattle.sets.proofs.Jobs.{common-words, has-jobs-below, has-no-jobs, job-below, jobs-below-words, jobs-common-has, jobs-same, no-jobs-words}
+use Rattle.job_sets.proofs.Few.{jobs-below-same, none-count, none-of, one-member, one-of}
+use Rattle.job_sets.proofs.Jobs.{common-words, has-jobs-below, has-no-jobs, job-below, jobs-below-words, jobs-common-has, jobs-same, no-jobs-words}
 use Rattle.sets.specs.Bits.{hasBit}
-use Rattle.sets.specs.Jobs.{InWords, jobCount, jobHas, jobsBelow, jobsCommon, noJobs}
-use Rattle.sets.specs.declared.job_set.JobSet.{JobSet}
+use Rattle.job_sets.specs.Jobs.{InWords, jobCount, jobHas, jobsBelow, jobsCommon, noJobs}
+use Rattle.job_sets.specs.declared.job_set.JobSet.{JobSet}
 use Rattle.equivocation.specs.Partners.{certifiedJobs, hasFew, jobsWithFew, partnersBy, recordedIn, signedPairs, signersAmong}
 
 module _ (s : Settings) (signers : ℕ → ℕ) (job : ℕ → Job) (booked : ℕ) (few : booked ≤ 128) where

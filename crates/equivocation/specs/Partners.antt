@@ -10,8 +10,8 @@ use Rattle.federation.specs.declared.Settings.{Settings}
 use Rattle.rivalry.specs.Rivals.{rivalsOf}
 use Rattle.ledger.specs.Equivocation.{isCertified}
 use Rattle.record.specs.declared.Job.{Job}
-use Rattle.sets.specs.Jobs.{jobCount, jobHas, jobWith, jobsBelow, jobsCommon, noJobs}
-use Rattle.sets.specs.declared.job_set.JobSet.{JobSet}
+use Rattle.job_sets.specs.Jobs.{jobCount, jobHas, jobWith, jobsBelow, jobsCommon, noJobs}
+use Rattle.job_sets.specs.declared.job_set.JobSet.{JobSet}
 use Rattle.vaults.specs.Votes.{noVotes}
 use Rattle.vaults.specs.declared.Votes.{Votes}
 

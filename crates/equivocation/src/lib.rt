@@ -9,7 +9,7 @@ ghost use Rattle.index.specs.Index.{IndexedEntries};
 ghost use Rattle.journal.specs.Journal.{jobAt};
 ghost use Rattle.ledger.specs.Equivocation.{equivocators};
 ghost use Rattle.sets.specs.Bits.{hasBit};
-ghost use Rattle.sets.specs.Jobs.{jobHas, jobsBelow};
+ghost use Rattle.job_sets.specs.Jobs.{jobHas, jobsBelow};
 ghost use Rattle.equivocation.specs.Partners.{
   certifiedJobs,
   jobsWithFew,
@@ -20,7 +20,7 @@ ghost use Rattle.equivocation.specs.Partners.{
   withIf,
 };
 use federation::Settings;
-use sets::JobSet;
+use job_sets::JobSet;
 use vaults::Votes;
 
 // The jobs that have no certified rival, and those that have at most one.

@@ -20,7 +20,7 @@ use Rattle.progress.specs.declared.Progress.{Progress}
 use Rattle.progress.specs.declared.Turned.{Turned}
 use Rattle.runfile.specs.Run.{Run, commandOf, turn}
 use Rattle.runfile.specs.Steps.{listedBy, replyOf}
-use Rattle.sets.specs.declared.job_set.JobSet.{JobSet}
+use Rattle.job_sets.specs.declared.job_set.JobSet.{JobSet}
 use Rattle.naming.specs.declared.Remembered.{Remembered}
 use Rattle.telling.specs.Room.{stepLong, stepRoom}
 use Rattle.answers.specs.Room.{answerLong}

@@ -12,7 +12,7 @@ use Rattle.rows.specs.Table.{letters}
 use Rattle.rows.specs.Writing.{textBy}
 use Rattle.codec.specs.Codec.{leAt}
 use Rattle.sets.specs.Bits.{hasBit, withBit}
-use Rattle.sets.specs.Jobs.{jobHas, jobWith, jobsBelow, noJobs}
+use Rattle.job_sets.specs.Jobs.{jobHas, jobWith, jobsBelow, noJobs}
 use Rattle.digits.specs.Digits.{decimal, digits}
 use Rattle.text.specs.Text.{membersFrom}
 use Rattle.explanations.specs.Answers.{answerText, doneText, figure, jobLine, names, refusedText, toSign}

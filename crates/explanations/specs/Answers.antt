@@ -13,8 +13,8 @@ use Rattle.outcome.specs.declared.Outcome.{Outcome}
 use Rattle.rows.specs.Table.{letters}
 use Rattle.rows.specs.Writing.{textBy}
 use Rattle.sets.specs.Bits.{hasBit}
-use Rattle.sets.specs.Jobs.{jobsBelow}
-use Rattle.sets.specs.declared.job_set.JobSet.{JobSet}
+use Rattle.job_sets.specs.Jobs.{jobsBelow}
+use Rattle.job_sets.specs.declared.job_set.JobSet.{JobSet}
 use Rattle.digits.specs.Digits.{decimal}
 use Rattle.text.specs.Text.{membersOf}
 use Rattle.vaults.specs.declared.Votes.{Votes}

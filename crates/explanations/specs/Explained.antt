@@ -16,7 +16,7 @@ use Rattle.outcome.specs.declared.Outcome.{Outcome}
 use Rattle.rows.specs.Table.{letters}
 use Rattle.runfile.specs.Run.{Run, begins, commandOf, ended, opens, turn}
 use Rattle.runfile.specs.Steps.{isUnknown, kindAt, listedBy, replyOf}
-use Rattle.sets.specs.declared.job_set.JobSet.{JobSet}
+use Rattle.job_sets.specs.declared.job_set.JobSet.{JobSet}
 use Rattle.digits.specs.Digits.{Put, decimal}
 use Rattle.explanations.specs.Answers.{answerText, jobLine}
 use Rattle.explanations.specs.Words.{reason}

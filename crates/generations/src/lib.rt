@@ -8,7 +8,7 @@ ghost use Rattle.journal.specs.Journal.{jobAt};
 ghost use Rattle.index.specs.Places.{slotJob};
 ghost use Rattle.generations.specs.Generations.{ageIn, along, generationAt, isAt};
 ghost use Rattle.generations.specs.Memo.{FirstAt, Input, Memo, Ready, fromInput, inputsOf, isMaker};
-use sets::JobSet;
+use job_sets::JobSet;
 
 // A byte is below 256.
 fn wide(x: u8) -> usize

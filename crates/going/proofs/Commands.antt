@@ -10,7 +10,7 @@ use lib.ListN.{drop, getD, take}
 use Rattle.outcome.specs.declared.Refusal.the-variants.{Unreadable}
 use Rattle.outcome.specs.declared.Verdict.{Verdict}
 use Rattle.outcome.specs.declared.Verdict.the-variants.{Fail, Pass}
-use Rattle.sets.specs.Jobs.{noJobs}
+use Rattle.job_sets.specs.Jobs.{noJobs}
 use Rattle.codec.specs.Codec.{recordSize}
 use Rattle.journal.specs.Journal.{isBooked, isWhole, jobAt}
 use Rattle.equivocation.proofs.Partners.{listed-by}

@@ -9,8 +9,8 @@ use native.Mathlib.Nat.{lt-irrefl}
 use native.Mathlib.Omega.{arith}
 use lib.ListN.{getD, length}
 use Rattle.outcome.specs.declared.Outcome.{Outcome}
-use Rattle.sets.specs.Jobs.{noJobs}
-use Rattle.sets.specs.declared.job_set.JobSet.{JobSet}
+use Rattle.job_sets.specs.Jobs.{noJobs}
+use Rattle.job_sets.specs.declared.job_set.JobSet.{JobSet}
 use Rattle.index.specs.Index.{IndexedEntries}
 use Rattle.generations.specs.Memo.{Ready}
 use Rattle.ledger.proofs.Writes.{unwritten}

@@ -10,10 +10,10 @@ ghost use Rattle.ledger.specs.Decisions.{ageing, requiring};
 ghost use Rattle.ledger.specs.Equivocation.{equivocators};
 ghost use Rattle.ledger.specs.Holders.{heldSomewhere, isHeld};
 use federation::Settings;
+use job_sets::JobSet;
 use ledger::Decision;
 use ledger::Listing;
 use outcome::Verdict;
-use sets::JobSet;
 use vaults::Vault;
 use vaults::Votes;
 

@@ -33,7 +33,7 @@ use Rattle.record.specs.Entries.{framesOf, isUsed, labelOf, usedFrames}
 use Rattle.record.specs.Labels.{charAt, isAlphanumeric, isBetween, isLabel, mediumOf}
 use Rattle.conflicts.specs.Tapes.{sameTape, usedFrom}
 use Rattle.sets.specs.Bits.{hasBit, subsetOf, withBit, withMember, withoutBit}
-use Rattle.sets.specs.Jobs.{jobHas, jobWith, jobWithout}
+use Rattle.job_sets.specs.Jobs.{jobHas, jobWith, jobWithout}
 use Rattle.queries.specs.Admission.{admission, consumedAt, listedBy, listsAt, madeBefore, madeBy, makesAt, notCreatedAt, remadeAt}
 use Rattle.federation.specs.Federation.{isFederation, isKnown, isLawfulUpTo, thresholdOf}
 use Rattle.generations.specs.Generations.{ageIn, createdAt, creatorOf, generationAt, generationFrom, generationsBefore, highest}

@@ -36,7 +36,7 @@ use Rattle.record.specs.Entries.{framesOf, isUsed, labelOf, usedFrames}
 use Rattle.record.specs.Labels.{charAt, isAlphanumeric, isBetween, isLabel, mediumOf}
 use Rattle.conflicts.specs.Tapes.{usedFrom}
 use Rattle.sets.specs.Bits.{hasBit, subsetOf, withBit, withMember, withoutBit}
-use Rattle.sets.specs.Jobs.{jobCount, jobHas, jobUnion, jobWith, jobWithout, noJobs}
+use Rattle.job_sets.specs.Jobs.{jobCount, jobHas, jobUnion, jobWith, jobWithout, noJobs}
 use Rattle.queries.specs.Admission.{admission, consumedAt, listedBy, listsAt, madeBefore, madeBy, makesAt, notCreatedAt, remadeAt}
 use Rattle.federation.specs.Federation.{isFederation, isKnown, isLawfulUpTo, thresholdOf}
 use Rattle.journal.specs.Journal.{equalAt, equalIn, hasRoom, insideOf, isBooked, jobAt, putAt, recordAt, slotAt}

@@ -21,7 +21,7 @@ use Rattle.record.specs.declared.Job.{Job}
 use Rattle.sets.proofs.Bits.{reflect-subset, subset-has}
 use Rattle.sets.proofs.Size.{below-power}
 use Rattle.sets.specs.Bits.{subsetOf}
-use Rattle.sets.specs.Jobs.{jobHas, jobWithout}
+use Rattle.job_sets.specs.Jobs.{jobHas, jobWithout}
 use Rattle.ledger.proofs.Gates.{enters}
 use Rattle.ledger.proofs.Paper.{admission-signs, signs-admission}
 use Rattle.queries.specs.Admission.{admission}

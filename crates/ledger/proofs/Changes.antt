@@ -1,6 +1,6 @@
 -- What a step does: one effect under its guard, or nothing. One case analysis of the steps, from which the invariant, what only
 -- grows and that a refused step changes nothing all follow. The steps that read only what is booked do so whatever journal is lent.
-use Rattle.sets.specs.declared.job_set.JobSet.{JobSet}
+use Rattle.job_sets.specs.declared.job_set.JobSet.{JobSet}
 use Rattle.quota.specs.Quota.{isClient, isSpent}
 use Rattle.snapshot.specs.Snapshot.{seenAfter}
 use mathlib.Core.Bool.{Bool, cond, false, not, true}
@@ -31,7 +31,7 @@ use Rattle.conflicts.specs.Conflicts.{conflicting}
 use Rattle.record.specs.declared.Job.{Job}
 use Rattle.sets.proofs.Bits.{ones-subset}
 use Rattle.sets.specs.Bits.{hasBit, subsetOf}
-use Rattle.sets.specs.Jobs.{jobHas, jobWithout}
+use Rattle.job_sets.specs.Jobs.{jobHas, jobWithout}
 use Rattle.ledger.proofs.Gates.{entered, passed-rest, passed-test}
 use Rattle.ledger.proofs.Lending.{grown-bytes, jobs-read, kept-bytes, records-at, records-length, slot-agrees}
 use Rattle.ledger.proofs.Paper.{admission-unblocked}

@@ -9,7 +9,7 @@ use Rattle.outcome.specs.Figures.{refusalNumber}
 use Rattle.outcome.specs.declared.Verdict.{Verdict}
 use Rattle.outcome.specs.declared.Verdict.the-variants.{Fail, Pass}
 use Rattle.sets.specs.Bits.{hasBit}
-use Rattle.sets.specs.Jobs.{jobWithout}
+use Rattle.job_sets.specs.Jobs.{jobWithout}
 use Rattle.queries.specs.Admission.{admission, consumedAt, notCreatedAt, remadeAt}
 use Rattle.journal.specs.Journal.{isBooked, jobAt}
 use Rattle.ledger.specs.Decisions.{admissionAt}

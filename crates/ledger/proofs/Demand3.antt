@@ -23,10 +23,10 @@ use Rattle.conflicts.specs.Tapes.{framesIn}
 use Rattle.record.specs.declared.Entry.{Entry}
 use Rattle.record.specs.declared.Job.{Job}
 use Rattle.sets.proofs.Bits.{has-none}
-use Rattle.sets.proofs.Jobs.{has-no-jobs}
+use Rattle.job_sets.proofs.Jobs.{has-no-jobs}
 use Rattle.sets.specs.Bits.{hasBit}
-use Rattle.sets.specs.Jobs.{jobHas, noJobs}
-use Rattle.sets.specs.declared.job_set.JobSet.{JobSet}
+use Rattle.job_sets.specs.Jobs.{jobHas, noJobs}
+use Rattle.job_sets.specs.declared.job_set.JobSet.{JobSet}
 use Rattle.ledger.proofs.Account.{books-new}
 use Rattle.ledger.proofs.Changes.{Change, Shape, appends, changes, counts, grants, holds, idle, nothing, releases, sees, shape-sane, signs, votes}
 use Rattle.ledger.proofs.Effects.{hold-settings}

@@ -21,9 +21,9 @@ use Rattle.supplies.specs.Missing.{missingJobs}
 use Rattle.journal.specs.Journal.{jobAt}
 use Rattle.record.specs.declared.Entry.{Entry}
 use Rattle.record.specs.declared.Job.{Job}
-use Rattle.sets.proofs.Jobs.{Within, count-within, has-no-jobs, no-jobs-words, within-same}
-use Rattle.sets.specs.Jobs.{InWords, jobCount, jobHas, jobUnion, jobWithout, noJobs}
-use Rattle.sets.specs.declared.job_set.JobSet.{JobSet}
+use Rattle.job_sets.proofs.Jobs.{Within, count-within, has-no-jobs, no-jobs-words, within-same}
+use Rattle.job_sets.specs.Jobs.{InWords, jobCount, jobHas, jobUnion, jobWithout, noJobs}
+use Rattle.job_sets.specs.declared.job_set.JobSet.{JobSet}
 use Rattle.ledger.proofs.Algorithms.{asked, by-verdict, signed-again}
 use Rattle.ledger.proofs.Changes.{shape-sane}
 use Rattle.ledger.proofs.Demand3.{along, first}

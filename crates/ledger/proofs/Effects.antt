@@ -1,5 +1,5 @@
 -- What each effect does to the relations and to the shape: a vote or a held job is one more pair, a release one less, and the rest is as it was.
-use Rattle.sets.specs.declared.job_set.JobSet.{JobSet}
+use Rattle.job_sets.specs.declared.job_set.JobSet.{JobSet}
 use Rattle.snapshot.proofs.Visits.{stays-below}
 use mathlib.Core.Bool.{Bool, false, true}
 use mathlib.Core.List.{List, [], _++_, _∷_}
@@ -12,7 +12,7 @@ use Rattle.codec.proofs.Numbers.{room}
 use Rattle.codec.proofs.Sizes.{place-next}
 use Rattle.codec.specs.Codec.{placeOf, recordSize}
 use Rattle.sets.specs.Bits.{hasBit}
-use Rattle.sets.specs.Jobs.{jobHas}
+use Rattle.job_sets.specs.Jobs.{jobHas}
 use Rattle.ledger.proofs.Changes.{Shape, held, releasedBy, signedBy}
 use Rattle.ledger.proofs.Views.{
   Added,

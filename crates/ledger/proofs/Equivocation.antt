@@ -20,10 +20,10 @@ use Rattle.journal.specs.Journal.{isWhole, jobAt}
 use Rattle.outcome.specs.declared.Refusal.the-variants.{NotBooked, Settings as BadSettings}
 use Rattle.outcome.specs.declared.Verdict.the-variants.{Fail, Pass}
 use Rattle.record.specs.declared.Job.{Job}
-use Rattle.sets.proofs.Jobs.{has-jobs-below, job-below, jobs-below-words, jobs-same}
+use Rattle.job_sets.proofs.Jobs.{has-jobs-below, job-below, jobs-below-words, jobs-same}
 use Rattle.sets.specs.Bits.{hasBit}
-use Rattle.sets.specs.Jobs.{InWords, jobHas}
-use Rattle.sets.specs.declared.job_set.JobSet.{JobSet}
+use Rattle.job_sets.specs.Jobs.{InWords, jobHas}
+use Rattle.job_sets.specs.declared.job_set.JobSet.{JobSet}
 use Rattle.ledger.proofs.Gates.{reflect-sane}
 use Rattle.ledger.specs.Decisions.{gatedListing, listing}
 use Rattle.ledger.specs.Equivocation.{

@@ -14,9 +14,9 @@ use Rattle.base.specs.Reflect.{Reflects}
 use Rattle.base.specs.Search.{anyBelow}
 use Rattle.sets.proofs.Size.{reflect-at-least}
 use Rattle.sets.specs.Bits.{hasBit}
-use Rattle.sets.proofs.Jobs.{has-no-jobs, job-union-has}
-use Rattle.sets.specs.Jobs.{jobHas, jobUnion, noJobs}
-use Rattle.sets.specs.declared.job_set.JobSet.{JobSet}
+use Rattle.job_sets.proofs.Jobs.{has-no-jobs, job-union-has}
+use Rattle.job_sets.specs.Jobs.{jobHas, jobUnion, noJobs}
+use Rattle.job_sets.specs.declared.job_set.JobSet.{JobSet}
 use Rattle.federation.specs.Federation.{thresholdOf}
 use Rattle.federation.specs.declared.Settings.{Settings}
 use Rattle.ledger.specs.Decisions.{statusOf}

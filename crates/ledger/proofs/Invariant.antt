@@ -1,7 +1,7 @@
 -- The invariant of demand 3, and that each change a step makes keeps it. A job that arrives was signed by a quorum; so was every job
 -- that arrived before, and two quorums share a correct vault, so the newcomer conflicts with none of them; its inputs were made by jobs
 -- that a correct vault holds, and none of those has retired them. So the register takes it.
-use Rattle.sets.specs.declared.job_set.JobSet.{JobSet}
+use Rattle.job_sets.specs.declared.job_set.JobSet.{JobSet}
 use mathlib.Core.Bool.{Bool, _&&_, cond, false, true, true≢false}
 use mathlib.Core.List.{List, [], _++_, _∷_}
 use mathlib.Core.Logic.{inl, inr, ⊎-elim}
@@ -24,9 +24,9 @@ use Rattle.codec.specs.Codec.{jobOf, recordSize}
 use Rattle.conflicts.specs.Tapes.{inputTapes, outputTapes}
 use Rattle.record.specs.declared.Entry.{Entry}
 use Rattle.record.specs.declared.Job.{Job}
-use Rattle.sets.proofs.Jobs.{job-without-other}
+use Rattle.job_sets.proofs.Jobs.{job-without-other}
 use Rattle.sets.specs.Bits.{hasBit}
-use Rattle.sets.specs.Jobs.{jobHas, jobWithout}
+use Rattle.job_sets.specs.Jobs.{jobHas, jobWithout}
 use Rattle.ledger.proofs.Account.{Books, CanTake, books-enter, books-take, reflect-admissible}
 use Rattle.ledger.proofs.Changes.{
   Change,

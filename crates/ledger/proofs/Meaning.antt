@@ -22,8 +22,8 @@ use Rattle.record.specs.Entries.{framesOf, labelOf}
 use Rattle.checks.specs.Meaning.{Nowhere}
 use Rattle.record.specs.declared.Entry.{Entry}
 use Rattle.record.specs.declared.Job.{Job}
-use Rattle.sets.specs.Jobs.{jobHas}
-use Rattle.sets.specs.declared.job_set.JobSet.{JobSet}
+use Rattle.job_sets.specs.Jobs.{jobHas}
+use Rattle.job_sets.specs.declared.job_set.JobSet.{JobSet}
 use Rattle.queries.specs.Admission.{admission, consumedAt, listedBy, listsAt, madeBefore, madeBy, makesAt, notCreatedAt, remadeAt}
 use Rattle.journal.proofs.Booked.{reflect-booked}
 use Rattle.journal.specs.Journal.{Booked, isBooked, jobAt}

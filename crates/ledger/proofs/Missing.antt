@@ -21,10 +21,10 @@ use Rattle.supplies.specs.Missing.{isMissing, missingJobs, suppliesAt}
 use Rattle.record.specs.Entries.{framesOf, isUsed, labelOf}
 use Rattle.record.specs.declared.Entry.{Entry}
 use Rattle.record.specs.declared.Job.{Job}
-use Rattle.sets.proofs.Jobs.{Within, count-with, count-within, has-jobs-below, job-below, job-union-has, job-with-keeps, job-with-same}
-use Rattle.sets.proofs.Jobs.{jobs-below-words, no-jobs-words, with-words}
-use Rattle.sets.specs.Jobs.{InWords, jobCount, jobHas, jobUnion, jobWith, jobsBelow, noJobs}
-use Rattle.sets.specs.declared.job_set.JobSet.{JobSet}
+use Rattle.job_sets.proofs.Jobs.{Within, count-with, count-within, has-jobs-below, job-below, job-union-has, job-with-keeps, job-with-same}
+use Rattle.job_sets.proofs.Jobs.{jobs-below-words, no-jobs-words, with-words}
+use Rattle.job_sets.specs.Jobs.{InWords, jobCount, jobHas, jobUnion, jobWith, jobsBelow, noJobs}
+use Rattle.job_sets.specs.declared.job_set.JobSet.{JobSet}
 use Rattle.ledger.proofs.Meaning.{not-created, reflect-made}
 use Rattle.ledger.proofs.Paper.{input-in, input-place}
 use Rattle.ledger.specs.Graph.{Creator, Lister, Unblocked}

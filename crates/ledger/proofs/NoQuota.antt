@@ -12,7 +12,7 @@ use Rattle.outcome.specs.declared.Verdict.the-variants.{Fail, Pass}
 use Rattle.checks.specs.Checks.{examined}
 use Rattle.generations.specs.Generations.{ageIn}
 use Rattle.journal.specs.Journal.{equalIn, jobAt}
-use Rattle.sets.specs.Jobs.{jobHas}
+use Rattle.job_sets.specs.Jobs.{jobHas}
 use Rattle.ledger.proofs.Views.{arrives}
 use Rattle.ledger.specs.Decisions.{
   admissionAt,

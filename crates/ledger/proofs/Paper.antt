@@ -20,7 +20,7 @@ use Rattle.record.specs.Meaning.{Used}
 use Rattle.conflicts.specs.Tapes.{inputTapes, labels, outputTapes}
 use Rattle.record.specs.declared.Entry.{Entry}
 use Rattle.record.specs.declared.Job.{Job}
-use Rattle.sets.specs.declared.job_set.JobSet.{JobSet}
+use Rattle.job_sets.specs.declared.job_set.JobSet.{JobSet}
 use Rattle.ledger.proofs.Meaning.{admission-answers, answers-admission, reflect-made}
 use Rattle.queries.specs.Admission.{admission}
 use Rattle.ledger.specs.Graph.{Algorithm1, Consumer, Creator, Maker, Unblocked}

@@ -18,7 +18,7 @@ use Rattle.outcome.specs.declared.Verdict.the-variants.{Fail, Pass}
 use Rattle.quota.proofs.Windows.{Ruled, bits, patience, remembers, spent-is, window}
 use Rattle.quota.specs.Asks.{Ask, spends}
 use Rattle.quota.specs.Quota.{historyPlace, isClient, isSpent, remembered}
-use Rattle.sets.specs.Jobs.{jobHas}
+use Rattle.job_sets.specs.Jobs.{jobHas}
 use Rattle.ledger.proofs.Changes.{Shape, shape-sane}
 use Rattle.ledger.proofs.Counted.{Says, admission-says, gate-says}
 use Rattle.ledger.proofs.Demand3.{along, filled, first, kept}

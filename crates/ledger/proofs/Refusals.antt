@@ -43,8 +43,8 @@ use Rattle.checks.specs.Meaning.{repeated, unsupported}
 use Rattle.record.specs.declared.Job.{Job}
 use Rattle.quota.specs.Quota.{isClient, isSpent}
 use Rattle.sets.specs.Bits.{hasBit, subsetOf, withMember}
-use Rattle.sets.specs.Jobs.{jobCount, jobHas, noJobs}
-use Rattle.sets.specs.declared.job_set.JobSet.{JobSet}
+use Rattle.job_sets.specs.Jobs.{jobCount, jobHas, noJobs}
+use Rattle.job_sets.specs.declared.job_set.JobSet.{JobSet}
 use Rattle.queries.specs.Admission.{admission, consumedAt, notCreatedAt, remadeAt}
 use Rattle.supplies.specs.Missing.{missingJobs}
 use Rattle.federation.specs.Federation.{thresholdOf}

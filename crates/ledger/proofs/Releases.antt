@@ -16,7 +16,7 @@ use Rattle.federation.specs.declared.Settings.{Settings}
 use Rattle.outcome.specs.declared.Verdict.{Verdict}
 use Rattle.outcome.specs.declared.Verdict.the-variants.{Fail, Pass}
 use Rattle.record.specs.declared.Entry.{Entry}
-use Rattle.sets.specs.Jobs.{jobHas, jobWithout}
+use Rattle.job_sets.specs.Jobs.{jobHas, jobWithout}
 use Rattle.ledger.proofs.Changes.{Change, appends, changes, counts, grants, holds, idle, nothing, releasedBy, releases, sees, signs, votes}
 use Rattle.ledger.proofs.Demand2.{obeys}
 use Rattle.ledger.proofs.Demand3.{along, first, kept, same-settings, settings-along}

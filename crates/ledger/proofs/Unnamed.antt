@@ -8,9 +8,9 @@ use Rattle.base.proofs.Reflect.{by-test, not-true-false}
 use Rattle.conflicts.proofs.Meaning.{reflect-conflicting}
 use Rattle.conflicts.specs.Meaning.{Rivals}
 use Rattle.record.specs.declared.Job.{Job}
-use Rattle.sets.proofs.Jobs.{has-no-jobs}
+use Rattle.job_sets.proofs.Jobs.{has-no-jobs}
 use Rattle.sets.specs.Bits.{hasBit}
-use Rattle.sets.specs.Jobs.{jobHas}
+use Rattle.job_sets.specs.Jobs.{jobHas}
 use Rattle.ledger.proofs.Demand3.{along, first}
 use Rattle.ledger.proofs.Equivocation.{answers, flipped}
 use Rattle.ledger.proofs.Invariant.{Inv}

@@ -8,7 +8,7 @@ use Prim.Native.Nat.{_<_, _≤_, ℕ}
 use lib.ListN.{length}
 use Rattle.base.specs.Reflect.{Reflects}
 use Rattle.codec.specs.Codec.{placeOf}
-use Rattle.sets.specs.Jobs.{jobHas, jobWithout}
+use Rattle.job_sets.specs.Jobs.{jobHas, jobWithout}
 use Rattle.federation.specs.Federation.{Lawful}
 use Rattle.ledger.specs.Demand3.{Correct, bookedJob}
 use Rattle.ledger.specs.Graph.{Algorithm1}

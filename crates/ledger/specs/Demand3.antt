@@ -21,7 +21,7 @@ use Rattle.conflicts.specs.Tapes.{framesIn, inputTapes, labels, outputTapes}
 use Rattle.record.specs.declared.Entry.{Entry}
 use Rattle.record.specs.declared.Job.{Job}
 use Rattle.sets.specs.Bits.{hasBit}
-use Rattle.sets.specs.Jobs.{jobHas}
+use Rattle.job_sets.specs.Jobs.{jobHas}
 use Rattle.federation.specs.Federation.{Lawful, thresholdOf}
 use Rattle.generations.specs.Generations.{ageIn}
 use Rattle.ledger.specs.Refused.{refusedLedger}

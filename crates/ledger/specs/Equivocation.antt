@@ -13,8 +13,8 @@ use Rattle.federation.specs.Federation.{thresholdOf}
 use Rattle.federation.specs.declared.Settings.{Settings}
 use Rattle.record.specs.declared.Job.{Job}
 use Rattle.sets.specs.Bits.{hasBit}
-use Rattle.sets.specs.Jobs.{jobsBelow}
-use Rattle.sets.specs.declared.job_set.JobSet.{JobSet}
+use Rattle.job_sets.specs.Jobs.{jobsBelow}
+use Rattle.job_sets.specs.declared.job_set.JobSet.{JobSet}
 
 -- "A job is certified with n − b signatures": of the vaults whose signature of it is recorded
 unfoldable pub isCertified : Settings → (ℕ → ℕ) → ℕ → Bool

@@ -10,8 +10,8 @@ use Rattle.codec.specs.Codec.{placeOf}
 use Rattle.federation.specs.Federation.{Lawful}
 use Rattle.journal.specs.Journal.{jobAt}
 use Rattle.outcome.specs.declared.Refusal.the-variants.{NotBooked, Settings as BadSettings}
-use Rattle.sets.specs.Jobs.{InWords, jobHas}
-use Rattle.sets.specs.declared.job_set.JobSet.{JobSet}
+use Rattle.job_sets.specs.Jobs.{InWords, jobHas}
+use Rattle.job_sets.specs.declared.job_set.JobSet.{JobSet}
 use Rattle.ledger.specs.Decisions.{listing, unlisted}
 use Rattle.ledger.specs.Demand3.{Correct, bookedJob}
 use Rattle.ledger.specs.Equivocation.{Equivocates}

@@ -11,8 +11,8 @@ use Rattle.checks.specs.Checks.{checkOf}
 use Rattle.conflicts.specs.Tapes.{inputTapes, labels, outputTapes, usedFrom}
 use Rattle.record.specs.declared.Entry.{Entry}
 use Rattle.record.specs.declared.Job.{Job}
-use Rattle.sets.specs.Jobs.{jobHas}
-use Rattle.sets.specs.declared.job_set.JobSet.{JobSet}
+use Rattle.job_sets.specs.Jobs.{jobHas}
+use Rattle.job_sets.specs.declared.job_set.JobSet.{JobSet}
 
 module _ (job : ℕ → Job) (booked : ℕ) where
   -- "creator(e) = t": a booked job of the set has the tape, label and frames, as an output

@@ -8,7 +8,7 @@ use Prim.Native.Nat.{ℕ}
 use Rattle.conflicts.specs.Conflicts.{conflicting}
 use Rattle.federation.specs.Federation.{Lawful}
 use Rattle.sets.specs.Bits.{hasBit}
-use Rattle.sets.specs.Jobs.{jobHas}
+use Rattle.job_sets.specs.Jobs.{jobHas}
 use Rattle.ledger.specs.Demand2.{accepts}
 use Rattle.ledger.specs.Demand3.{Correct, bookedJob}
 use Rattle.ledger.specs.State.{acknowledgersOf, signersOf, vaultAt}

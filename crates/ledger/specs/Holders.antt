@@ -5,8 +5,8 @@ use Prim.Native.Nat.{suc, zero, ℕ}
 use lib.ListN.{getD}
 use Rattle.base.specs.Search.{anyBelow}
 use Rattle.sets.specs.Bits.{hasBit}
-use Rattle.sets.specs.Jobs.{jobHas, jobUnion, noJobs}
-use Rattle.sets.specs.declared.job_set.JobSet.{JobSet}
+use Rattle.job_sets.specs.Jobs.{jobHas, jobUnion, noJobs}
+use Rattle.job_sets.specs.declared.job_set.JobSet.{JobSet}
 use Rattle.federation.specs.declared.Settings.{Settings}
 use Rattle.vaults.specs.Vaults.{newVault}
 use Rattle.vaults.specs.declared.Vault.{Vault}

@@ -30,9 +30,9 @@ use Rattle.record.specs.Meaning.{Used}
 use Rattle.record.specs.declared.Job.{Job}
 use Rattle.conflicts.specs.Meaning.{Conflicting}
 use Rattle.sets.specs.Bits.{hasBit}
-use Rattle.sets.specs.Jobs.{jobHas}
+use Rattle.job_sets.specs.Jobs.{jobHas}
 use Rattle.sets.specs.Quorum.{AtLeast}
-use Rattle.sets.specs.declared.job_set.JobSet.{JobSet}
+use Rattle.job_sets.specs.declared.job_set.JobSet.{JobSet}
 use Rattle.federation.specs.Federation.{Lawful, thresholdOf}
 use Rattle.ledger.specs.Graph.{Consumer, Creator, Maker}
 use Rattle.journal.specs.Journal.{Booked, capacity, insideOf, jobAt, slotAt}

@@ -11,7 +11,7 @@ use Rattle.outcome.specs.Figures.{numberOf}
 use Rattle.outcome.specs.declared.Outcome.{Outcome}
 use Rattle.quota.specs.Asks.{AllOver, Ask, Stretch, news, spends}
 use Rattle.quota.specs.Quota.{isClient}
-use Rattle.sets.specs.Jobs.{jobHas}
+use Rattle.job_sets.specs.Jobs.{jobHas}
 use Rattle.ledger.specs.Refused.{isCounted}
 use Rattle.ledger.specs.Register.{isDone}
 use Rattle.ledger.specs.State.{vaultAt}

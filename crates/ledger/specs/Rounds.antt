@@ -6,7 +6,7 @@ use mathlib.Core.Path.{_≡_}
 use Prim.Native.Nat.{suc, ℕ}
 use Rattle.outcome.specs.declared.Outcome.{Outcome}
 use Rattle.outcome.specs.declared.Outcome.the-variants.{Done}
-use Rattle.sets.specs.Jobs.{jobCount, jobHas}
+use Rattle.job_sets.specs.Jobs.{jobCount, jobHas}
 use Rattle.federation.specs.Federation.{Lawful}
 use Rattle.ledger.specs.Demand3.{Held}
 use Rattle.ledger.specs.Worlds.{Event, Request, World, afterAll, clientPreflight, commit, dependencies, equivocating, faultyVote, generations}

@@ -6,8 +6,8 @@ use Prim.Native.Nat.{ℕ, _+_}
 use lib.Dec.{leb, ltb}
 use lib.ListN.{getD, set, replicate, take}
 use Rattle.base.specs.Search.{anyBelow}
-use Rattle.sets.specs.Jobs.{noJobs}
-use Rattle.sets.specs.declared.job_set.JobSet.{JobSet}
+use Rattle.job_sets.specs.Jobs.{noJobs}
+use Rattle.job_sets.specs.declared.job_set.JobSet.{JobSet}
 use Rattle.quota.specs.Quota.{historyPlace}
 use Rattle.snapshot.specs.Snapshot.{following}
 use Rattle.vaults.specs.declared.Vault.{Vault}

@@ -83,7 +83,7 @@ use Rattle.outcome.specs.declared.Verdict.{Verdict}
 use Rattle.outcome.specs.declared.Verdict.the-variants.{Fail, Pass}
 use Rattle.sets.specs.Bits.{hasBit}
 use Rattle.quota.specs.Quota.{isClient}
-use Rattle.sets.specs.Jobs.{jobHas}
+use Rattle.job_sets.specs.Jobs.{jobHas}
 use Rattle.load.proofs.Checked.{record-passes}
 use Rattle.load.proofs.Different.{records-differ}
 use Rattle.load.proofs.Writes.{eight}

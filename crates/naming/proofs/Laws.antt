@@ -4,7 +4,7 @@ use mathlib.Core.List.{List}
 use mathlib.Core.Path.{_∙_, _≡_, ap, refl, sym}
 use Prim.Native.Nat.{ℕ}
 use Rattle.federation.specs.declared.Settings.{Settings}
-use Rattle.sets.specs.declared.job_set.JobSet.{JobSet}
+use Rattle.job_sets.specs.declared.job_set.JobSet.{JobSet}
 use Rattle.vaults.specs.declared.Votes.{Votes}
 use Rattle.runfile.specs.declared.Kind.{Kind}
 use Rattle.naming.specs.Kept.{Found, Right, Still, isNaming, namedBy, unknownYet}

@@ -3,8 +3,8 @@ use mathlib.Core.Bool.{Bool, false, true}
 use mathlib.Core.List.{List}
 use mathlib.Core.Path.{_≡_}
 use Prim.Native.Nat.{ℕ}
-use Rattle.sets.specs.Jobs.{noJobs}
-use Rattle.sets.specs.declared.job_set.JobSet.{JobSet}
+use Rattle.job_sets.specs.Jobs.{noJobs}
+use Rattle.job_sets.specs.declared.job_set.JobSet.{JobSet}
 use Rattle.federation.specs.declared.Settings.{Settings}
 use Rattle.journal.specs.Journal.{jobAt}
 use Rattle.equivocation.specs.Partners.{recordedIn}

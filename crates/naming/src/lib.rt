@@ -3,9 +3,9 @@ ghost use mathlib.Core.Path.{_≡_};
 ghost use Rattle.index.specs.Index.{IndexedEntries};
 ghost use Rattle.naming.specs.Kept.{Found, Right, Still, isNaming, unknownYet};
 use federation::Settings;
+use job_sets::JobSet;
 use kinds::View;
 use runfile::Kind;
-use sets::JobSet;
 use vaults::Votes;
 
 // The vaults that equivocate, where they are known.

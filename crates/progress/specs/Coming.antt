@@ -7,8 +7,8 @@ use Prim.Native.Nat.{_*_, _+_, _<_, _≤_, ℕ}
 use lib.ListN.{length}
 use Rattle.outcome.specs.declared.Outcome.{Outcome}
 use Rattle.outcome.specs.declared.Outcome.the-variants.{Done}
-use Rattle.sets.specs.Jobs.{noJobs}
-use Rattle.sets.specs.declared.job_set.JobSet.{JobSet}
+use Rattle.job_sets.specs.Jobs.{noJobs}
+use Rattle.job_sets.specs.declared.job_set.JobSet.{JobSet}
 use Rattle.ledger.specs.declared.Ledger.{Ledger}
 use Rattle.runfile.specs.Run.{Run, lastFrom, textFrom}
 use Rattle.reading.specs.declared.Step.{Step}

@@ -1,12 +1,12 @@
 // How far a run has come: what it hands back, and how it goes on beside its ledger.
 ghost use mathlib.Core.Path.{_≡_};
-ghost use Rattle.sets.specs.Jobs.{noJobs};
+ghost use Rattle.job_sets.specs.Jobs.{noJobs};
 ghost use Rattle.progress.specs.Coming.{Goes, cursorAt, movedTo, turnedAt};
+use job_sets::JobSet;
 use ledger::Ledger;
 use naming::Remembered;
 use outcome::Outcome;
 use reading::Step;
-use sets::JobSet;
 use steps::Looked;
 use steps::Told;
 

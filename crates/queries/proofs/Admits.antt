@@ -17,9 +17,9 @@ use Rattle.outcome.specs.declared.Verdict.the-variants.{Fail, Pass}
 use Rattle.conflicts.specs.Conflicts.{labelIn}
 use Rattle.record.specs.Entries.{isUsed, labelOf}
 use Rattle.record.specs.declared.Job.{Job}
-use Rattle.sets.proofs.Jobs.{job-union-has, union-words}
-use Rattle.sets.specs.Jobs.{InWords, jobHas, jobUnion}
-use Rattle.sets.specs.declared.job_set.JobSet.{JobSet}
+use Rattle.job_sets.proofs.Jobs.{job-union-has, union-words}
+use Rattle.job_sets.specs.Jobs.{InWords, jobHas, jobUnion}
+use Rattle.job_sets.specs.declared.job_set.JobSet.{JobSet}
 use Rattle.codec.specs.Codec.{jobOf}
 use Rattle.journal.specs.Journal.{capacity, jobAt, recordAt}
 use Rattle.index.proofs.Tables.{indexed-booked}

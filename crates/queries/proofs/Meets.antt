@@ -12,9 +12,9 @@ use Rattle.base.specs.Search.{anyBelow}
 use Rattle.conflicts.specs.Conflicts.{labelIn, makesTape}
 use Rattle.record.specs.Entries.{framesOf, isUsed, labelOf}
 use Rattle.record.specs.declared.Job.{Job}
-use Rattle.sets.proofs.Jobs.{meets-any}
-use Rattle.sets.specs.Jobs.{InWords, jobHas, jobsMeet}
-use Rattle.sets.specs.declared.job_set.JobSet.{JobSet}
+use Rattle.job_sets.proofs.Jobs.{meets-any}
+use Rattle.job_sets.specs.Jobs.{InWords, jobHas, jobsMeet}
+use Rattle.job_sets.specs.declared.job_set.JobSet.{JobSet}
 use Rattle.journal.specs.Journal.{capacity}
 use Rattle.index.proofs.Numbers.{label-has, tape-has}
 use Rattle.index.specs.Places.{Entered, places}

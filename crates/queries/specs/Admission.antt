@@ -7,8 +7,8 @@ use Rattle.base.specs.Search.{anyBelow, firstBelow}
 use Rattle.outcome.specs.declared.Verdict.{Verdict}
 use Rattle.outcome.specs.declared.Verdict.the-variants.{Pass, Fail}
 use Rattle.outcome.specs.declared.Refusal.the-variants.{NotCreated, Retired, InputReserved, OutputReserved}
-use Rattle.sets.specs.declared.job_set.JobSet.{JobSet}
-use Rattle.sets.specs.Jobs.{jobHas}
+use Rattle.job_sets.specs.declared.job_set.JobSet.{JobSet}
+use Rattle.job_sets.specs.Jobs.{jobHas}
 use Rattle.record.specs.declared.Job.{Job}
 use Rattle.record.specs.Entries.{labelOf, framesOf, isUsed}
 use Rattle.conflicts.specs.Conflicts.{labelIn, makesTape}

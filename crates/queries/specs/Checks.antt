@@ -7,8 +7,8 @@ use Rattle.base.specs.Search.{firstBelow}
 use Rattle.outcome.specs.declared.Refusal.the-variants.{InputReserved, NotCreated, OutputReserved, Retired}
 use Rattle.outcome.specs.declared.Verdict.{Verdict}
 use Rattle.outcome.specs.declared.Verdict.the-variants.{Fail, Pass}
-use Rattle.sets.specs.Jobs.{jobUnion, jobsMeet}
-use Rattle.sets.specs.declared.job_set.JobSet.{JobSet}
+use Rattle.job_sets.specs.Jobs.{jobUnion, jobsMeet}
+use Rattle.job_sets.specs.declared.job_set.JobSet.{JobSet}
 use Rattle.index.specs.Places.{places}
 use Rattle.index.specs.Sets.{setOf}
 

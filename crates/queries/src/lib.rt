@@ -11,9 +11,9 @@ use index::MAKERS;
 use index::PLACES;
 use index::READERS;
 use index::WRITERS;
+use job_sets::JobSet;
 use outcome::Refusal;
 use outcome::Verdict;
-use sets::JobSet;
 
 // Entry e is one of so many, and offends against s: no job of s makes its tape, or some job of s has its label.
 fn offends_at(

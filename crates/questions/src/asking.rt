@@ -5,12 +5,12 @@ ghost use Rattle.index.specs.Index.{IndexedEntries};
 ghost use Rattle.generations.specs.Memo.{Ready};
 ghost use Rattle.questions.specs.Answers.{Answered, aged, alone, isListing, naming, required, surveyed};
 use crate::Books;
+use job_sets::JobSet;
 use ledger::Listing;
 use outcome::Outcome;
 use outcome::Refusal;
 use reading::Step;
 use runfile::Kind;
-use sets::JobSet;
 
 // Nothing is listed.
 fn alone(outcome: Outcome) -> Listing

@@ -14,9 +14,9 @@ use Rattle.base.specs.Search.{anyBelow}
 use Rattle.codec.specs.Codec.{jobOf}
 use Rattle.conflicts.specs.Conflicts.{conflicting, isRival, sharesAt, sharesIn}
 use Rattle.record.specs.declared.Job.{Job}
-use Rattle.sets.proofs.Jobs.{has-jobs-below, has-no-jobs, job-union-has, job-without-other, job-without-same, jobs-below-words, jobs-same, no-jobs-words}
-use Rattle.sets.specs.Jobs.{InWords, jobHas, jobUnion, jobWithout, noJobs}
-use Rattle.sets.specs.declared.job_set.JobSet.{JobSet}
+use Rattle.job_sets.proofs.Jobs.{has-jobs-below, has-no-jobs, job-union-has, job-without-other, job-without-same, jobs-below-words, jobs-same, no-jobs-words}
+use Rattle.job_sets.specs.Jobs.{InWords, jobHas, jobUnion, jobWithout, noJobs}
+use Rattle.job_sets.specs.declared.job_set.JobSet.{JobSet}
 use Rattle.journal.specs.Journal.{capacity, jobAt, recordAt}
 use Rattle.queries.proofs.Admits.{used-input, used-output}
 use Rattle.index.proofs.Numbers.{label-has}

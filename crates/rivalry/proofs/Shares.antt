@@ -15,10 +15,10 @@ use Rattle.codec.specs.Codec.{jobOf}
 use Rattle.conflicts.specs.Conflicts.{conflicting, labelIn, sharesAt, sharesIn}
 use Rattle.record.specs.Entries.{labelOf}
 use Rattle.record.specs.declared.Job.{Job}
-use Rattle.sets.proofs.Few.{one, one-is, one-words}
-use Rattle.sets.proofs.Jobs.{job-with-same}
-use Rattle.sets.specs.Jobs.{jobHas, jobWith, noJobs}
-use Rattle.sets.specs.declared.job_set.JobSet.{JobSet}
+use Rattle.job_sets.proofs.Few.{one, one-is, one-words}
+use Rattle.job_sets.proofs.Jobs.{job-with-same}
+use Rattle.job_sets.specs.Jobs.{jobHas, jobWith, noJobs}
+use Rattle.job_sets.specs.declared.job_set.JobSet.{JobSet}
 use Rattle.journal.specs.Journal.{capacity, jobAt, recordAt}
 use Rattle.queries.proofs.Admits.{used-input, used-output, where-used}
 use Rattle.queries.proofs.Meets.{listers-meet}

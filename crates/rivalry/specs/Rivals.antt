@@ -5,8 +5,8 @@ use Prim.Native.Nat.{_*_, _+_, suc, zero, ℕ}
 use lib.Dec.{ltb}
 use Rattle.conflicts.specs.Conflicts.{isRival}
 use Rattle.record.specs.declared.Job.{Job}
-use Rattle.sets.specs.Jobs.{jobUnion, jobWithout, jobsBelow, noJobs}
-use Rattle.sets.specs.declared.job_set.JobSet.{JobSet}
+use Rattle.job_sets.specs.Jobs.{jobUnion, jobWithout, jobsBelow, noJobs}
+use Rattle.job_sets.specs.declared.job_set.JobSet.{JobSet}
 use Rattle.index.specs.Sets.{setOf}
 use Rattle.queries.specs.Checks.{firstOffending}
 

@@ -2,7 +2,7 @@
 ghost use mathlib.Core.Path.{_≡_};
 ghost use Prim.Native.Nat.{_+_, _<_, _≤_};
 ghost use Rattle.conflicts.specs.Conflicts.{conflicting};
-ghost use Rattle.sets.specs.Jobs.{InWords};
+ghost use Rattle.job_sets.specs.Jobs.{InWords};
 ghost use Rattle.journal.specs.Journal.{capacity, jobAt};
 ghost use Rattle.index.specs.Index.{IndexedEntries};
 ghost use Rattle.index.specs.Places.{linksAt};
@@ -10,7 +10,7 @@ ghost use Rattle.index.specs.Sets.{Tables};
 ghost use Rattle.rivalry.specs.Rivals.{conflictsBy, rivalsBy, rivalsOf, sharersBy, sharersWith};
 use index::READERS;
 use index::WRITERS;
-use sets::JobSet;
+use job_sets::JobSet;
 
 // A job with so many inputs and outputs, against a set of jobs.
 fn conflicts_by(

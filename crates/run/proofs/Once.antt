@@ -7,7 +7,7 @@ use native.Mathlib.Nat.{eq-or-lt-of-le}
 use native.Mathlib.Omega.{arith}
 use lib.ListN.{length}
 use Rattle.outcome.specs.declared.Outcome.{Outcome}
-use Rattle.sets.specs.declared.job_set.JobSet.{JobSet}
+use Rattle.job_sets.specs.declared.job_set.JobSet.{JobSet}
 use Rattle.going.proofs.Naming.{nothing-known}
 use Rattle.progress.specs.Pieces.{Advanced, Going, Piece, runOf}
 use Rattle.progress.specs.Coming.{Begun, CarriedOn, Come, Part, cursorAt, standing}

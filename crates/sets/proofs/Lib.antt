@@ -1,6 +1,4 @@
 pub mod Bits
-pub mod Jobs
 pub mod Quorum
 pub mod Cases
-pub mod Few
 pub mod Size

@@ -1,6 +1,2 @@
-// Sets of vaults in 16 bits, and sets of jobs in two words.
-pub mod job_set;
+// Sets of vaults in 16 bits.
 pub mod vaults;
-mod words;
-
-pub use job_set::JobSet;

@@ -7,10 +7,10 @@ use native.Mathlib.Omega.{arith}
 use lib.Dec.{eqb, ltb}
 use borrow.Author.Tests.{eqb-false, le-ltb, lt-ltb, ltb-true, ne-eqb}
 use Rattle.base.proofs.Reflect.{by-cases, or-intro, or-true}
-use Rattle.sets.proofs.Jobs.{has-no-jobs, job-union-has}
+use Rattle.job_sets.proofs.Jobs.{has-no-jobs, job-union-has}
 use Rattle.sets.specs.Bits.{hasBit}
-use Rattle.sets.specs.Jobs.{jobHas, noJobs}
-use Rattle.sets.specs.declared.job_set.JobSet.{JobSet}
+use Rattle.job_sets.specs.Jobs.{jobHas, noJobs}
+use Rattle.job_sets.specs.declared.job_set.JobSet.{JobSet}
 use Rattle.federation.specs.declared.Settings.{Settings}
 use Rattle.snapshot.specs.Snapshot.{following, seenAfter, seenBefore, visible}
 

@@ -3,8 +3,8 @@ use mathlib.Core.Bool.{cond}
 use Prim.Native.Nat.{ℕ, _+_}
 use lib.Dec.{eqb, ltb}
 use Rattle.sets.specs.Bits.{hasBit}
-use Rattle.sets.specs.Jobs.{jobUnion, noJobs}
-use Rattle.sets.specs.declared.job_set.JobSet.{JobSet}
+use Rattle.job_sets.specs.Jobs.{jobUnion, noJobs}
+use Rattle.job_sets.specs.declared.job_set.JobSet.{JobSet}
 use Rattle.federation.specs.declared.Settings.{Settings}
 
 -- "visits the next vault, beginning at 0"; "After the last vault the following such step begins anew."

@@ -2,7 +2,7 @@
 ghost use mathlib.Core.Path.{_≡_};
 ghost use Rattle.snapshot.specs.Snapshot.{following, seenAfter, seenBefore, visible};
 use federation::Settings;
-use sets::JobSet;
+use job_sets::JobSet;
 
 // The vault after this one; after the last, vault 0.
 pub fn following(n: u8, next: u8) -> u8

@@ -12,7 +12,7 @@ use Rattle.outcome.specs.declared.Verdict.{Verdict}
 use Rattle.outcome.specs.declared.Verdict.the-variants.{Fail, Pass}
 use Rattle.outcome.specs.declared.Refusal.the-variants.{NoClient}
 use Rattle.quota.specs.Quota.{isClient}
-use Rattle.sets.specs.Jobs.{jobHas}
+use Rattle.job_sets.specs.Jobs.{jobHas}
 use Rattle.ledger.proofs.Writes.{writes}
 use Rattle.ledger.specs.Decisions.{admissionAt, answering, clientPreflighting, committing, consent, consenting}
 use Rattle.ledger.specs.Decisions.{countedConsent, counting, gated, isBook, preflighting, proposal}

@@ -2,10 +2,10 @@
 // the run, which keeps the journal and its index, and knows what they require.
 mod turning;
 
+use job_sets::JobSet;
 use ledger::Change;
 use naming::Remembered;
 use outcome::Outcome;
-use sets::JobSet;
 pub use turning::carry_out;
 pub use turning::survey;
 

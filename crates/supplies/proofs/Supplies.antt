@@ -13,10 +13,10 @@ use Rattle.codec.specs.Codec.{jobOf}
 use Rattle.conflicts.specs.Conflicts.{makesTape}
 use Rattle.record.specs.Entries.{framesOf, isUsed, labelOf}
 use Rattle.record.specs.declared.Job.{Job}
-use Rattle.sets.proofs.Jobs.{common-words, has-jobs-below, has-no-jobs, job-union-has, jobs-below-words, jobs-common-has, jobs-same, no-jobs-words}
-use Rattle.sets.proofs.Jobs.{union-words}
-use Rattle.sets.specs.Jobs.{InWords, jobHas, jobUnion, jobsCommon, jobsMeet, noJobs}
-use Rattle.sets.specs.declared.job_set.JobSet.{JobSet}
+use Rattle.job_sets.proofs.Jobs.{common-words, has-jobs-below, has-no-jobs, job-union-has, jobs-below-words, jobs-common-has, jobs-same, no-jobs-words}
+use Rattle.job_sets.proofs.Jobs.{union-words}
+use Rattle.job_sets.specs.Jobs.{InWords, jobHas, jobUnion, jobsCommon, jobsMeet, noJobs}
+use Rattle.job_sets.specs.declared.job_set.JobSet.{JobSet}
 use Rattle.journal.specs.Journal.{capacity, jobAt, recordAt}
 use Rattle.queries.proofs.Admits.{spread, used-input}
 use Rattle.index.proofs.Numbers.{tape-has}

@@ -6,8 +6,8 @@ use Rattle.base.specs.Search.{anyBelow}
 use Rattle.conflicts.specs.Conflicts.{makesTape}
 use Rattle.record.specs.Entries.{framesOf, labelOf}
 use Rattle.record.specs.declared.Job.{Job}
-use Rattle.sets.specs.Jobs.{jobHas, jobsBelow}
-use Rattle.sets.specs.declared.job_set.JobSet.{JobSet}
+use Rattle.job_sets.specs.Jobs.{jobHas, jobsBelow}
+use Rattle.job_sets.specs.declared.job_set.JobSet.{JobSet}
 use Rattle.queries.specs.Admission.{notCreatedAt}
 
 module _ (job : ℕ → Job) (booked : ℕ) where

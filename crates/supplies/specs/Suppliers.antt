@@ -3,8 +3,8 @@ use mathlib.Core.Bool.{cond}
 use mathlib.Core.List.{List}
 use Prim.Native.Nat.{_+_, suc, zero, ℕ}
 use lib.Dec.{ltb}
-use Rattle.sets.specs.Jobs.{jobUnion, jobsCommon, jobsMeet, noJobs}
-use Rattle.sets.specs.declared.job_set.JobSet.{JobSet}
+use Rattle.job_sets.specs.Jobs.{jobUnion, jobsCommon, jobsMeet, noJobs}
+use Rattle.job_sets.specs.declared.job_set.JobSet.{JobSet}
 use Rattle.index.specs.Sets.{setOf}
 
 -- of a job with so many inputs: the jobs held elsewhere that make input e, where no held job makes it

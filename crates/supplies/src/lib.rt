@@ -7,7 +7,7 @@ ghost use Rattle.index.specs.Places.{places};
 ghost use Rattle.index.specs.Sets.{Tables};
 ghost use Rattle.supplies.specs.Suppliers.{missingBy, suppliersBy};
 ghost use Rattle.supplies.specs.Missing.{missingJobs};
-use sets::JobSet;
+use job_sets::JobSet;
 
 // Those that make input e, of so many, where no held job makes it.
 fn suppliers(

@@ -29,7 +29,7 @@ use Rattle.runfile.specs.Steps.{bodySize, isUnknown, kindAt, kindOf}
 use Rattle.runfile.specs.declared.Kind.{Kind}
 use Rattle.runfile.specs.declared.Kind.the-variants.{ClientPreflight, Commit, Dependencies, Draw, Equivocating, FaultyAcknowledge, FaultySign, Generations}
 use Rattle.runfile.specs.declared.Kind.the-variants.{Preflight, Propose, Release, Show, Snapshot, Unknown}
-use Rattle.sets.specs.declared.job_set.JobSet.{JobSet}
+use Rattle.job_sets.specs.declared.job_set.JobSet.{JobSet}
 use Rattle.digits.proofs.Writing.{then}
 use Rattle.digits.specs.Digits.{Put, decimal}
 use Rattle.words.proofs.Copies.{put-none}

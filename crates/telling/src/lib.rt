@@ -9,8 +9,8 @@ ghost use Rattle.runfile.specs.Run.{longest};
 ghost use Rattle.telling.specs.Room.{lineLong, lineRoom, stepLong, stepRoom};
 ghost use Rattle.digits.specs.Digits.{Put};
 use federation::Settings;
+use job_sets::JobSet;
 use outcome::Outcome;
-use sets::JobSet;
 
 // A buffer of this size takes the explanation of any step, and any job's line.
 pub const PIECE: usize = 8192;

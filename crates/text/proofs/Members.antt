@@ -16,11 +16,11 @@ use Rattle.base.specs.Lists.{In}
 use Rattle.base.specs.Search.{Least, anyBelow, firstBelow, sumFrom}
 use Rattle.outcome.specs.declared.Outcome.{Outcome}
 use Rattle.sets.proofs.Bits.{bit-zero, has-none, has-suc, reflect-some}
-use Rattle.sets.proofs.Jobs.{has-no-jobs, in-high, in-low, job-below, job-count-counts, job-count-with, job-with-other, job-with-same}
-use Rattle.sets.proofs.Jobs.{job-without-other, job-without-same, jobs-same, with-words, without-words}
+use Rattle.job_sets.proofs.Jobs.{has-no-jobs, in-high, in-low, job-below, job-count-counts, job-count-with, job-with-other, job-with-same}
+use Rattle.job_sets.proofs.Jobs.{job-without-other, job-without-same, jobs-same, with-words, without-words}
 use Rattle.sets.specs.Bits.{bit, hasBit}
-use Rattle.sets.specs.Jobs.{InWords, jobCount, jobHas, jobWith, jobWithout, noJobs}
-use Rattle.sets.specs.declared.job_set.JobSet.{JobSet}
+use Rattle.job_sets.specs.Jobs.{InWords, jobCount, jobHas, jobWith, jobWithout, noJobs}
+use Rattle.job_sets.specs.declared.job_set.JobSet.{JobSet}
 use Rattle.digits.proofs.Writing.{then}
 use Rattle.digits.specs.Digits.{Put}
 use Rattle.text.specs.Text.{AscendFrom, Lists, lineFor, linesOf, longestLines, membersFrom, membersOf, numberLine, textFor}

@@ -10,8 +10,8 @@ use Rattle.base.specs.Lists.{In}
 use Rattle.digits.specs.Digits.{decimal}
 use Rattle.outcome.specs.Figures.{numberOf, valueOf}
 use Rattle.outcome.specs.declared.Outcome.{Outcome}
-use Rattle.sets.specs.Jobs.{jobCount, jobHas}
-use Rattle.sets.specs.declared.job_set.JobSet.{JobSet}
+use Rattle.job_sets.specs.Jobs.{jobCount, jobHas}
+use Rattle.job_sets.specs.declared.job_set.JobSet.{JobSet}
 
 -- a line: three numbers, single spaces between
 unfoldable pub lineOf : ℕ → ℕ → ℕ → List ℕ

@@ -6,8 +6,8 @@ ghost use Prim.Native.Nat.{_+_, _<_, _≤_};
 ghost use lib.ListN.{length};
 ghost use Rattle.digits.specs.Digits.{Put};
 ghost use Rattle.text.specs.Text.{lineFor, lineOf, longestLine, longestText, textFor};
+use job_sets::JobSet;
 use outcome::Outcome;
-use sets::JobSet;
 
 // No text of a step has more bytes: a line, and a list of 128 numbers.
 pub const LONGEST: usize = 663;

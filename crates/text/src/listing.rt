@@ -4,10 +4,10 @@ ghost use Prim.Native.Nat.{_+_, _<_, _≤_};
 ghost use lib.ListN.{length};
 ghost use lib.Count.{trailingZeros};
 ghost use Rattle.base.specs.Search.{firstBelow};
-ghost use Rattle.sets.specs.Jobs.{jobHas};
+ghost use Rattle.job_sets.specs.Jobs.{jobHas};
 ghost use Rattle.digits.specs.Digits.{Put};
 ghost use Rattle.text.specs.Text.{linesOf, longestLines, membersOf, numberLine};
-use sets::JobSet;
+use job_sets::JobSet;
 
 // The first bit of a word, or 64.
 fn first_bit(word: u64) -> u32

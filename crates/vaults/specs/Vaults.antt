@@ -3,7 +3,7 @@ use mathlib.Core.Bool.{cond}
 use Prim.Native.Nat.{ℕ}
 use Rattle.outcome.specs.declared.Verdict.{Verdict}
 use Rattle.outcome.specs.declared.Verdict.the-variants.{Pass, Fail}
-use Rattle.sets.specs.Jobs.{jobHas, jobWith, jobWithout}
+use Rattle.job_sets.specs.Jobs.{jobHas, jobWith, jobWithout}
 use Rattle.vaults.specs.declared.Vault.{Vault}
 use Rattle.vaults.specs.declared.Signing.{Signing}
 use Rattle.vaults.specs.declared.Consent.the-variants.{Already, Fresh, Denied}

@@ -2,8 +2,8 @@
 mod vaults;
 mod voting;
 
+use job_sets::JobSet;
 use outcome::Refusal;
-use sets::JobSet;
 
 // The jobs that a vault holds and those that it has signed and not released.
 pub struct Vault {

@@ -4,8 +4,8 @@ ghost use Rattle.vaults.specs.Vaults.{newVault, signing, holding, unsign
 use crate::Consent;
 use crate::Signing;
 use crate::Vault;
+use job_sets::JobSet;
 use outcome::Verdict;
-use sets::JobSet;
 
 impl Vault {
     // A vault that holds nothing and has signed nothing.

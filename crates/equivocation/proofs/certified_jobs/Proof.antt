@@ -2,7 +2,7 @@
 use mathlib.Core.Path.{_≡_}
 use Prim.Native.Nat.{_-_, _≤_}
 use borrow.Author.Needs.{needs}
-use Rattle.sets.specs.Jobs.{jobsBelow}
+use Rattle.job_sets.specs.Jobs.{jobsBelow}
 use Rattle.equivocation.proofs.Gathering.{certifying, enoughSigned}
 use Rattle.equivocation.proofs.certified_jobs.Statement.{statement}
 use Rattle.equivocation.proofs.certified_jobs.Tie as tie

@@ -5,7 +5,7 @@ use native.Mathlib.Omega.{arith}
 use borrow.Author.Needs.{needs}
 use Rattle.index.specs.Index.{IndexedEntries}
 use Rattle.journal.specs.Journal.{jobAt}
-use Rattle.sets.specs.Jobs.{jobsBelow}
+use Rattle.job_sets.specs.Jobs.{jobsBelow}
 use Rattle.equivocation.proofs.Gathering.{counting, few-more}
 use Rattle.equivocation.proofs.few_excuses.Statement.{statement}
 use Rattle.equivocation.proofs.few_excuses.Tie as tie

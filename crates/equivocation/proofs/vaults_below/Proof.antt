@@ -3,7 +3,7 @@ use mathlib.Core.Path.{_≡_}
 use Prim.Native.Nat.{_-_, _≤_}
 use borrow.Author.Needs.{needs}
 use Rattle.sets.specs.Bits.{hasBit}
-use Rattle.sets.specs.Jobs.{jobsBelow}
+use Rattle.job_sets.specs.Jobs.{jobsBelow}
 use Rattle.equivocation.proofs.Gathering.{gathering}
 use Rattle.equivocation.proofs.vaults_below.Statement.{statement}
 use Rattle.equivocation.proofs.vaults_below.Tie as tie

@@ -2,8 +2,8 @@
 use mathlib.Core.Path.{_∙_, ap}
 use native.Mathlib.Omega.{arith}
 use borrow.Author.Needs.{needs}
-use Rattle.sets.specs.Jobs.{jobWith}
-use Rattle.sets.specs.declared.job_set.JobSet.{JobSet}
+use Rattle.job_sets.specs.Jobs.{jobWith}
+use Rattle.job_sets.specs.declared.job_set.JobSet.{JobSet}
 use Rattle.rivalry.proofs.Shares.{conflict-booked}
 use Rattle.index.proofs.Tables.{indexed-tables}
 use Rattle.rivalry.proofs.conflict.Statement.{statement}

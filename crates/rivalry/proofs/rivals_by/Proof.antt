@@ -1,7 +1,7 @@
 -- The two sides together, but the job itself.
 use mathlib.Core.Path.{_∙_}
 use borrow.Author.Needs.{needs}
-use Rattle.sets.proofs.Jobs.{union-words, without-words}
+use Rattle.job_sets.proofs.Jobs.{union-words, without-words}
 use Rattle.rivalry.proofs.rivals_by.Statement.{statement}
 use Rattle.rivalry.proofs.rivals_by.Tie as tie
 use Rattle.rivalry.specs.Rivals.{rivalsBy}

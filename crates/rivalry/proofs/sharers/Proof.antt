@@ -2,7 +2,7 @@
 use mathlib.Core.Path.{_≡_}
 use Prim.Native.Nat.{_-_, _≤_}
 use borrow.Author.Needs.{needs}
-use Rattle.sets.specs.Jobs.{InWords}
+use Rattle.job_sets.specs.Jobs.{InWords}
 use Rattle.rivalry.proofs.Opposes.{gathering}
 use Rattle.rivalry.proofs.sharers.Statement.{statement}
 use Rattle.rivalry.proofs.sharers.Tie as tie

@@ -1,7 +1,7 @@
 -- What stands at the entry's number joins, where there are so many.
 use borrow.Author.Needs.{needs}
 use borrow.Author.Tests.{le-ltb, lt-ltb}
-use Rattle.sets.proofs.Jobs.{union-words}
+use Rattle.job_sets.proofs.Jobs.{union-words}
 use Rattle.rivalry.proofs.with_sharers.Statement.{statement}
 use Rattle.rivalry.proofs.with_sharers.Tie as tie
 use Rattle.rivalry.specs.Rivals.{sharersWith}

@@ -1,7 +1,7 @@
 -- The vaults so far are those below the present one that have not signed.
 use mathlib.Core.Path.{_≡_}
 use Prim.Native.Nat.{_-_, _≤_}
-use Rattle.sets.specs.Jobs.{jobsBelow}
+use Rattle.job_sets.specs.Jobs.{jobsBelow}
 use Rattle.answers.proofs.Names.{signs, unsigned}
 use Rattle.answers.proofs.values.to_sign.Statement.{statement}
 use Rattle.answers.proofs.values.to_sign.Tie as tie

@@ -5,7 +5,7 @@ use lib.ListN.{length}
 use native.Mathlib.Omega.{arith}
 use borrow.Author.Needs.{needs}
 use Rattle.base.specs.Search.{firstBelow}
-use Rattle.sets.specs.Jobs.{jobCount, jobHas}
+use Rattle.job_sets.specs.Jobs.{jobCount, jobHas}
 use Rattle.text.proofs.Members.{Listed, listed-end, listed-less, listed-more, listed-room, listed-start}
 use Rattle.text.specs.Text.{longestLines}
 use Rattle.text.proofs.listing.write_list.Statement.{statement}

@@ -1,6 +1,6 @@
 -- `new` is what `noJobs` says.
 use borrow.Author.Needs.{needs}
-use Rattle.sets.specs.Jobs.{noJobs}
+use Rattle.job_sets.specs.Jobs.{noJobs}
 use Rattle.vaults.proofs.Vault.new.Statement.{statement}
 use Rattle.vaults.proofs.Vault.new.Tie as tie
 
