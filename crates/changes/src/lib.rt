@@ -1,52 +1,11 @@
 // What a step changes, and the one place where a ledger changes.
 ghost use mathlib.Core.Path.{_≡_};
-ghost use Prim.Native.Nat.{_<_, _≤_};
-ghost use lib.ListN.{length};
-ghost use Rattle.generations.specs.Generations.{isAt};
 ghost use Rattle.ledger.specs.Decisions.{isBook, isNothing};
 ghost use Rattle.ledger.specs.Given.{Placed};
-ghost use Rattle.ledger.specs.State.{applied, arriving, hasArrived};
-use journal::CAPACITY;
+ghost use Rattle.ledger.specs.State.{applied};
 use ledger::Change;
 use ledger::Ledger;
 use vaults::Column;
-
-fn is_arrival(order: &[u8], job: u8, i: usize) -> bool
-    requires { ⌜ i < length (now order) ⌝ }
-    ensures { λ r. ⌜ r ≡ isAt (now (order .entry)) job i ⌝ }
-{
-    order[i] == job
-}
-
-// Whether the job is among the first n of the arrival order.
-fn has_arrived(order: &[u8], n: usize, job: u8) -> bool
-    requires { ⌜ n ≤ length (now order) ⌝ }
-    ensures { λ r. ⌜ r ≡ hasArrived (now (order .entry)) n job ⌝ }
-{
-    for i in 0..n {
-        if is_arrival(order, job, i) {
-            return true;
-        }
-    }
-    false
-}
-
-// The job goes to the end of the arrival order, unless it is there.
-fn arrive(mut ledger: Ledger, job: u8) -> Ledger
-    requires { ⌜ ledger .arrivals ≤ 128 ⌝ }
-    ensures { λ r. ⌜ r ≡ arriving ledger job ⌝ }
-{
-    let n = ledger.arrivals;
-    if has_arrived(&ledger.order, n, job) {
-        return ledger;
-    }
-    if n >= CAPACITY {
-        return ledger;
-    }
-    ledger.order[n] = job;
-    ledger.arrivals = n + 1;
-    ledger
-}
 
 // Called behind checks 1, 3 and 4: by the operations and by the run.
 pub fn apply(mut ledger: Ledger, change: Change, vault: u8, job: u8) -> Ledger
@@ -70,7 +29,7 @@ pub fn apply(mut ledger: Ledger, change: Change, vault: u8, job: u8) -> Ledger
         Change::Hold(state) => {
             ledger.vaults[v] = state;
             ledger.votes[j] = votes.with(Column::Acknowledgements, vault);
-            arrive(ledger, job)
+            arrivals::arrive(ledger, job)
         }
         Change::Release(state) => {
             ledger.vaults[v] = state;

@@ -36,11 +36,13 @@ use Rattle.naming.specs.Kept.{Still}
 use Rattle.naming.specs.declared.Remembered.{Remembered}
 use Rattle.going.proofs.Naming.{still-right}
 use Rattle.reading.specs.Reading.{Read, isWide, jobOf, vaultOf}
-use Rattle.steps.specs.Turned.{CarriedOut, Said, Surveyed, answerOf, decisionAt, recordIn}
+use Rattle.progress.specs.Said.{Said}
+use Rattle.steps.specs.Turned.{CarriedOut, decisionAt, recordIn}
+use Rattle.surveys.specs.Surveyed.{Surveyed, answerOf}
 use Rattle.text.specs.Text.{longestText}
 use Rattle.reading.specs.declared.Step.{Step}
-use Rattle.steps.specs.declared.Looked.{Looked}
-use Rattle.steps.specs.declared.Told.{Told}
+use Rattle.progress.specs.declared.Looked.{Looked}
+use Rattle.progress.specs.declared.Told.{Told}
 use Rattle.kinds.specs.declared.View.{View}
 use Rattle.going.proofs.Commands.{There, booksOf, commandDecision, decided-is, left-by, reply-ledger, reply-outcome, there, viewAt}
 use Rattle.going.proofs.Commands.{answer, narrow-lists, wide-answer, wide-quiet}

@@ -43,8 +43,8 @@ pub fn carry_on(
                 named,
             };
             let order = &ledger.order;
-            let r = steps::survey(s, books, order, numbers, sets, journal, memo, out, c.at);
-            c = progress::looked(s, r);
+            let r = surveys::survey(s, books, order, numbers, sets, journal, memo, out, c.at);
+            c = progress::surveyed(s, r);
             named = r.named;
             continue;
         }
@@ -60,7 +60,7 @@ pub fn carry_on(
         };
         let r = steps::carry_out(s, view, numbers, sets, records, journal, input, out, c.at);
         let change = r.change;
-        c = progress::told(s, r);
+        c = progress::carried_out(s, r);
         if changes::is_nothing(change) {
             continue;
         }

@@ -1,14 +1,28 @@
-// How far a run has come: what it hands back, and how it goes on beside its ledger.
+// How far a run has come: what its steps answer, what it hands back, and how it goes on beside its ledger.
 ghost use mathlib.Core.Path.{_≡_};
 ghost use Rattle.job_sets.specs.Jobs.{noJobs};
 ghost use Rattle.progress.specs.Coming.{Goes, cursorAt, movedTo, turnedAt};
 use job_sets::JobSet;
+use ledger::Change;
 use ledger::Ledger;
 use naming::Remembered;
 use outcome::Outcome;
 use reading::Step;
-use steps::Looked;
-use steps::Told;
+
+// What a step answers that looks at one vault: what it changes in the ledger, and where its text ends.
+pub struct Told {
+    pub change: Change,
+    pub outcome: Outcome,
+    pub at: usize,
+}
+
+// What a step answers and lists that looks at all vaults, the vaults that equivocate, where they are known then, and where its text ends.
+pub struct Looked {
+    pub outcome: Outcome,
+    pub members: JobSet,
+    pub named: Remembered,
+    pub at: usize,
+}
 
 // How far a run has come: its ledger, where it reads, how many steps it has carried out, and how much of the buffer it wrote last.
 pub struct Progress {
@@ -50,7 +64,7 @@ pub fn cursor_at(pos: usize, count: u32, at: usize) -> Cursor
 }
 
 // After a step that looks at all vaults.
-pub fn looked(step: Step, r: Looked) -> Cursor
+pub fn surveyed(step: Step, r: Looked) -> Cursor
     ensures { λ c. ⌜ c ≡ movedTo step (r .at) (r .outcome) (r .members) ⌝ }
 {
     let outcome = r.outcome;
@@ -65,7 +79,7 @@ pub fn looked(step: Step, r: Looked) -> Cursor
 }
 
 // After one that looks at one vault, and lists nothing.
-pub fn told(step: Step, r: Told) -> Cursor
+pub fn carried_out(step: Step, r: Told) -> Cursor
     ensures { λ c. ⌜ c ≡ movedTo step (r .at) (r .outcome) noJobs ⌝ }
 {
     let outcome = r.outcome;

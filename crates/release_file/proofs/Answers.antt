@@ -5,31 +5,19 @@ use mathlib.Core.Logic.{_≢_}
 use mathlib.Core.Path.{_∙_, _≡_, ap, ap₂, subst, sym}
 use Prim.Native.Nat.{ℕ}
 use borrow.Author.Tests.{eq-eqb, ne-eqb}
-use Rattle.index.specs.Places.{numbersSize, setsSize}
-use Rattle.index.specs.Records.{recordsSize}
-use Rattle.journal.specs.Journal.{capacity}
 use Rattle.consequences.specs.Freed.{Freed}
 use Rattle.ledger.specs.declared.Ledger.{Ledger}
 use Rattle.outcome.specs.declared.Outcome.the-variants.{Refused}
 use Rattle.outcome.specs.declared.Refusal.the-variants.{Settings as BadSettings, Unreadable}
-use Rattle.release_file.specs.Releases.{RanOut, freedAt, releasesText, unreadIn}
+use Rattle.release_file.specs.Releases.{freedAt, releasesText, unreadIn}
 use Rattle.outcome.specs.declared.Verdict.{Verdict}
 use Rattle.release_list.specs.Listing.{Released, listText, printed, tapesFreed}
 use Rattle.release_list.specs.declared.Releases.{Releases}
-use Rattle.progress.specs.Pieces.{Going, Started, blank, runOf}
-use Rattle.progress.specs.declared.Progress.{Progress}
 use Rattle.runfile.specs.History.{finalRun}
-use Rattle.runfile.specs.Run.{journalSize, lastFrom, opens}
+use Rattle.runfile.specs.Run.{opens}
+use Rattle.whole_run.specs.RanOut.{RanOut}
 use Rattle.digits.specs.Digits.{Put}
 use Rattle.text.specs.Text.{lineFor}
-
--- a run that check 1 has let through begins on tables of zeros
-pub begun : (input journal before after : List ℕ) (p : Progress) → opens input ≡ true → journal ≡ blank journalSize → Started input before after p
-    → Going input p journal (blank numbersSize) (blank setsSize) (blank recordsSize) (blank capacity) × (lastFrom input (runOf p journal) ≡ finalRun input)
-begun input journal before after p o e s = (
-  subst (λ (j : List ℕ). Going input p j (blank numbersSize) (blank setsSize) (blank recordsSize) (blank capacity)) (sym e) (s .going o),
-  ap (λ (j : List ℕ). lastFrom input (runOf p j)) e ∙ ap (lastFrom input) (s .first o),
-)
 
 module _ {o p : List ℕ} (input : List ℕ) where
   module _ (b : Bool) (lets : b ≡ opens input) (through : b ≡ true) (first : ℕ) (is : first ≡ unreadIn input) where

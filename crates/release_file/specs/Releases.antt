@@ -10,12 +10,9 @@ use Rattle.base.specs.Lists.{In}
 use Rattle.conflicts.specs.Tapes.{labels}
 use Rattle.consequences.specs.Freed.{Free, Freed, freedIn}
 use Rattle.ledger.specs.Register.{Register, feedAll, log, newRegister}
-use Rattle.ledger.specs.Steps.{wholeGate}
 use Rattle.ledger.specs.Worlds.{Event, World, afterAll}
-use Rattle.ledger.specs.declared.Ledger.{Ledger}
 use Rattle.outcome.specs.declared.Outcome.the-variants.{Refused}
 use Rattle.outcome.specs.declared.Refusal.the-variants.{Settings as BadSettings, Unreadable}
-use Rattle.outcome.specs.declared.Verdict.the-variants.{Pass}
 use Rattle.release_list.specs.Listing.{listText, tapesFreed}
 use Rattle.runfile.specs.History.{begun, events, finalRun, steps}
 use Rattle.runfile.specs.Run.{Run, headerSize, opens, versionIn}
@@ -41,12 +38,6 @@ releasesText input =
     cond (opens input)
     (cond (eqb (unreadIn input) 0) (listText (freedAt (finalRun input))) (lineFor (unreadIn input) (Refused Unreadable)))
     (lineFor 0 (Refused BadSettings))
-
--- the ledger and the journal in which a run ends; checks 1 and 4 pass there
-pub record RanOut (input : List ℕ) (l : Ledger) (journal : List ℕ) : Type 0 where
-  pub ledger-is : l ≡ finalRun input .ledger
-  pub journal-is : journal ≡ finalRun input .journal
-  pub passes : wholeGate l journal ≡ Pass
 
 -- ---- the list of a run is that of the world to which its steps lead, and of no other, so that all is true of it that is proved of that
 abbrev pub worldAfter : List ℕ → World

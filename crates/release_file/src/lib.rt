@@ -1,5 +1,4 @@
 // A run file in, its release list out: the file is carried out to its end, and the tapes that are then free are listed.
-mod running;
 mod unread;
 
 ghost use Prim.Native.Nat.{_≤_};
@@ -16,7 +15,7 @@ pub fn releases(input: &[u8], out: &mut [u8; release_list::ROOM]) -> usize
         let first = unread::first(input);
         if first == 0 {
             let mut journal = [0u8; run::JOURNAL];
-            let ledger = running::run_out(input, &mut journal);
+            let ledger = whole_run::run_out(input, &mut journal);
             return release_list::list(ledger, &journal, out).written;
         }
         return text::write_line(out, 0, first, Outcome::Refused(Refusal::Unreadable));

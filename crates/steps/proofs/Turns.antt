@@ -6,17 +6,14 @@ use native.Mathlib.Omega.{arith}
 use Rattle.outcome.specs.declared.Outcome.{Outcome}
 use Rattle.ledger.specs.Given.{Writable}
 use Rattle.ledger.specs.declared.Decision.{Decision}
-use Rattle.ledger.specs.declared.Listing.{Listing}
 use Rattle.text.proofs.Members.{nothing-listed}
 use Rattle.digits.specs.Digits.{Put}
-use Rattle.text.specs.Text.{lineFor, longestLine, longestText, textFor}
+use Rattle.text.specs.Text.{lineFor, longestLine}
 use Rattle.steps.proofs.Quiet.{writable}
-use Rattle.questions.specs.Answers.{Answered, alone, surveyed}
-use Rattle.naming.specs.Kept.{Found}
+use Rattle.progress.specs.Said.{Said}
+use Rattle.questions.specs.Answers.{alone}
 use Rattle.storing.specs.Stored.{Stored}
-use Rattle.steps.specs.Turned.{CarriedOut, Said, Surveyed, decisionAt, recordIn}
-use Rattle.questions.specs.declared.Books.{Books}
-use Rattle.naming.specs.declared.Remembered.{Remembered}
+use Rattle.steps.specs.Turned.{CarriedOut, decisionAt, recordIn}
 use Rattle.reading.specs.declared.Step.{Step}
 use Rattle.kinds.specs.declared.View.{View}
 
@@ -40,17 +37,4 @@ module _ (w : View) (journal input : List ℕ) (s : Step) (d : Decision) (e : d 
     stored = t;
   }
 
-pub surveyed-so : (a : Books) (s : Step) (at : ℕ) (order journal out memo′ out′ : List ℕ) (r : ℕ) (named : Remembered) (answer : Listing)
-    → Found (a .settings) (a .votes) journal (a .booked) (s .kind) named
-    → Answered a order journal memo′ (surveyed a (named .vaults) order journal (s .kind) (s .vault) (s .job)) answer
-    → Put out at (textFor (s .number) (answer .outcome) (answer .members)) out′ r → r ≤ at + longestText
-    → Surveyed a s at order journal out memo′ out′ (record { outcome = answer .outcome; members = answer .members; named = named; at = r })
-surveyed-so a s at order journal out memo′ out′ r named answer f h p short = record {
-  found = f;
-  answer-is = h .told;
-  said = record { text = p; short = short };
-  right = h .right;
-  size = h .size;
-}
-
-pub ruleset turns = (to-store, carried-out, surveyed-so)
+pub ruleset turns = (to-store, carried-out)

@@ -1,25 +1,60 @@
-// One step of a run file that was read: it is decided from what it looks at, its text is written and its record stored. These are parts of
-// the run, which keeps the journal and its index, and knows what they require.
-mod turning;
+// A step of a run file that looks at one vault: it is decided, its text written, and its record stored. The ledger's own change is left to the run, which keeps
+// the journal and its index, and knows what they require.
+ghost use Prim.Native.Nat.{_+_, _<_, _≤_};
+ghost use lib.ListN.{length};
+ghost use Rattle.index.specs.Index.{Indexed};
+ghost use Rattle.reading.specs.Reading.{Asked};
+ghost use Rattle.steps.specs.Turned.{CarriedOut};
+ghost use Rattle.text.specs.Text.{longestText};
+use kinds::View;
+use progress::Told;
+use reading::Step;
 
-use job_sets::JobSet;
-use ledger::Change;
-use naming::Remembered;
-use outcome::Outcome;
-pub use turning::carry_out;
-pub use turning::survey;
-
-// What a step answers that looks at one vault: what it changes in the ledger, and where its text ends.
-pub struct Told {
-    pub change: Change,
-    pub outcome: Outcome,
-    pub at: usize,
-}
-
-// What a step answers and lists that looks at all vaults, the vaults that equivocate, where they are known then, and where its text ends.
-pub struct Looked {
-    pub outcome: Outcome,
-    pub members: JobSet,
-    pub named: Remembered,
-    pub at: usize,
+pub fn carry_out(
+    step: Step,
+    view: View,
+    numbers: &mut [u16],
+    sets: &mut [u64],
+    records: &mut [u16],
+    journal: &mut [u8],
+    input: &[u8],
+    out: &mut [u8],
+    at: usize,
+) -> Told
+    requires { ⌜ Asked (view .settings .version) (now input) step
+        × Indexed (view .settings .version) (now journal) (view .booked) (now numbers) (now sets) (now records)
+        × (step .number < 1000000)
+        × (at + longestText ≤ length (now out)) ⌝ }
+    ensures { λ r. ⌜ CarriedOut (now (input .entry)) step view at (now (journal .entry)) (now (out .entry)) r
+        (now (journal .exit)) (now (numbers .exit)) (now (sets .exit)) (now (records .exit)) (now (out .exit)) ⌝ }
+{
+    let decision = deciding::decide(
+        step,
+        view,
+        &numbers[..],
+        &sets[..],
+        &records[..],
+        &journal[..],
+        input,
+    );
+    let change = decision.change;
+    let outcome = decision.outcome;
+    let end = text::write_line(out, at, step.number, outcome);
+    let settings = view.settings;
+    storing::store(
+        change,
+        numbers,
+        sets,
+        records,
+        settings.version,
+        journal,
+        view.booked,
+        input,
+        step.at,
+    );
+    Told {
+        change,
+        outcome,
+        at: end,
+    }
 }

@@ -75,7 +75,7 @@ loop-less c =
     let v = c .before .before .before .before .before .before in
     let n = v .before .before .before .before .before .before .before .before .before .before .before .before in
     let s = n .before in
-    reads-on (s .step-at .ensures) _ (c .before .looked .ensures)
+    reads-on (s .step-at .ensures) _ (c .before .surveyed .ensures)
 
 loop-again : tie.Need-loop-again Inv-loop μ-loop
 loop-again c =
@@ -88,7 +88,7 @@ loop-again c =
     let same = v .survey .kept .1 .1 .1 .1 .1 .1 .1 .0 in (
       come-on t _ _ _ _ _ _ _ _ _ (o .0) (o .2)
           (took-wide _ _ _ _ _ _ _ _ _ (t .going) (o .0) (o .1) _ (s .step-at .ensures) _ _ _ _ (n .if2 .taken) (v .survey .ensures) same _
-          (c .before .looked .ensures)),
+          (c .before .surveyed .ensures)),
       still-surveyed (v .survey .kept .1 .1 .1 .1 .1 .1 .0) same (h .before .loop .inv .1),
     )
 
@@ -105,7 +105,7 @@ loop-less-2 c =
     let v = c .before .before .before .before .before .before .before .before .before .before .before .before .before in
     let n = v .before .before .before .before .before .before .before .before .before .before .before .before .before .before .before in
     let s = n .before in
-    reads-on (s .step-at .ensures) _ (c .before .before .told .ensures)
+    reads-on (s .step-at .ensures) _ (c .before .before .carried-out .ensures)
 
 loop-again-2 : tie.Need-loop-again-2 Inv-loop μ-loop
 loop-again-2 c =
@@ -118,7 +118,7 @@ loop-again-2 c =
     let same = v .carry-out .kept .1 .1 .1 .1 .1 .1 .1 .0 in (
       come-on t _ _ _ _ _ _ _ _ _ (o .0) (o .2)
           (took-quiet _ _ _ _ _ _ _ _ _ (t .going) (o .0) (o .1) _ (s .step-at .ensures) (n .if2 .left) _ _ _ _ _ _ (v .carry-out .ensures) _
-          (c .before .is-nothing .ensures) (c .if3 .taken) _ (t .right) same _ (c .before .before .told .ensures)),
+          (c .before .is-nothing .ensures) (c .if3 .taken) _ (t .right) same _ (c .before .before .carried-out .ensures)),
       still-same (v .carry-out .kept .1 .1 .0) (v .carry-out .kept .1 .1 .1 .0) (v .carry-out .kept .1 .1 .1 .1 .0) (v .carry-out .kept .1 .1 .1 .1 .1 .0) same
           (h .before .loop .inv .1),
     )
@@ -140,7 +140,7 @@ loop-less-3 c =
     let v = a .before .before .before .before .before .before .before .before .before .before .before .before .before .before in
     let n = v .before .before .before .before .before .before .before .before .before .before .before .before .before .before .before in
     let s = n .before in
-    reads-on (s .step-at .ensures) _ (a .before .before .before .told .ensures)
+    reads-on (s .step-at .ensures) _ (a .before .before .before .carried-out .ensures)
 
 loop-again-3 : tie.Need-loop-again-3 Inv-loop μ-loop
 loop-again-3 c =
@@ -155,7 +155,7 @@ loop-again-3 c =
       come-on t _ _ _ _ _ _ _ _ _ (o .0) (o .2)
           (took-loud _ _ _ _ _ _ _ _ _ (t .going) (o .0) (o .1) _ (s .step-at .ensures) (n .if2 .left) _ _ _ _ _ _ (v .carry-out .ensures) _
           (a .before .before .is-nothing .ensures) (a .before .if3 .left) _ (a .apply .ensures) _ (t .right) same _
-          (a .before .before .before .told .ensures) _ (c .still .ensures)),
+          (a .before .before .before .carried-out .ensures) _ (c .still .ensures)),
       still-same (v .carry-out .kept .1 .1 .0) (v .carry-out .kept .1 .1 .1 .0) (v .carry-out .kept .1 .1 .1 .1 .0) (v .carry-out .kept .1 .1 .1 .1 .1 .0) same
           (h .before .loop .inv .1),
     )

@@ -1,20 +1,31 @@
 -- Where the run will end stays the same, and each piece brings it nearer.
 use mathlib.Core.List.{List}
-use mathlib.Core.Path.{_∙_, _≡_, ap, sym}
+use mathlib.Core.Bool.{true}
+use mathlib.Core.Path.{_∙_, _≡_, ap, subst, sym}
 use Prim.Native.Nat.{_-_, _<_, _≤_, ℕ}
 use lib.ListN.{length}
 use native.Mathlib.Omega.{arith}
 use borrow.Author.Needs.{needs}
 use Rattle.ledger.proofs.Gates.{whole-passes}
-use Rattle.release_file.proofs.Answers.{begun}
-use Rattle.release_file.proofs.running.run_out.Statement.{statement}
-use Rattle.release_file.proofs.running.run_out.Tie as tie
-use Rattle.release_file.specs.Releases.{RanOut}
-use Rattle.progress.specs.Pieces.{Advanced, Going, runOf}
+use Rattle.whole_run.proofs.run_out.Statement.{statement}
+use Rattle.whole_run.proofs.run_out.Tie as tie
+use Rattle.whole_run.specs.RanOut.{RanOut}
+use Rattle.index.specs.Places.{numbersSize, setsSize}
+use Rattle.index.specs.Records.{recordsSize}
+use Rattle.journal.specs.Journal.{capacity}
+use Rattle.progress.specs.Pieces.{Advanced, Going, Started, blank, runOf}
 use Rattle.progress.specs.declared.Progress.{Progress}
 use Rattle.runfile.proofs.Turns.{none-after}
 use Rattle.runfile.specs.History.{finalRun}
-use Rattle.runfile.specs.Run.{Run, lastFrom}
+use Rattle.runfile.specs.Run.{Run, journalSize, lastFrom, opens}
+
+-- a run that check 1 has let through begins on tables of zeros
+begun : (input journal before after : List ℕ) (p : Progress) → opens input ≡ true → journal ≡ blank journalSize → Started input before after p
+    → Going input p journal (blank numbersSize) (blank setsSize) (blank recordsSize) (blank capacity) × (lastFrom input (runOf p journal) ≡ finalRun input)
+begun input journal before after p o e s = (
+  subst (λ (j : List ℕ). Going input p j (blank numbersSize) (blank setsSize) (blank recordsSize) (blank capacity)) (sym e) (s .going o),
+  ap (λ (j : List ℕ). lastFrom input (runOf p j)) e ∙ ap (lastFrom input) (s .first o),
+)
 
 record Turn (input : List ℕ) (progress : Progress) (journal₀ journal memo numbers sets records out : List ℕ) : Type 0 where
   going : Going input progress journal numbers sets records memo

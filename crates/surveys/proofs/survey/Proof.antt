@@ -1,9 +1,9 @@
-use Rattle.steps.proofs.Turns.{turns}
-use Rattle.steps.proofs.turning.survey.Statement.{statement}
-use Rattle.steps.proofs.turning.survey.Tie as tie
+use Rattle.surveys.proofs.Surveys.{surveyed-so}
+use Rattle.surveys.proofs.survey.Statement.{statement}
+use Rattle.surveys.proofs.survey.Tie as tie
 use borrow.Author.Needs.{needs}
 
-ruleset by = (turns, needs)
+ruleset by = (surveyed-so, needs)
 
 pub survey-spec : {M : Type 1} → statement M
 survey-spec =

@@ -1,12 +1,12 @@
 // A run file carried out to its end; its text is not kept.
 ghost use mathlib.Core.Bool.{true};
 ghost use mathlib.Core.Path.{_≡_};
-ghost use Rattle.release_file.specs.Releases.{RanOut};
+ghost use Rattle.whole_run.specs.RanOut.{RanOut};
 ghost use Rattle.progress.specs.Pieces.{blank};
 ghost use Rattle.runfile.specs.Run.{journalSize, opens};
 use ledger::Ledger;
 
-pub(crate) fn run_out(input: &[u8], journal: &mut [u8]) -> Ledger
+pub fn run_out(input: &[u8], journal: &mut [u8]) -> Ledger
     requires { ⌜ (opens (now input) ≡ true) × (now journal ≡ blank journalSize) ⌝ }
     ensures { λ r. ⌜ RanOut (now (input .entry)) r (now (journal .exit)) ⌝ }
 {

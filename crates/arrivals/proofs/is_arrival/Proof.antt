@@ -1,8 +1,8 @@
 use mathlib.Core.Path.{refl}
 use borrow.Author.Needs.{needs}
-use Rattle.changes.proofs.is_arrival.Statement.{statement}
+use Rattle.arrivals.proofs.is_arrival.Statement.{statement}
 use Rattle.generations.specs.Generations.{isAt}
-use Rattle.changes.proofs.is_arrival.Tie as tie
+use Rattle.arrivals.proofs.is_arrival.Tie as tie
 
 returns : tie.Need-returns
 unfolding isAt

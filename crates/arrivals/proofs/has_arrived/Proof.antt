@@ -5,10 +5,10 @@ use lib.ListN.{length}
 use borrow.Author.Needs.{needs}
 use Rattle.base.proofs.Search.{searches}
 use Rattle.base.specs.Search.{anyBelow}
-use Rattle.changes.proofs.has_arrived.Statement.{statement}
+use Rattle.arrivals.proofs.has_arrived.Statement.{statement}
 use Rattle.generations.specs.Generations.{isAt}
 use Rattle.ledger.specs.State.{hasArrived}
-use Rattle.changes.proofs.has_arrived.Tie as tie
+use Rattle.arrivals.proofs.has_arrived.Tie as tie
 
 ruleset by = (searches, needs)
 

@@ -1,6 +1,6 @@
 use Rattle.steps.proofs.Turns.{turns}
-use Rattle.steps.proofs.turning.carry_out.Statement.{statement}
-use Rattle.steps.proofs.turning.carry_out.Tie as tie
+use Rattle.steps.proofs.carry_out.Statement.{statement}
+use Rattle.steps.proofs.carry_out.Tie as tie
 use borrow.Author.Needs.{needs}
 
 ruleset by = (turns, needs)
