@@ -40,7 +40,7 @@ fn line_read(text: &[u8], at: usize, buffer: &mut [u8], out: &mut [u8], end: usi
         return lines::header_read(text, at, out);
     }
     lines::step_read(
-        reading::word_at(parts::front(out, end), 3),
+        fields::word_at(parts::front(out, end), 3),
         text,
         at,
         buffer,

@@ -34,7 +34,7 @@ pub fn decide(
             version,
             journal,
             view.booked,
-            reading::record_at(version, input, step.at),
+            fields::record_at(version, input, step.at),
         ),
         Kind::Preflight => kinds::preflight(step, view, numbers, sets, journal),
         Kind::Commit => kinds::commit(step, view, journal, input),

@@ -86,7 +86,7 @@ fn is_whole(input: &[u8], version: u16) -> bool
         left -= 1;
         let step = reading::step_at(version, input, pos, 0);
         let kind = step.kind;
-        if reading::is_unknown(kind) {
+        if kind_table::is_unknown(kind) {
             return false;
         }
         pos = step.end;
@@ -99,7 +99,7 @@ pub fn is_sayable(input: &[u8]) -> bool
     ensures { λ r. ⌜ r ≡ sayable (now (input .entry)) ⌝ }
 {
     if header::opens(input) {
-        return is_whole(input, reading::word_at(input, 3));
+        return is_whole(input, fields::word_at(input, 3));
     }
     false
 }
@@ -110,7 +110,7 @@ pub fn disassemble(input: &[u8], out: &mut [u8; TEXT]) -> usize
         × (r ≤ longestText) × (length (now (out .exit)) ≡ textRoom) ⌝ }
 {
     if is_sayable(input) {
-        let version = reading::word_at(input, 3);
+        let version = fields::word_at(input, 3);
         let start = put_header(version, input, out);
         return put_lines(version, input, out, start);
     }

@@ -43,7 +43,8 @@ use Rattle.quota.specs.Quota.{historyPlace}
 use Rattle.steps.proofs.Quiet.{Bookless}
 use Rattle.kinds.specs.Decided.{bookedOr, decidedBy}
 use Rattle.questions.specs.Answers.{naming, required, surveyed}
-use Rattle.reading.specs.Reading.{historyOf, isWide, jobOf, vaultOf}
+use Rattle.kind_table.specs.Table.{isWide}
+use Rattle.reading.specs.Reading.{historyOf, jobOf, vaultOf}
 use Rattle.naming.specs.Kept.{Found}
 use Rattle.naming.specs.declared.Remembered.{Remembered}
 use Rattle.questions.specs.declared.Books.{Books}

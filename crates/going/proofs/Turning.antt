@@ -35,7 +35,8 @@ use Rattle.questions.specs.Answers.{alone}
 use Rattle.naming.specs.Kept.{Still}
 use Rattle.naming.specs.declared.Remembered.{Remembered}
 use Rattle.going.proofs.Naming.{still-right}
-use Rattle.reading.specs.Reading.{Read, isWide, jobOf, vaultOf}
+use Rattle.kind_table.specs.Table.{isWide}
+use Rattle.reading.specs.Reading.{Read, jobOf, vaultOf}
 use Rattle.progress.specs.Said.{Said}
 use Rattle.steps.specs.Turned.{CarriedOut, decisionAt, recordIn}
 use Rattle.surveys.specs.Surveyed.{Surveyed, answerOf}

@@ -37,10 +37,10 @@ pub fn settings_in(input: &[u8]) -> Settings
     ensures { λ r. ⌜ r ≡ opened (now (input .entry)) .settings ⌝ }
 {
     Settings {
-        n: reading::byte_at(input, 5),
-        b: reading::byte_at(input, 6),
-        faulty: reading::word_at(input, 7),
-        version: reading::word_at(input, 3),
+        n: fields::byte_at(input, 5),
+        b: fields::byte_at(input, 6),
+        faulty: fields::word_at(input, 7),
+        version: fields::word_at(input, 3),
     }
 }
 

@@ -74,7 +74,7 @@ pub fn client_preflight(
         settings.version,
         journal,
         view.booked,
-        reading::byte_at(input, step.at + 2),
+        fields::byte_at(input, step.at + 2),
         view.history,
         view.votes.signatures,
         step.vault,
@@ -106,7 +106,7 @@ pub fn release(
         view.booked,
         view.votes.signatures,
         job,
-        reading::byte_at(input, step.at + 2) as usize,
+        fields::byte_at(input, step.at + 2) as usize,
     )
 }
 
@@ -125,7 +125,7 @@ pub fn commit(step: Step, view: View, journal: &[u8], input: &[u8]) -> Decision
         votes,
         step.vault,
         job,
-        reading::word_at(input, step.at + 2),
+        fields::word_at(input, step.at + 2),
     )
 }
 

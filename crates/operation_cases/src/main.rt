@@ -57,14 +57,14 @@ fn show_record(bytes: &[u8]) {
 
 // A step of a run file, by its kind; kinds 14 and 15 are the program's own, a new ledger and a record shown. A draw needs no ledger, and is none of these.
 fn step(ledger: Ledger, journal: &mut [u8], kind: u8, body: &[u8]) -> Ledger {
-    let vault = reading::byte_at(body, 0);
-    let job = reading::byte_at(body, 1);
-    let other = reading::byte_at(body, 2);
+    let vault = fields::byte_at(body, 0);
+    let job = fields::byte_at(body, 1);
+    let other = fields::byte_at(body, 2);
     match kind {
         1 => report(operations::propose(ledger, journal, body)),
         2 => report(operations::preflight(ledger, journal, vault, job)),
         3 => {
-            let signers = reading::word_at(body, 2);
+            let signers = fields::word_at(body, 2);
             report(operations::commit(ledger, journal, vault, job, signers))
         }
         4 => {
@@ -96,9 +96,9 @@ fn step(ledger: Ledger, journal: &mut [u8], kind: u8, body: &[u8]) -> Ledger {
         }
         14 => report(books::new(
             other,
-            reading::byte_at(body, 3),
-            reading::word_at(body, 4),
-            reading::word_at(body, 0),
+            fields::byte_at(body, 3),
+            fields::word_at(body, 4),
+            fields::word_at(body, 0),
         )),
         15 => {
             show_record(operations::lookup(ledger, journal, vault));

@@ -1,5 +1,5 @@
--- A step as it is read: its operation, what it names, and where the next one stands.
-use mathlib.Core.Bool.{Bool, false, true}
+-- A step as it is read: its kind, what it names, and where the next one stands.
+use mathlib.Core.Bool.{false}
 use mathlib.Core.List.{List}
 use mathlib.Core.Path.{_≡_}
 use Prim.Native.Nat.{_+_, _<_, _≤_, ℕ}
@@ -9,13 +9,12 @@ use Rattle.quota.specs.Quota.{historyPlace}
 use Rattle.runfile.specs.Run.{longest}
 use Rattle.ledger.specs.Worlds.{Request, clientPreflight, commit, dependencies, equivocating, faultyVote, generations, jobIn}
 use Rattle.ledger.specs.Worlds.{preflight, propose, release, show, snapshot, vaultIn}
-use Rattle.runfile.specs.Steps.{Command, bodySize, commandIn, draw, kindAt, kindOf, nextAt, request, unreadable}
-use Rattle.runfile.specs.declared.Kind.{Kind}
-use Rattle.runfile.specs.declared.Kind.the-variants.{ClientPreflight, Commit, Dependencies, Draw, Equivocating, FaultyAcknowledge, FaultySign, Generations}
-use Rattle.runfile.specs.declared.Kind.the-variants.{Preflight, Propose, Release, Show, Snapshot, Unknown}
-use Rattle.reading.specs.declared.Form.{Form}
-use Rattle.reading.specs.declared.Form.the-variants.{Bare, OfClient, OfJob, OfVault, Unreadable}
-use Rattle.reading.specs.declared.Operation.{Operation}
+use Rattle.runfile.specs.Steps.{Command, commandIn, draw, kindAt, nextAt, request, unreadable}
+use Rattle.runfile.specs.declared.Kind.the-variants.{Propose, Unknown}
+use Rattle.kind_table.specs.Table.{isWide}
+use Rattle.kind_table.specs.declared.Form.{Form}
+use Rattle.kind_table.specs.declared.Form.the-variants.{Bare, OfClient, OfJob, OfVault, Unreadable}
+use Rattle.kind_table.specs.declared.Operation.{Operation}
 use Rattle.reading.specs.declared.Step.{Step}
 
 -- the vault and the job that a command names
@@ -47,46 +46,6 @@ abbrev pub historyOf : Command → ℕ
 historyOf (request q) = placeIn q
 historyOf (draw u) = 0
 historyOf unreadable = 0
-
--- what the body of a kind names
-abbrev pub formOf : Kind → Form
-formOf Propose = Bare
-formOf Preflight = OfVault
-formOf Commit = OfVault
-formOf FaultySign = OfVault
-formOf FaultyAcknowledge = OfVault
-formOf Show = OfJob
-formOf Draw = OfJob
-formOf Generations = OfJob
-formOf Snapshot = Bare
-formOf Release = OfVault
-formOf Dependencies = OfVault
-formOf ClientPreflight = OfClient
-formOf Equivocating = Bare
-formOf Unknown = Unreadable
-
--- generations ask which vaults hold the job, missing dependencies which jobs they hold, kind 13 what they signed: all vaults are looked at
-abbrev pub isWide : Kind → Bool
-isWide Propose = false
-isWide Preflight = false
-isWide Commit = false
-isWide FaultySign = false
-isWide FaultyAcknowledge = false
-isWide Show = false
-isWide Draw = false
-isWide Generations = true
-isWide Snapshot = false
-isWide Release = false
-isWide Dependencies = true
-isWide ClientPreflight = false
-isWide Equivocating = true
-isWide Unknown = false
-
-abbrev pub rowOf : ℕ → Kind → Operation
-rowOf version k = record { kind = k; size = bodySize version k; form = formOf k; wide = isWide k }
-
-unfoldable pub operationOf : ℕ → ℕ → Operation
-operationOf version b = rowOf version (kindOf b)
 
 -- nothing that can be read
 abbrev pub unread : List ℕ → ℕ → ℕ → Step

@@ -10,14 +10,14 @@ pub(crate) fn first(input: &[u8]) -> u32
     requires { ⌜ opens (now input) ≡ true ⌝ }
     ensures { λ r. ⌜ (r ≡ unreadIn (now (input .entry))) × (r < 1000000) ⌝ }
 {
-    let version = reading::word_at(input, 3);
+    let version = fields::word_at(input, 3);
     let mut pos: usize = 9;
     let mut count: u32 = 0;
     while pos < input.len() {
         count += 1;
         let step = reading::step_at(version, input, pos, count);
         let kind = step.kind;
-        if reading::is_unknown(kind) {
+        if kind_table::is_unknown(kind) {
             return count;
         }
         pos = step.end;

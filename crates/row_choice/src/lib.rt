@@ -12,14 +12,14 @@ ghost use Rattle.words.specs.Room.{rowRoom};
 fn has_shape(step: &[u8]) -> bool
     ensures { λ r. ⌜ r ≡ hasShape (now (step .entry)) ⌝ }
 {
-    if reading::byte_at(step, 4) > 4 {
+    if fields::byte_at(step, 4) > 4 {
         return false;
     }
-    if reading::byte_at(step, 1) == 0 {
-        return reading::byte_at(step, 3) == 0;
+    if fields::byte_at(step, 1) == 0 {
+        return fields::byte_at(step, 3) == 0;
     }
-    if reading::byte_at(step, 1) == 1 {
-        return reading::byte_at(step, 3) <= 4;
+    if fields::byte_at(step, 1) == 1 {
+        return fields::byte_at(step, 3) <= 4;
     }
     false
 }
@@ -37,9 +37,9 @@ fn shaped_row(version: u16, step: &[u8], buffer: &mut [u8]) -> usize
     words::put_shaped(
         buffer,
         version,
-        2 + wide(reading::byte_at(step, 1)),
-        reading::byte_at(step, 3),
-        reading::byte_at(step, 4),
+        2 + wide(fields::byte_at(step, 1)),
+        fields::byte_at(step, 3),
+        fields::byte_at(step, 4),
         printing::value_at(step, 101, 4),
     )
 }
@@ -71,7 +71,7 @@ pub fn row_of(version: u16, step: &[u8], buffer: &mut [u8]) -> usize
     requires { ⌜ rowRoom ≤ length (now buffer) ⌝ }
     ensures { λ r. ⌜ Stands (rowOf version (now (step .entry))) (now (buffer .exit)) r ⌝ }
 {
-    let kind = reading::byte_at(step, 0);
+    let kind = fields::byte_at(step, 0);
     if kind == 1 {
         return proposal_row(version, step, buffer);
     }

@@ -58,7 +58,7 @@ pub fn after_line(text: &[u8], from: usize) -> usize
 
 // Whether a line is a case. A comment is passed over; a heading and an empty line are printed as they stand.
 pub fn is_case(text: &[u8], at: usize, next: usize) -> bool {
-    let first = reading::byte_at(text, at);
+    let first = fields::byte_at(text, at);
     if first == b'#' {
         return false;
     }
@@ -90,7 +90,7 @@ pub fn prefix(row: &[u8], text: &[u8], at: usize, unsaid: u32) -> Token
     }
     Token {
         reason: 0,
-        value: reading::word_at(&bytes, 0) as u32,
+        value: fields::word_at(&bytes, 0) as u32,
         next: p.next,
     }
 }

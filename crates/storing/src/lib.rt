@@ -26,7 +26,7 @@ pub fn store(
         (now (journal .exit)) (now (numbers .exit)) (now (sets .exit)) (now (records .exit)) ⌝ }
 {
     if changes::is_book(change) {
-        let bytes = reading::record_at(version, input, at);
+        let bytes = fields::record_at(version, input, at);
         journal::put_at(version, journal, booked, bytes);
         indexing::enter(
             numbers,

@@ -23,7 +23,7 @@ fn put_said(version: u16, input: &[u8], pos: usize, out: &mut [u8], at: usize) -
 {
     let step = reading::step_at(version, input, pos, 0);
     let kind = step.kind;
-    if reading::is_unknown(kind) {
+    if kind_table::is_unknown(kind) {
         return at;
     }
     let end = words::put(out, at, b" ");
@@ -53,13 +53,13 @@ fn put_answer(
         (answerAt settings (now (journal .entry)) booked (now (input .entry)) pos outcome members) (now (out .exit)) r
         × (r ≤ at + answerLong) ⌝ }
 {
-    let kind = reading::byte_at(input, pos);
+    let kind = fields::byte_at(input, pos);
     let threshold = quorum(settings);
     if kind == 1 {
         let own = parts::from(input, pos + 1);
         return answers::put_answer(out, at, kind, outcome, members, threshold, own);
     }
-    let job = reading::byte_at(input, pos + 2) as usize;
+    let job = fields::byte_at(input, pos + 2) as usize;
     let named = journal::lookup(settings.version, journal, booked, job);
     answers::put_answer(out, at, kind, outcome, members, threshold, named)
 }

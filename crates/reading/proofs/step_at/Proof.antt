@@ -1,11 +1,12 @@
 use Rattle.codec.proofs.Sizes.{size-most}
-use Rattle.reading.proofs.Rows.{rows, size-small}
+use Rattle.kind_table.proofs.Rows.{size-small}
+use Rattle.reading.proofs.Rows.{rows}
 use Rattle.reading.proofs.step_at.Statement.{statement}
 use Rattle.reading.proofs.step_at.Tie as tie
 use borrow.Author.Needs.{needs}
 use native.Mathlib.Omega.{arith}
 
-ruleset by = (rows, needs)
+ruleset by = (rows, size-small, needs)
 
 -- no body is longer than a record
 add-end : tie.Need-add-end

@@ -1,8 +1,8 @@
 -- The part is the record's bytes.
 use native.Mathlib.Nat.{add-sub-cancel-left}
 use borrow.Author.Needs.{needs}
-use Rattle.reading.proofs.record_at.Statement.{statement}
-use Rattle.reading.proofs.record_at.Tie as tie
+use Rattle.fields.proofs.record_at.Statement.{statement}
+use Rattle.fields.proofs.record_at.Tie as tie
 
 pub record-at-spec : {M : Type 1} → statement M
 record-at-spec =

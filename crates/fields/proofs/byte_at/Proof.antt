@@ -1,5 +1,5 @@
-use Rattle.reading.proofs.byte_at.Statement.{statement}
-use Rattle.reading.proofs.byte_at.Tie as tie
+use Rattle.fields.proofs.byte_at.Statement.{statement}
+use Rattle.fields.proofs.byte_at.Tie as tie
 use borrow.Author.Needs.{needs}
 use denote.Ref.{now}
 use lib.ListN.{List·getD-eq-default}

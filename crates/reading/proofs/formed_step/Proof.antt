@@ -1,10 +1,10 @@
 -- Each arm is a form.
-use Rattle.reading.proofs.Operation.step.Statement.{statement}
-use Rattle.reading.proofs.Operation.step.Tie as tie
+use Rattle.reading.proofs.formed_step.Statement.{statement}
+use Rattle.reading.proofs.formed_step.Tie as tie
 use borrow.Author.Needs.{needs}
 
-pub step-spec : {M : Type 1} → statement M
-step-spec =
+pub formed-step-spec : {M : Type 1} → statement M
+formed-step-spec =
     tie.close
     (tie.spec (λ c. search needs) (λ c κs. search needs) (λ c. search needs) (λ c κs. search needs) (λ c κs. search needs) (λ c. search needs)
     (λ c κs. search needs) (λ c. search needs) (λ c κs. search needs) (λ c κs. search needs) (λ c. search needs) (λ c κs. search needs)

@@ -1,9 +1,9 @@
 -- Each arm is a row of the table.
 use Rattle.runfile.specs.Steps.{kindOf}
-use Rattle.reading.proofs.Rows.{unknown-row}
-use Rattle.reading.proofs.operation_of.Statement.{statement}
-use Rattle.reading.proofs.operation_of.Tie as tie
-use Rattle.reading.specs.Reading.{operationOf}
+use Rattle.kind_table.proofs.Rows.{unknown-row}
+use Rattle.kind_table.proofs.operation_of.Statement.{statement}
+use Rattle.kind_table.proofs.operation_of.Tie as tie
+use Rattle.kind_table.specs.Table.{operationOf}
 use borrow.Author.Needs.{needs}
 
 pub operation-of-spec : {M : Type 1} → statement M
