@@ -7,7 +7,8 @@ use lib.Count.{ones}
 use lib.Dec.{eqb}
 use borrow.Author.Tests.{eqb-false, eqb-true}
 use Rattle.base.proofs.Reflect.{and-true, by-test, not-true-false}
-use Rattle.job_sets.proofs.Jobs.{count-within, has-no-jobs, job-below, job-count-with, job-with-other, job-with-same, jobs-same, no-jobs-words, with-words}
+use Rattle.job_sets.proofs.Jobs.{count-within, has-no-jobs, job-below, job-count-with}
+use Rattle.job_sets.proofs.Jobs.{job-with-other, job-with-same, jobs-same, no-jobs-words, with-words}
 use Rattle.job_sets.specs.Jobs.{InWords, isEmpty, jobCount, jobHas, jobWith, jobsBelow, noJobs}
 use Rattle.job_sets.specs.declared.job_set.JobSet.{JobSet}
 
