@@ -1,18 +1,16 @@
 -- The members of a set one after another: what is written, with those that remain, is the whole.
-use mathlib.Core.Bool.{Bool, cond, false, not, true}
+use mathlib.Core.Bool.{Bool, cond, false, true}
 use mathlib.Core.List.{List, [], _++_, _∷_}
 use mathlib.Core.Path.{_∙_, _≡_, ap, refl, sym}
 use Prim.Native.Nat.{_*_, _+_, _-_, _<_, _≤_, suc, ℕ}
-use native.Mathlib.Numerals.{add-one}
 use native.Mathlib.Omega.{arith}
 use lib.ListN.{length, length-append}
 use lib.Seq.{length-sets, sets}
 use Rattle.codec.proofs.Numbers.{sets-append}
-use Rattle.explanations.specs.Answers.{joined, names, others, toSign}
+use Rattle.explanations.specs.Answers.{joined, names, others}
 use Rattle.printing.specs.Member.{member}
 use Rattle.rows.specs.Table.{letters}
-use Rattle.sets.specs.Bits.{hasBit}
-use Rattle.job_sets.specs.Jobs.{jobHas, jobWith, jobsBelow, noJobs}
+use Rattle.job_sets.specs.Jobs.{jobHas}
 use Rattle.job_sets.specs.declared.job_set.JobSet.{JobSet}
 use Rattle.digits.specs.Digits.{Put}
 use Rattle.text.specs.Text.{membersFrom}
@@ -89,27 +87,3 @@ module _ {s : JobSet} {before : List ℕ} {at i end : ℕ} {first : Bool} {out :
     moved = omega (arith, w .moved, now .moves, ap length (left true h e));
     wrote = w .wrote ∙ ap (sets out end) (sym (left true h e)) ∙ now .puts;
   }
-
--- ---- the vaults that have not signed
-abbrev pub unsigned : ℕ → ℕ → Bool
-unsigned signers v = not (hasBit signers v)
-
-module _ (signers : ℕ) where
-  pub sign-begun : (found : JobSet) → found ≡ noJobs → found ≡ jobsBelow 0 (unsigned signers)
-  unfolding jobsBelow
-  sign-begun found e = e
-
-  module _ (v : ℕ) (found : JobSet) (e : found ≡ jobsBelow v (unsigned signers)) (b : Bool) (is : b ≡ hasBit signers v) where
-    pub sign-pass : b ≡ true → found ≡ jobsBelow (v + 1) (unsigned signers)
-    unfolding jobsBelow
-    sign-pass t = rw add-one (rw (sym is ∙ t) e)
-
-    pub sign-more : (r : JobSet) → b ≡ false → r ≡ jobWith found v → r ≡ jobsBelow (v + 1) (unsigned signers)
-    unfolding jobsBelow
-    sign-more r t q = rw add-one (rw (sym is ∙ t) (q ∙ ap (λ (x : JobSet). jobWith x v) e))
-
-  pub sign-end : (n v : ℕ) (found : JobSet) → found ≡ jobsBelow v (unsigned signers) → v ≤ n → n ≤ v → found ≡ toSign n signers
-  unfolding toSign
-  sign-end n v found e a b = let q : v ≡ n = omega arith in e ∙ ap (λ (m : ℕ). jobsBelow m (unsigned signers)) q
-
-pub ruleset signs = (sign-begun, sign-pass, sign-more, sign-end)

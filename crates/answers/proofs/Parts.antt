@@ -1,24 +1,19 @@
--- The parts of an answer and of a job's line, put together.
+-- The parts of an answer put together: a refusal's row filled in, or a value after what it means.
 use mathlib.Core.List.{List, [], _∷_}
 use mathlib.Core.Path.{_∙_, _≡_, sym}
 use Prim.Native.Nat.{_*_, _+_, _≤_, ℕ}
 use native.Mathlib.Omega.{arith}
-use lib.Count.{ones}
 use lib.ListN.{drop, length, take}
 use borrow.Author.Tests.{eq-eqb, ne-eqb}
-use Rattle.explanations.proofs.Lengths.{job-brief, reason-brief}
-use Rattle.explanations.specs.Answers.{answerText, doneText, figure, jobLine, jobRow, names, refusedText, toSign}
+use Rattle.explanations.proofs.Lengths.{reason-brief}
+use Rattle.explanations.specs.Answers.{answerText, doneText, figure, names, refusedText}
 use Rattle.explanations.specs.Words.{meaning, reason, status}
-use Rattle.federation.specs.declared.Settings.{Settings}
-use Rattle.ledger.specs.Decisions.{statusOf}
 use Rattle.outcome.specs.Figures.{numberOf, valueOf}
 use Rattle.outcome.specs.declared.Outcome.{Outcome}
-use Rattle.rows.specs.Table.{letters}
 use Rattle.rows.specs.Writing.{longestBy, textBy}
 use Rattle.job_sets.specs.declared.job_set.JobSet.{JobSet}
 use Rattle.digits.proofs.Writing.{made, then}
 use Rattle.digits.specs.Digits.{Put, decimal}
-use Rattle.vaults.specs.declared.Votes.{Votes}
 
 -- ---- a row at the front of a buffer
 pub row-made : {o p f t : List ℕ} {n : ℕ} → 128 ≤ length o → n ≤ 128 → Put o 0 t p n → f ≡ take n p → f ≡ t
@@ -26,9 +21,6 @@ row-made h g w e = e ∙ made (omega arith) w
 
 pub reason-few : (f : List ℕ) (k : ℕ) → f ≡ reason k → longestBy f ≤ 128
 reason-few f k e = rw e (reason-brief k)
-
-pub job-few : (f : List ℕ) (k : ℕ) → f ≡ jobRow k → longestBy f ≤ 128
-job-few f k e = rw e (job-brief k)
 
 -- ---- a refusal
 module _ {o p : List ℕ} {at r : ℕ} (number entry threshold : ℕ) (bytes f : List ℕ) (is : f ≡ reason number) where
@@ -77,18 +69,3 @@ module _ {o p : List ℕ} {at r : ℕ} (kind threshold number value : ℕ) (outc
       → Put o at (answerText kind outcome members threshold bytes) p r
   unfolding answerText
   answer-refused n w = rw (ne-eqb (numberOf outcome) 0 (λ x. n (is ∙ x))) (rw (is, has) at w)
-
--- ---- a job's line
-pub job-row : {o p q t : List ℕ} {i j r : ℕ} (state : ℕ) → Put o 0 (letters "job # ") p i → Put p i (status state) q j
-    → Put q j (letters ": signatures #, acknowledgements #, still to sign ") t r → Put o 0 (jobRow state) t r
-job-row state a b c = then a (then b c)
-
-pub job-put : {o p q t : List ℕ} {i j r : ℕ} (s : Settings) (votes : Votes) (job state signed acknowledged : ℕ) (waiting : JobSet)
-    → state ≡ statusOf s votes → signed ≡ ones (votes .signatures) → acknowledged ≡ ones (votes .acknowledgements)
-    → waiting ≡ toSign (s .n) (votes .signatures) → Put o 0 (textBy (jobRow state) (job ∷ signed ∷ acknowledged ∷ [])) p i
-    → Put p i (names waiting) q j → Put q j (10 ∷ []) t r → Put o 0 (jobLine s votes job) t r
-unfolding jobLine
-job-put s votes job state signed acknowledged waiting a b c d x y z = then (rw (a, b, c) at x) (then (rw d at y) z)
-
-pub row-is : {o p : List ℕ} {at r : ℕ} {f t : List ℕ} (s : List ℕ) → f ≡ t → Put o at (textBy f s) p r → Put o at (textBy t s) p r
-row-is s e w = rw e at w

@@ -1,6 +1,8 @@
-// The rows of the refusals.
-ghost use Prim.Native.Nat.{_≤_};
+// Why a step is refused.
+ghost use Prim.Native.Nat.{_+_, _≤_};
 ghost use lib.ListN.{length};
+ghost use Rattle.answers.specs.Room.{answerLong, answerRoom};
+ghost use Rattle.explanations.specs.Answers.{refusedText};
 ghost use Rattle.explanations.specs.Words.{reason};
 ghost use Rattle.digits.specs.Digits.{Put};
 
@@ -59,9 +61,32 @@ const STARTS: [u16; 25] = [
     1254,
 ];
 
-pub fn put_reason(out: &mut [u8], number: u8) -> usize
+pub(crate) fn put_reason(out: &mut [u8], number: u8) -> usize
     requires { ⌜ 128 ≤ length (now out) ⌝ }
     ensures { λ r. ⌜ Put (now (out .entry)) 0 (reason number) (now (out .exit)) r × (r ≤ 128) ⌝ }
 {
     words::put(out, 0, words::row_of(&REASONS, &STARTS, number as usize))
+}
+
+// A refusal; the label of an entry stands first among the bytes of its entry.
+pub(crate) fn put_refused(
+    out: &mut [u8],
+    at: usize,
+    number: u8,
+    entry: u32,
+    threshold: u8,
+    bytes: &[u8],
+) -> usize
+    requires { ⌜ at + answerRoom ≤ length (now out) ⌝ }
+    ensures { λ r. ⌜ Put (now (out .entry)) at (refusedText number entry threshold (now (bytes .entry))) (now (out .exit)) r
+        × (r ≤ at + answerLong) ⌝ }
+{
+    let mut buffer = [0u8; 128];
+    let n = put_reason(&mut buffer, number);
+    if number == 16 {
+        let quorum = [threshold];
+        return printing::write_row(parts::front(&buffer, n), &quorum, out, at);
+    }
+    let place = 4 + 12 * entry as usize;
+    printing::write_row(parts::front(&buffer, n), parts::from(bytes, place), out, at)
 }

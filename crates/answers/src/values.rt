@@ -1,8 +1,8 @@
 // What a value means, a job's state, and sets.
-ghost use mathlib.Core.Path.{_≡_};
-ghost use Prim.Native.Nat.{_+_, _<_, _≤_};
+ghost use Prim.Native.Nat.{_+_, _≤_};
 ghost use lib.ListN.{length};
-ghost use Rattle.explanations.specs.Answers.{figure, names, toSign};
+ghost use Rattle.answers.specs.Room.{answerLong, answerRoom};
+ghost use Rattle.explanations.specs.Answers.{doneText, figure, names};
 ghost use Rattle.explanations.specs.Words.{meaning, status};
 ghost use Rattle.digits.specs.Digits.{Put};
 use job_sets::JobSet;
@@ -26,7 +26,7 @@ const MEANINGS: [u8; 138] = *b"\
 const MEANING_STARTS: [u16; 15] = [0, 0, 4, 15, 32, 43, 60, 60, 82, 94, 104, 115, 120, 131, 138];
 
 // What stands before the value of a step of a kind.
-pub(crate) fn put_meaning(out: &mut [u8], at: usize, kind: u8) -> usize
+fn put_meaning(out: &mut [u8], at: usize, kind: u8) -> usize
     requires { ⌜ at + 32 ≤ length (now out) ⌝ }
     ensures { λ r. ⌜ Put (now (out .entry)) at (meaning kind) (now (out .exit)) r × (r ≤ at + 32) ⌝ }
 {
@@ -46,7 +46,7 @@ const STATES: [u8; 21] = *b"\
 const STATE_STARTS: [u16; 4] = [0, 4, 13, 21];
 
 // The state of a job.
-pub(crate) fn put_status(out: &mut [u8], at: usize, value: u32) -> usize
+pub fn put_status(out: &mut [u8], at: usize, value: u32) -> usize
     requires { ⌜ at + 9 ≤ length (now out) ⌝ }
     ensures { λ r. ⌜ Put (now (out .entry)) at (status value) (now (out .exit)) r × (r ≤ at + 9) ⌝ }
 {
@@ -58,7 +58,7 @@ pub(crate) fn put_status(out: &mut [u8], at: usize, value: u32) -> usize
 }
 
 // The members of a set with commas between, or `none`.
-pub(crate) fn put_names(out: &mut [u8], at: usize, set: JobSet) -> usize
+pub fn put_names(out: &mut [u8], at: usize, set: JobSet) -> usize
     requires { ⌜ at + 1412 ≤ length (now out) ⌝ }
     ensures { λ r. ⌜ Put (now (out .entry)) at (names set) (now (out .exit)) r × (r ≤ at + 1412) ⌝ }
 {
@@ -80,25 +80,8 @@ pub(crate) fn put_names(out: &mut [u8], at: usize, set: JobSet) -> usize
     end
 }
 
-// The vaults below n that are not among the signers.
-pub(crate) fn to_sign(n: u8, signers: u16) -> JobSet
-    ensures { λ r. ⌜ r ≡ toSign n signers ⌝ }
-{
-    let mut found = JobSet::empty();
-    let mut v: u8 = 0;
-    while v < n {
-        if sets::vaults::has(signers, v) {
-            v += 1;
-            continue;
-        }
-        found = found.with(v as usize);
-        v += 1;
-    }
-    found
-}
-
 // The value of a step that was carried out.
-pub(crate) fn put_figure(out: &mut [u8], at: usize, kind: u8, value: u32, members: JobSet) -> usize
+fn put_figure(out: &mut [u8], at: usize, kind: u8, value: u32, members: JobSet) -> usize
     requires { ⌜ at + 1412 ≤ length (now out) ⌝ }
     ensures { λ r. ⌜ Put (now (out .entry)) at (figure kind value members) (now (out .exit)) r × (r ≤ at + 1412) ⌝ }
 {
@@ -112,4 +95,13 @@ pub(crate) fn put_figure(out: &mut [u8], at: usize, kind: u8, value: u32, member
         return put_names(out, at, members);
     }
     digits::write_number(out, at, value)
+}
+
+// What a step that was carried out answers: the value, after what it means.
+pub(crate) fn put_done(out: &mut [u8], at: usize, kind: u8, value: u32, members: JobSet) -> usize
+    requires { ⌜ at + answerRoom ≤ length (now out) ⌝ }
+    ensures { λ r. ⌜ Put (now (out .entry)) at (doneText kind value members) (now (out .exit)) r × (r ≤ at + answerLong) ⌝ }
+{
+    let end = put_meaning(out, at, kind);
+    put_figure(out, end, kind, value, members)
 }

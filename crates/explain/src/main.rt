@@ -16,7 +16,7 @@ fn print_sheet(ledger: Ledger, out: &mut [u8])
 {
     let mut job = 0;
     while job < ledger.booked {
-        let n = explaining::job_line(ledger, job, out);
+        let n = sheet::job_line(ledger, job, out);
         print(out, n);
         job += 1;
     }
@@ -52,7 +52,7 @@ fn carry_out(input: &[u8]) {
 
 fn turn_back() {
     let mut out = [0u8; telling::PIECE];
-    let n = explaining::refuse(&mut out);
+    let n = answers::refuse(&mut out);
     print(&out, n);
 }
 

@@ -4,13 +4,10 @@ use mathlib.Core.Path.{_∙_, _≡_, ap, sym}
 use Prim.Native.Nat.{_+_, _<_, _≤_, ℕ}
 use native.Mathlib.Omega.{arith}
 use lib.ListN.{length}
-use Rattle.explanations.proofs.Pieces.{job-left, step-left}
-use Rattle.explanations.specs.Answers.{jobLine}
+use Rattle.explanations.proofs.Pieces.{step-left}
 use Rattle.explanations.specs.Explained.{explainedFrom, nextText, stepText}
 use Rattle.index.proofs.Tables.{indexed-tables}
 use Rattle.index.specs.Sets.{Tables}
-use Rattle.journal.specs.Journal.{capacity}
-use Rattle.ledger.specs.State.{votesAt}
 use Rattle.ledger.specs.declared.Ledger.{Ledger}
 use Rattle.outcome.specs.declared.Outcome.{Outcome}
 use Rattle.progress.specs.Kept.{Kept}
@@ -23,10 +20,9 @@ use Rattle.runfile.specs.Steps.{listedBy, replyOf}
 use Rattle.job_sets.specs.declared.job_set.JobSet.{JobSet}
 use Rattle.naming.specs.declared.Remembered.{Remembered}
 use Rattle.telling.specs.Room.{stepLong, stepRoom}
-use Rattle.answers.specs.Room.{answerLong}
 use Rattle.digits.specs.Digits.{Put}
 use Rattle.text.specs.Text.{longestText}
-use Rattle.explaining.specs.Told.{Listed, Told, atFront, saidBy}
+use Rattle.explaining.specs.Told.{Told, atFront, saidBy}
 
 -- ---- to carry out a step, its text goes into a buffer of its own
 pub going-front : {input journal numbers sets records memo : List ℕ} {p : Progress} (w : ℕ) → Going input p journal numbers sets records memo
@@ -103,12 +99,3 @@ module _ (input journal numbers₀ sets₀ records₀ memo₀ line line′ journ
         right = once .right;
         onward = counted;
       })
-
--- ---- a job's line
-pub listed-here : {before after : List ℕ} {r : ℕ} (l : Ledger) (job : ℕ) → stepRoom ≤ length before
-    → Put before 0 (jobLine (l .settings) (votesAt l job) job) after r → r ≤ answerLong → Listed l job before after r
-listed-here l job room w few booked below =
-    record { part = jobLine (l .settings) (votesAt l job) job; cut = job-left l job booked; put = w; fits = omega (arith, few, room) }
-
-pub listed-past : {before after : List ℕ} {r : ℕ} (l : Ledger) (job : ℕ) → capacity ≤ job → Listed l job before after r
-listed-past l job h booked below = absurd (omega (arith, h, below))

@@ -1,10 +1,8 @@
 -- A run is explained step by step: after each its explanation stands at the front of a buffer, and the rest is still to be said.
 use mathlib.Core.List.{List}
 use mathlib.Core.Path.{_≡_}
-use Prim.Native.Nat.{_+_, _<_, ℕ}
-use Rattle.explanations.specs.Explained.{Says, explainedFrom, sheetFrom}
-use Rattle.journal.specs.Journal.{capacity}
-use Rattle.ledger.specs.declared.Ledger.{Ledger}
+use Prim.Native.Nat.{_+_, ℕ}
+use Rattle.explanations.specs.Explained.{Says, explainedFrom}
 use Rattle.progress.specs.Pieces.{Going, runOf}
 use Rattle.progress.specs.Turns.{Holds}
 use Rattle.progress.specs.declared.Progress.{Progress}
@@ -24,7 +22,3 @@ pub record Told (input : List ℕ) (p : Progress) (journal before : List ℕ) (q
   pub going : Going input (q .progress) journal′ numbers′ sets′ records′ memo′
   pub right : Holds (q .progress .ledger) journal′ (q .named)
   pub onward : q .progress .count ≡ p .count + 1
-
--- the line of a job, where it is booked
-abbrev pub Listed : Ledger → ℕ → List ℕ → List ℕ → ℕ → Type 0
-Listed l job before after written = job < l .booked → job < capacity → Says (sheetFrom l job) before after written (sheetFrom l (job + 1))

@@ -1,27 +1,14 @@
-// A run explained in pieces: a step at a time, then a line for each booked job.
-ghost use mathlib.Core.List.{_++_, _∷_, []};
+// A run explained in pieces, a step at a time.
 ghost use mathlib.Core.Path.{_≡_};
 ghost use Prim.Native.Nat.{_<_, _≤_};
 ghost use lib.ListN.{length};
-ghost use Rattle.explaining.specs.Told.{Listed, Told, atFront, saidBy};
-ghost use Rattle.explanations.specs.Words.{reason};
+ghost use Rattle.explaining.specs.Told.{Told, atFront, saidBy};
 ghost use Rattle.progress.specs.Pieces.{Going};
 ghost use Rattle.progress.specs.Turns.{Holds};
 ghost use Rattle.telling.specs.Room.{stepRoom};
-ghost use Rattle.digits.specs.Digits.{Put};
-use ledger::Ledger;
 use naming::Remembered;
 use progress::Progress;
 use progress::Turned;
-
-// What is said of a file that check 1 turns back, at the front of `out`.
-pub fn refuse(out: &mut [u8]) -> usize
-    requires { ⌜ stepRoom ≤ length (now out) ⌝ }
-    ensures { λ r. ⌜ Put (now (out .entry)) 0 (reason 1 ++ (10 ∷ [])) (now (out .exit)) r × (r ≤ 129) ⌝ }
-{
-    let end = answers::put_reason(out, 1);
-    words::put(out, end, b"\n")
-}
 
 fn at_front(p: Progress, written: usize) -> Progress
     ensures { λ r. ⌜ r ≡ atFront p written ⌝ }
@@ -103,16 +90,4 @@ pub fn next(
         out,
     );
     said_by(t, written)
-}
-
-// The line of a booked job, at the front of `out`.
-pub fn job_line(ledger: Ledger, job: usize, out: &mut [u8]) -> usize
-    requires { ⌜ stepRoom ≤ length (now out) ⌝ }
-    ensures { λ r. ⌜ Listed ledger job (now (out .entry)) (now (out .exit)) r ⌝ }
-{
-    if job < 128 {
-        let votes = ledger.votes[job];
-        return answers::put_job(out, ledger.settings, votes, job as u8);
-    }
-    0
 }

@@ -66,7 +66,7 @@ pub fn carry_on(
         }
         ledger = changes::apply(ledger, change, s.vault, s.job);
         let votes = ledger.votes[(s.job % 128) as usize];
-        named = naming::still(named, view, ledger.booked, votes);
+        named = naming::still(named, view.booked, view.votes, ledger.booked, votes);
     }
     progress::handed(ledger, c, named)
 }

@@ -57,7 +57,7 @@ fn put_record(out: &mut [u8], at: usize, first: u32, job: u8) -> usize
     ensures { λ r. ⌜ Put (now (out .entry)) at (bytesOf 1 (jobFor first job)) (now (out .exit)) r × (r ≡ at + 100) ⌝ }
 {
     let end = at + 100;
-    records::write(1, load_contents::job(first, job), &mut out[at..end]);
+    records::write(1, load_records::job(first, job), &mut out[at..end]);
     end
 }
 

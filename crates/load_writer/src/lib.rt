@@ -8,7 +8,7 @@ ghost use Rattle.load.specs.Plans.{Fair};
 ghost use Rattle.digits.specs.Digits.{Put};
 use federation::Settings;
 use load::Plan;
-use load_contents::wide;
+use load_records::wide;
 use outcome::Outcome;
 use outcome::Refusal;
 
@@ -68,7 +68,7 @@ fn put_steps(out: &mut [u8], plan: Plan, state: u64) -> usize
             out,
             at,
             plan.first,
-            load_contents::nth(plan, i as u32, generator::draw(now)),
+            load_plans::nth(plan, i as u32, generator::draw(now)),
         );
     }
     at
@@ -81,14 +81,14 @@ fn put_load(out: &mut [u8], seed: u64, n: u8, b: u8) -> usize
     let one = generator::advance(seed);
     let two = generator::advance(one);
     let three = generator::advance(two);
-    let plan = load_contents::choose(
+    let plan = load_plans::choose(
         n,
         b,
         generator::draw(one),
         generator::draw(two),
         generator::draw(three),
     );
-    load_steps::put_header(out, n, b, load_contents::faulty(plan));
+    load_steps::put_header(out, n, b, load_plans::faulty(plan));
     put_steps(out, plan, three)
 }
 

@@ -4,7 +4,6 @@ ghost use Rattle.index.specs.Index.{IndexedEntries};
 ghost use Rattle.naming.specs.Kept.{Found, Right, Still, isNaming, unknownYet};
 use federation::Settings;
 use job_sets::JobSet;
-use kinds::View;
 use runfile::Kind;
 use vaults::Votes;
 
@@ -73,12 +72,17 @@ pub fn named(
 }
 
 // After a change: they stay known where no record was booked and the signatures on the job that the step looked at are those before.
-pub fn still(kept: Remembered, view: View, booked: usize, votes: Votes) -> Remembered
-    ensures { λ r. ⌜ Still kept (view .booked) (view .votes .signatures) booked (votes .signatures) r ⌝ }
+pub fn still(
+    kept: Remembered,
+    before: usize,
+    earlier: Votes,
+    booked: usize,
+    votes: Votes,
+) -> Remembered
+    ensures { λ r. ⌜ Still kept before (earlier .signatures) booked (votes .signatures) r ⌝ }
 {
-    let before = view.votes;
-    if view.booked == booked {
-        if before.signatures == votes.signatures {
+    if before == booked {
+        if earlier.signatures == votes.signatures {
             return kept;
         }
     }
