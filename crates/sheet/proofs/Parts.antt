@@ -1,10 +1,11 @@
 -- The parts of a job's line put together, and the line as the next of the sheet.
 use mathlib.Core.List.{List, [], _∷_}
-use mathlib.Core.Path.{_≡_}
-use Prim.Native.Nat.{_≤_, ℕ}
+use mathlib.Core.Path.{_≡_, refl}
+use Prim.Native.Nat.{_<_, _≤_, ℕ}
 use native.Mathlib.Omega.{arith}
 use lib.Count.{ones}
 use lib.ListN.{length}
+use borrow.Author.Tests.{le-ltb, lt-ltb}
 use Rattle.answers.specs.Room.{answerLong, answerRoom}
 use Rattle.explanations.proofs.Lengths.{job-brief}
 use Rattle.explanations.proofs.Pieces.{job-left}
@@ -21,7 +22,7 @@ use Rattle.job_sets.specs.declared.job_set.JobSet.{JobSet}
 use Rattle.digits.proofs.Writing.{then}
 use Rattle.digits.specs.Digits.{Put}
 use Rattle.vaults.specs.declared.Votes.{Votes}
-use Rattle.sheet.specs.Listed.{Listed}
+use Rattle.sheet.specs.Listed.{Listed, lineOf}
 
 pub job-few : (f : List ℕ) (k : ℕ) → f ≡ jobRow k → longestBy f ≤ 128
 job-few f k e = rw e (job-brief k)
@@ -41,10 +42,19 @@ pub row-is : {o p : List ℕ} {at r : ℕ} {f t : List ℕ} (s : List ℕ) → f
 row-is s e w = rw e at w
 
 -- ---- of a ledger's job
-pub listed-here : {before after : List ℕ} {r : ℕ} (l : Ledger) (job : ℕ) → answerRoom ≤ length before
-    → Put before 0 (jobLine (l .settings) (votesAt l job) job) after r → r ≤ answerLong → Listed l job before after r
-listed-here l job room w few booked below =
-    record { part = jobLine (l .settings) (votesAt l job) job; cut = job-left l job booked; put = w; fits = omega (arith, few, room) }
+module _ {before after : List ℕ} {r : ℕ} (l : Ledger) (job : ℕ) where
+  pub listed-here : job < capacity → answerRoom ≤ length before → Put before 0 (jobLine (l .settings) (votesAt l job) job) after r → r ≤ answerLong
+      → Listed l job before after r
+  unfolding lineOf
+  listed-here h room w few = record {
+    put = rw (lt-ltb job capacity h) w;
+    next = λ booked below.
+        record { part = jobLine (l .settings) (votesAt l job) job; cut = job-left l job booked; put = w; fits = omega (arith, few, room) };
+  }
 
-pub listed-past : {before after : List ℕ} {r : ℕ} (l : Ledger) (job : ℕ) → capacity ≤ job → Listed l job before after r
-listed-past l job h booked below = absurd (omega (arith, h, below))
+pub listed-past : {out : List ℕ} (l : Ledger) (job : ℕ) → capacity ≤ job → Listed l job out out 0
+unfolding lineOf
+listed-past l job h = record {
+  put = rw (le-ltb job capacity h) (record { moved = refl; wrote = refl });
+  next = λ booked below. absurd (omega (arith, h, below));
+}

@@ -86,7 +86,7 @@ fn put_job(out: &mut [u8], settings: Settings, votes: Votes, job: u8) -> usize
     words::put(out, b, b"\n")
 }
 
-// The line of a booked job, at the front of `out`.
+// The line of a job, at the front of `out`; nothing of a job that can't be.
 pub fn job_line(ledger: Ledger, job: usize, out: &mut [u8]) -> usize
     requires { ⌜ answerRoom ≤ length (now out) ⌝ }
     ensures { λ r. ⌜ Listed ledger job (now (out .entry)) (now (out .exit)) r ⌝ }
