@@ -66,7 +66,7 @@ use Rattle.ledger.proofs.Quota.{quota}
 use Rattle.ledger.proofs.Unchanged.{unchanged}
 use Rattle.ledger.proofs.Views.{arrives}
 use Rattle.ledger.specs.Decisions.{admissionAt, ageing, answering, certificate, clientPreflighting, committing, consent, consenting, countedConsent, counting, gated, gatedListing, historyWith, ifAdmitted, listing, preflighting, receiving, receivingAll, refusing, releasing, requiring, snapshotting, supersession, supplying, voting, withinQuota}
-use Rattle.ledger.specs.Demand1.{Admitted, Answered, AtSound, BookFull, Certified, CutShort, Demand1, EqualAt, Finished, First, FirstAt, GenerationsOf, Inside, MalformedRecord, NamedVaults, NoRivalHeld, NotBelow, RefusedUnchanged, Row, SetWorks, SignedHere, SmallestSize, Unbooked, Unsigned, Value, Where, order}
+use Rattle.ledger.specs.Demand1.{Admitted, Gives, AtSound, BookFull, CertifiedNow, CutShort, Demand1, EqualAt, FinishedNow, First, FirstAmong, GenerationsOf, Inside, MalformedRecord, NamedVaults, NoRivalHeld, NotBelow, RefusedUnchanged, CheckRow, SetWorks, SignedHere, SmallestSize, Unbooked, Unsigned, Value, Where, order}
 use Rattle.ledger.specs.Demand2.{InPlace, accepts}
 use Rattle.ledger.specs.Demand3.{ByCreators, Held, ageAt, bookedJob}
 use Rattle.ledger.specs.Holders.{heldSomewhere, isHeld}
@@ -186,10 +186,10 @@ module _ {w : World} {r : Register} (i : Inv w r) (e : Event) where
   jobs h = jobs-read (versionOf l) (l .booked) (e .size) (w .booked) (e .beyond) (i .shape .records) h
 
   -- ---- 3, 5, 4
-  abbrev Gate : ℕ → Bool → ℕ → Row → Row
+  abbrev Gate : ℕ → Bool → ℕ → CheckRow → CheckRow
   Gate v wrong k rest = First (NotBelow w e v) 3 (First (hasBit (l .settings .faulty) v ≡ wrong) 5 (First (Unbooked w e k) 4 rest))
 
-  gate-row : (v k : ℕ) (right : Bool) (rest : Row) (d : Decision)
+  gate-row : (v k : ℕ) (right : Bool) (rest : CheckRow) (d : Decision)
       → (Entered l journal v k right → rest (numberOf (d .outcome)) (valueOf (d .outcome)))
       → Gate v (not right) k rest (numberOf (gated (vaultGate l journal v k right) d .outcome)) (valueOf (gated (vaultGate l journal v k right) d .outcome))
   unfolding vaultGate gateOf
@@ -241,7 +241,7 @@ module _ {w : World} {r : Register} (i : Inv w r) (e : Event) where
       (admission-answers (jobAt (versionOf l) journal (l .booked)) (l .booked) (vaultAt l v .held) (jobWithout (vaultAt l v .signed) k)
       (jobAt (versionOf l) journal (l .booked) k))
 
-  admitted-row : (v k value : ℕ) (rest : Row) (d : Verdict) → AdmissionAt v k (bookedJob w) d → (d ≡ Pass → rest 0 value)
+  admitted-row : (v k value : ℕ) (rest : CheckRow) (d : Verdict) → AdmissionAt v k (bookedJob w) d → (d ≡ Pass → rest 0 value)
       → Admitted w e v k rest (numberOr 0 d) (valueOr value d)
   admitted-row v k value rest d (admitted a b c f) next = inr (a, inr (b, inr (c, inr (f, next refl))))
   admitted-row v k value rest d (missing x m) next = inl (refl, m)
@@ -313,7 +313,7 @@ module _ {w : World} {r : Register} (i : Inv w r) (e : Event) where
           absurd (clash (reflect-subset signers signers (signersOf l k) (below-power signers) .complete (λ u h b. not-false-true (hasBit (signersOf l k) u)
           (λ m. refuted lacking p (record { which = u; below = h; has = (b, m) })))) f)
 
-  certified-row : (k signers : ℕ) (d : Decision) (rest : Row) → (certificate (l .settings) (signersOf l k) signers ≡ Pass
+  certified-row : (k signers : ℕ) (d : Decision) (rest : CheckRow) → (certificate (l .settings) (signersOf l k) signers ≡ Pass
       → rest (numberOf (d .outcome)) (valueOf (d .outcome)))
       → First (Unsigned signers (signersOf l k)) 15 (First (ones signers < l .settings .n - l .settings .b) 16 rest)
       (numberOf (gated (certificate (l .settings) (signersOf l k) signers) d .outcome))
@@ -365,7 +365,7 @@ module _ {w : World} {r : Register} (i : Inv w r) (e : Event) where
       by h false q = (refl, ap ones (sym (acknowledgement-joins v k (holding (vaultAt l v) k) (in-votes h))) ∙ q)
 
   -- ---- 4 of a step that names no vault
-  booked-row : (k : ℕ) (rest : Row) (d : Decision)
+  booked-row : (k : ℕ) (rest : CheckRow) (d : Decision)
       → (Booked (versionOf l) journal (l .booked) k → rest (numberOf (d .outcome)) (valueOf (d .outcome)))
       → First (Unbooked w e k) 4 rest (numberOf (gated (bookedGate l journal k) d .outcome)) (valueOf (gated (bookedGate l journal k) d .outcome))
   unfolding bookedGate
@@ -381,8 +381,8 @@ module _ {w : World} {r : Register} (i : Inv w r) (e : Event) where
       by true r = inr (not-unbooked k (booked? k .sound r), next (booked? k .sound r))
 
   -- ---- kind 6
-  abbrev Status? : ℕ → Row
-  Status? k = Where (Finished w e k) (Value 2) (Where (Certified w e k) (Value 1) (Value 0))
+  abbrev Status? : ℕ → CheckRow
+  Status? k = Where (FinishedNow w e k) (Value 2) (Where (CertifiedNow w e k) (Value 1) (Value 0))
 
   status-row : (k value : ℕ) → Status (l .settings) (votesAt l k) value → Status? k 0 value
   unfolding thresholdOf votesIn
@@ -396,15 +396,15 @@ module _ {w : World} {r : Register} (i : Inv w r) (e : Event) where
 
   -- ---- kind 8
   generations-row : ((m : ℕ) → Held l m → ByCreators (bookedJob w) (arrived l) (ageAt w) m) → (k : ℕ)
-      → First (Unbooked w e k) 4 (First (Held l k → ⊥) 18 (Answered (GenerationsOf w e k)))
+      → First (Unbooked w e k) 4 (First (Held l k → ⊥) 18 (Gives (GenerationsOf w e k)))
       (numberOf (generationsDecision l journal k .outcome)) (valueOf (generationsDecision l journal k .outcome))
   unfolding generationsDecision ageing
   generations-row created k =
-      booked-row k (First (Held l k → ⊥) 18 (Answered (GenerationsOf w e k))) _ (λ b. by b (isHeld (l .settings) (l .vaults) k) refl)
+      booked-row k (First (Held l k → ⊥) 18 (Gives (GenerationsOf w e k))) _ (λ b. by b (isHeld (l .settings) (l .vaults) k) refl)
     where
       by : Booked (versionOf l) journal (l .booked) k → (b : Bool) → isHeld (l .settings) (l .vaults) k ≡ b
           → let decision : Decision = cond b (answering (ageIn (jobAt (versionOf l) journal (l .booked)) (l .order) (l .arrivals) k)) (refusing NotHeld) in
-          First (Held l k → ⊥) 18 (Answered (GenerationsOf w e k)) (numberOf (decision .outcome)) (valueOf (decision .outcome))
+          First (Held l k → ⊥) 18 (Gives (GenerationsOf w e k)) (numberOf (decision .outcome)) (valueOf (decision .outcome))
       by b true h =
           inr (
             λ n. n (reflect-held l k .sound h),
@@ -426,7 +426,7 @@ module _ {w : World} {r : Register} (i : Inv w r) (e : Event) where
       by false p q = absurd (true≢false (sym p))
 
   -- ---- kind 10
-  abbrev Released : ℕ → ℕ → ℕ → ℕ → Row
+  abbrev Released : ℕ → ℕ → ℕ → ℕ → CheckRow
   Released v k rival total =
       First (Unbooked w e rival) 4 (First (SignedHere w e v k → ⊥) 19 (First (NoRivalHeld w e v k rival) 20 (Value total)))
 
@@ -470,12 +470,12 @@ module _ {w : World} {r : Register} (i : Inv w r) (e : Event) where
       by h d (superseded b s p) q = inr (not-unbooked rival b, inr (λ f. f s, inr (some-rival v k rival b p, (refl, q))))
 
   -- ---- kind 13
-  equivocating-row : First (CutShort w e) 4 (Answered (NamedVaults w e))
+  equivocating-row : First (CutShort w e) 4 (Gives (NamedVaults w e))
       (numberOf (equivocatorsDecision l journal .outcome)) (valueOf (equivocatorsDecision l journal .outcome))
   unfolding equivocatorsDecision
   equivocating-row = by (equivocatorsOf l journal) (answers l journal)
     where
-      by : (a : Listing) → Answers l journal a → First (CutShort w e) 4 (Answered (NamedVaults w e)) (numberOf (a .outcome)) (valueOf (a .outcome))
+      by : (a : Listing) → Answers l journal a → First (CutShort w e) 4 (Gives (NamedVaults w e)) (numberOf (a .outcome)) (valueOf (a .outcome))
       by a (insaneListing n) = absurd (n (shape-sane (i .shape)))
       by a (short s n) = inl (cut-short n, (refl, refl))
       by a (listed vaults s h fits each) =
@@ -494,14 +494,14 @@ module _ {w : World} {r : Register} (i : Inv w r) (e : Event) where
           )
 
   -- ---- kind 1: 6 to 9
-  abbrev Checked : List ℕ → Row → Row
+  abbrev Checked : List ℕ → CheckRow → CheckRow
   Checked bytes rest =
       First (MalformedRecord w e bytes) 6
-      (FirstAt 8 (RepeatedAt (jobOf bytes)) 7
-      (FirstAt 8 (UnsupportedAt takes (jobOf bytes)) 8
+      (FirstAmong 8 (RepeatedAt (jobOf bytes)) 7
+      (FirstAmong 8 (UnsupportedAt takes (jobOf bytes)) 8
       (First (Balanced (jobOf bytes) → ⊥) 9 rest)))
 
-  checked-row : (bytes : List ℕ) (rest : Row) (number value : ℕ) → (examined (versionOf l) bytes ≡ Pass → rest number value)
+  checked-row : (bytes : List ℕ) (rest : CheckRow) (number value : ℕ) → (examined (versionOf l) bytes ≡ Pass → rest number value)
       → Checked bytes rest (numberOr number (examined (versionOf l) bytes)) (valueOr value (examined (versionOf l) bytes))
   unfolding examined
   checked-row bytes rest number value next =
@@ -531,8 +531,8 @@ module _ {w : World} {r : Register} (i : Inv w r) (e : Event) where
   no-equal : (bytes : List ℕ) → Unknown l journal bytes → Every (l .booked) (λ k. EqualAt w e bytes k → ⊥)
   no-equal bytes u k h p = u k (below-inside k h (p .0)) (p .1)
 
-  abbrev Placed : List ℕ → Row
-  Placed bytes = FirstAt (l .booked) (EqualAt w e bytes) 0 (First (BookFull w e) 10 (Value (l .booked)))
+  abbrev Placed : List ℕ → CheckRow
+  Placed bytes = FirstAmong (l .booked) (EqualAt w e bytes) 0 (First (BookFull w e) 10 (Value (l .booked)))
 
   propose-row : (bytes : List ℕ) → Checked bytes (Placed bytes) (numberOf (proposeDecision l journal bytes .outcome)) (valueOf (proposeDecision l journal bytes .outcome))
   propose-row bytes = by (proposeDecision l journal bytes) (proposed l journal bytes)
@@ -581,13 +581,13 @@ module _ {w : World} {r : Register} (i : Inv w r) (e : Event) where
   abbrev NoSet : ℕ → ℕ → Type 0
   NoSet v k = (s : JobSet) → SetWorks w e v k s → ⊥
 
-  dependencies-row : (v k : ℕ) → AtSound w e v k (First (NoSet v k) 21 (Answered (SmallestSize w e v k)))
+  dependencies-row : (v k : ℕ) → AtSound w e v k (First (NoSet v k) 21 (Gives (SmallestSize w e v k)))
       (numberOf (dependenciesDecision l journal v k .outcome)) (valueOf (dependenciesDecision l journal v k .outcome))
   unfolding dependenciesDecision dependenciesOf requiring supplying
   dependencies-row v k =
-      subst (λ (o : Outcome). AtSound w e v k (First (NoSet v k) 21 (Answered (SmallestSize w e v k))) (numberOf o) (valueOf o))
+      subst (λ (o : Outcome). AtSound w e v k (First (NoSet v k) 21 (Gives (SmallestSize w e v k))) (numberOf o) (valueOf o))
       (gate-listing (vaultGate l journal v k false))
-      (gate-row v k false (First (NoSet v k) 21 (Answered (SmallestSize w e v k))) (record { outcome = found .outcome; change = Nothing })
+      (gate-row v k false (First (NoSet v k) 21 (Gives (SmallestSize w e v k))) (record { outcome = found .outcome; change = Nothing })
       (λ h. by (jobHas (vaultAt l v .signed) k) (admissionAt (receivingAll (vaultAt l v) suppliers) (versionOf l) journal (l .booked) k) suppliers (subst (Smallest w (e .size) (e .beyond) v k) (ap (λ (g : Verdict). gatedListing g found)
       (enters l journal v k false h)) (smallest i (e .size) (e .beyond) v k (in-place h)))))
     where
@@ -603,7 +603,7 @@ module _ {w : World} {r : Register} (i : Inv w r) (e : Event) where
       gate-listing Pass = refl
       gate-listing (Fail why) = refl
 
-      sized : (s : JobSet) → Smallest w (e .size) (e .beyond) v k (listing s) → First (NoSet v k) 21 (Answered (SmallestSize w e v k)) 0 (jobCount s)
+      sized : (s : JobSet) → Smallest w (e .size) (e .beyond) v k (listing s) → First (NoSet v k) 21 (Gives (SmallestSize w e v k)) 0 (jobCount s)
       sized s t =
           let some : NoSet v k → ⊥ = λ n. differ (t .none .1 n) in
           inr (
@@ -621,7 +621,7 @@ module _ {w : World} {r : Register} (i : Inv w r) (e : Event) where
           )
 
       by : (b : Bool) (d : Verdict) (s : JobSet) → let a : Listing = cond b (listing noJobs) (ifAdmitted d s) in Smallest w (e .size) (e .beyond) v k a
-          → First (NoSet v k) 21 (Answered (SmallestSize w e v k)) (numberOf (a .outcome)) (valueOf (a .outcome))
+          → First (NoSet v k) 21 (Gives (SmallestSize w e v k)) (numberOf (a .outcome)) (valueOf (a .outcome))
       by true d s t = sized noJobs t
       by false Pass s t = sized s t
       by false (Fail why) s t = inl (t .none .0 refl, (refl, refl))
@@ -661,7 +661,7 @@ module _ {w : World} {r : Register} (i : Inv w r) (e : Event) where
   unfolding counted votesIn
   unasked v k h = refl
 
-  abbrev Asked : (ℕ → ℕ → List Ask) → ℕ → ℕ → ℕ → ℕ → Row
+  abbrev Asked : (ℕ → ℕ → List Ask) → ℕ → ℕ → ℕ → ℕ → CheckRow
   Asked past v k client total =
       First (7 < client) 22
       (Where (SignedHere w e v k) (Value total) (First (4 ≤ news (take 15 (past v client))) 23 (Admitted w e v k (Value total))))

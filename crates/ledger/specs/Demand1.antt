@@ -41,28 +41,28 @@ use Rattle.ledger.specs.declared.Ledger.{Ledger}
 -- ---- rows
 
 -- a claim about the two figures of an answer: "0 or the refusal, a value"
-abbrev pub Row : Type 1
-Row = ℕ → ℕ → Type 0
+abbrev pub CheckRow : Type 1
+CheckRow = ℕ → ℕ → Type 0
 
 -- where the claim holds this row answers, else the other
-abbrev pub Where : Type 0 → Row → Row → Row
+abbrev pub Where : Type 0 → CheckRow → CheckRow → CheckRow
 Where Claim this rest number value = (Claim × this number value) ⊎ ((Claim → ⊥) × rest number value)
 
 -- a check: where the claim holds, this refusal and 0
-abbrev pub First : Type 0 → ℕ → Row → Row
+abbrev pub First : Type 0 → ℕ → CheckRow → CheckRow
 First Claim refusal rest = Where Claim (λ number value. (number ≡ refusal) × (value ≡ 0)) rest
 
 -- a check that is tried at each of so many: where the claim holds of one, this number and the first of which it holds. "Each check is tried on all its entries
 -- before the next check." "The entry is the first offending one."
-abbrev pub FirstAt : ℕ → (ℕ → Type 0) → ℕ → Row → Row
-FirstAt many Claim this rest number value = ((number ≡ this) × Least many Claim value) ⊎ (Every many (λ i. Claim i → ⊥) × rest number value)
+abbrev pub FirstAmong : ℕ → (ℕ → Type 0) → ℕ → CheckRow → CheckRow
+FirstAmong many Claim this rest number value = ((number ≡ this) × Least many Claim value) ⊎ (Every many (λ i. Claim i → ⊥) × rest number value)
 
 -- no check is left: 0, and a value of which this is so
-abbrev pub Answered : (ℕ → Type 0) → Row
-Answered Claim number value = (number ≡ 0) × Claim value
+abbrev pub Gives : (ℕ → Type 0) → CheckRow
+Gives Claim number value = (number ≡ 0) × Claim value
 
-abbrev pub Value : ℕ → Row
-Value v = Answered (λ value. value ≡ v)
+abbrev pub Value : ℕ → CheckRow
+Value v = Gives (λ value. value ≡ v)
 
 -- ---- what the claims speak of: the ledger before a step, the ledger after it, and the journal that is lent for it
 
@@ -149,11 +149,11 @@ module _ (w : World) (e : Event) where
   abbrev pub quorum : ℕ
   quorum = now .settings .n - now .settings .b
 
-  abbrev pub Certified : ℕ → Type 0
-  Certified k = AtLeast quorum (signersOf now k)
+  abbrev pub CertifiedNow : ℕ → Type 0
+  CertifiedNow k = AtLeast quorum (signersOf now k)
 
-  abbrev pub Finished : ℕ → Type 0
-  Finished k = AtLeast quorum (acknowledgersOf now k)
+  abbrev pub FinishedNow : ℕ → Type 0
+  FinishedNow k = AtLeast quorum (acknowledgersOf now k)
 
   -- 20: "the other is no rival or isn't held there"
   abbrev pub NoRivalHeld : ℕ → ℕ → ℕ → Type 0
@@ -194,30 +194,30 @@ module _ (w : World) (e : Event) where
   -- ---- checks that kinds share
 
   -- "3, 5, 4" of a step for correct vaults: 5 "at a faulty vault"
-  abbrev pub AtSound : ℕ → ℕ → Row → Row
+  abbrev pub AtSound : ℕ → ℕ → CheckRow → CheckRow
   AtSound v k rest = First (NotBelow v) 3 (First (Faulty v) 5 (First (Unbooked k) 4 rest))
 
   -- "3, 5, 4" of a step for faulty ones: 5 "at a sound one"
-  abbrev pub AtFaulty : ℕ → ℕ → Row → Row
+  abbrev pub AtFaulty : ℕ → ℕ → CheckRow → CheckRow
   AtFaulty v k rest = First (NotBelow v) 3 (First (Sound v) 5 (First (Unbooked k) 4 rest))
 
   -- "11 to 14"
-  abbrev pub Admitted : ℕ → ℕ → Row → Row
+  abbrev pub Admitted : ℕ → ℕ → CheckRow → CheckRow
   Admitted v k rest =
-      FirstAt 8 (NotCreatedHere v k) 11
-      (FirstAt 8 (RetiredHere v k) 12
-      (FirstAt 8 (InputReservedHere v k) 13
-      (FirstAt 8 (OutputReservedHere v k) 14 rest)))
+      FirstAmong 8 (NotCreatedHere v k) 11
+      (FirstAmong 8 (RetiredHere v k) 12
+      (FirstAmong 8 (InputReservedHere v k) 13
+      (FirstAmong 8 (OutputReservedHere v k) 14 rest)))
 
   -- ---- the order; `past` has a client's counted requests at a vault, the newest first
-  abbrev pub order : (ℕ → ℕ → List Ask) → Request → Row
+  abbrev pub order : (ℕ → ℕ → List Ask) → Request → CheckRow
   -- "kind 1: 6 to 9, then a booked equal, then 10". Values: "1 the job number", of the first equal, or the next one
   order past (propose bytes) =
       First (MalformedRecord bytes) 6
-      (FirstAt 8 (RepeatedAt (jobOf bytes)) 7
-      (FirstAt 8 (UnsupportedAt takes (jobOf bytes)) 8
+      (FirstAmong 8 (RepeatedAt (jobOf bytes)) 7
+      (FirstAmong 8 (UnsupportedAt takes (jobOf bytes)) 8
       (First (Balanced (jobOf bytes) → ⊥) 9
-      (FirstAt (now .booked) (EqualAt bytes) 0
+      (FirstAmong (now .booked) (EqualAt bytes) 0
       (First BookFull 10 (Value (now .booked)))))))
   -- "kind 2: 3, 5, 4, 11 to 14"; "A job signed here before is accepted again". Values: "2 and 4 the job's signatures afterwards"
   order past (preflight v k) = AtSound v k (Where (SignedHere v k) (Value (signatures k)) (Admitted v k (Value (signatures k))))
@@ -228,9 +228,9 @@ module _ (w : World) (e : Event) where
   order past (faultyVote Signatures v k) = AtFaulty v k (Value (signatures k))
   order past (faultyVote Acknowledgements v k) = AtFaulty v k (Value (acknowledgements k))
   -- "kind 6: 4". Values: "6 gives 0 open, 1 certified, 2 finished"
-  order past (show k) = First (Unbooked k) 4 (Where (Finished k) (Value 2) (Where (Certified k) (Value 1) (Value 0)))
+  order past (show k) = First (Unbooked k) 4 (Where (FinishedNow k) (Value 2) (Where (CertifiedNow k) (Value 1) (Value 0)))
   -- "kind 8: 4, 18". Values: "8 generations"
-  order past (generations k) = First (Unbooked k) 4 (First (Held now k → ⊥) 18 (Answered (GenerationsOf k)))
+  order past (generations k) = First (Unbooked k) 4 (First (Held now k → ⊥) 18 (Gives (GenerationsOf k)))
   -- M-101, kind 9: "with no check but 2"; "The value is the number of different jobs seen in this round."
   order past snapshot = Value (jobCount (afterwards .seen))
   -- M-105, kind 10: "3, 5 as for preflight, 4 for either job; then 19 if the job isn't signed there; then 20 if the other is no rival or isn't held there"; "The
@@ -241,7 +241,7 @@ module _ (w : World) (e : Event) where
       (First (SignedHere v k → ⊥) 19
       (First (NoRivalHeld v k rival) 20 (Value (signatures k)))))
   -- M-108, kind 11: "3, 5, 4 as for preflight; then 21 exactly if no set works"; "the usual line with the set's size"
-  order past (dependencies v k) = AtSound v k (First ((jobs : JobSet) → SetWorks v k jobs → ⊥) 21 (Answered (SmallestSize v k)))
+  order past (dependencies v k) = AtSound v k (First ((jobs : JobSet) → SetWorks v k jobs → ⊥) 21 (Gives (SmallestSize v k)))
   -- M-109, kind 12: "3, 5, 4 as for kind 2; then 22 if the desk is above 7; then a job already signed is accepted; then 23 if four of the desk's previous fifteen
   -- requests there brought a new signature; then 11 to 14"
   order past (clientPreflight v k client) =
@@ -250,7 +250,7 @@ module _ (w : World) (e : Event) where
       (Where (SignedHere v k) (Value (signatures k))
       (First (4 ≤ news (take 15 (past v client))) 23 (Admitted v k (Value (signatures k))))))
   -- M-113, kind 13: "4 if some booked record isn't wholly inside the caller's book"; "the usual line with the number of vaults listed"
-  order past equivocating = First CutShort 4 (Answered NamedVaults)
+  order past equivocating = First CutShort 4 (Gives NamedVaults)
 
 -- ---- the statement
 abbrev pub Demand1 : Type 0
