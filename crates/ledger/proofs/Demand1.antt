@@ -230,6 +230,22 @@ module _ {w : World} {r : Register} (i : Inv w r) (e : Event) where
       → f (gated (vaultGate l journal v k right) d) ≡ f d
   passing f v k right d h = ap (λ (g : Verdict). f (gated g d)) (enters l journal v k right h)
 
+  -- ---- 4 of a step that names no vault
+  booked-row : (k : ℕ) (rest : CheckRow) (d : Decision)
+      → (Booked (versionOf l) journal (l .booked) k → rest (numberOf (d .outcome)) (valueOf (d .outcome)))
+      → First (Unbooked w e k) 4 rest (numberOf (gated (bookedGate l journal k) d .outcome)) (valueOf (gated (bookedGate l journal k) d .outcome))
+  unfolding bookedGate
+  booked-row k rest d next =
+      subst (λ (b : Bool). Shown (cond b (cond (isBooked (versionOf l) journal (l .booked) k) Pass (Fail NotBooked)) (Fail BadSettings))) (sym sane)
+      (by (isBooked (versionOf l) journal (l .booked) k) refl)
+    where
+      Shown : Verdict → Type 0
+      Shown g = First (Unbooked w e k) 4 rest (numberOf (gated g d .outcome)) (valueOf (gated g d .outcome))
+
+      by : (c : Bool) → isBooked (versionOf l) journal (l .booked) k ≡ c → Shown (cond c Pass (Fail NotBooked))
+      by false r = inl (is-unbooked k (refuted (booked? k) r), (refl, refl))
+      by true r = inr (not-unbooked k (booked? k .sound r), next (booked? k .sound r))
+
   -- ---- 11 to 14
   abbrev AdmissionAt : ℕ → ℕ → (ℕ → Job) → Verdict → Type 0
   AdmissionAt v k job d = Admission job (l .booked) (vaultAt l v .held) (jobWithout (vaultAt l v .signed) k) (job k) d
@@ -363,22 +379,6 @@ module _ {w : World} {r : Register} (i : Inv w r) (e : Event) where
           → Value total (numberOf (decision .outcome)) (valueOf (decision .outcome))
       by h true q = (refl, q)
       by h false q = (refl, ap ones (sym (acknowledgement-joins v k (holding (vaultAt l v) k) (in-votes h))) ∙ q)
-
-  -- ---- 4 of a step that names no vault
-  booked-row : (k : ℕ) (rest : CheckRow) (d : Decision)
-      → (Booked (versionOf l) journal (l .booked) k → rest (numberOf (d .outcome)) (valueOf (d .outcome)))
-      → First (Unbooked w e k) 4 rest (numberOf (gated (bookedGate l journal k) d .outcome)) (valueOf (gated (bookedGate l journal k) d .outcome))
-  unfolding bookedGate
-  booked-row k rest d next =
-      subst (λ (b : Bool). Shown (cond b (cond (isBooked (versionOf l) journal (l .booked) k) Pass (Fail NotBooked)) (Fail BadSettings))) (sym sane)
-      (by (isBooked (versionOf l) journal (l .booked) k) refl)
-    where
-      Shown : Verdict → Type 0
-      Shown g = First (Unbooked w e k) 4 rest (numberOf (gated g d .outcome)) (valueOf (gated g d .outcome))
-
-      by : (c : Bool) → isBooked (versionOf l) journal (l .booked) k ≡ c → Shown (cond c Pass (Fail NotBooked))
-      by false r = inl (is-unbooked k (refuted (booked? k) r), (refl, refl))
-      by true r = inr (not-unbooked k (booked? k .sound r), next (booked? k .sound r))
 
   -- ---- kind 6
   abbrev Status? : ℕ → CheckRow
