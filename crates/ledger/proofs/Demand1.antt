@@ -302,13 +302,10 @@ module _ {w : World} {r : Register} (i : Inv w r) (e : Event) where
   vote-row : (c : Column) (v k total : ℕ) → ones (votesIn (applied l (faultyVoteDecision l journal c v k .change) v k) c k) ≡ total
       → Gate v false k (Value total) (numberOf (faultyVoteDecision l journal c v k .outcome)) (valueOf (faultyVoteDecision l journal c v k .outcome))
   unfolding faultyVoteDecision applied
-  vote-row c v k total t =
-      gate-row v k true (Value total) _
-      (λ h. (
-        refl,
-        ap ones (sym (vote-joins l c v k (in-votes h)))
-            ∙ (sym (passing (λ d. ones (votesIn (applied l (d .change) v k) c k)) v k true (voting (votesIn l c k) v (Record c)) h) ∙ t),
-      ))
+  vote-row c v k total t = gate-row v k true (Value total) _ (λ h. (refl, ap ones (sym (vote-joins l c v k (in-votes h))) ∙ behind h))
+    where
+      behind : Entered l journal v k true → ones (votesIn (voted l c v k) c k) ≡ total
+      behind h = sym (passing (λ d. ones (votesIn (applied l (d .change) v k) c k)) v k true (voting (votesIn l c k) v (Record c)) h) ∙ t
 
   -- ---- kind 3
   unsigned? : (k signers : ℕ) → Reflects (not (subsetOf signers (signersOf l k))) (Unsigned signers (signersOf l k))
