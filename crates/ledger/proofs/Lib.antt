@@ -17,6 +17,7 @@ pub mod Lending
 pub mod Meaning
 pub mod Missing
 pub mod NoQuota
+pub mod OneAnswer
 pub mod Paper
 pub mod Places
 pub mod Quota

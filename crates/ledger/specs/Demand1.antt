@@ -259,6 +259,14 @@ Demand1 =
     → let w = afterAll (start n b faulty version) es in
     order w e (λ v client. asked v client (start n b faulty version) es []) (e .request) (numberOf (replyTo w e .outcome)) (valueOf (replyTo w e .outcome))
 
+-- and the row leaves nothing open: no other two figures meet it
+abbrev pub OneAnswer : Type 0
+OneAnswer =
+    (n b faulty version : ℕ) → Lawful (record { n = n; b = b; faulty = faulty; version = version }) → (es : List Event) (e : Event) (past : ℕ → ℕ → List Ask)
+    (number value number′ value′ : ℕ)
+    → let row = order (afterAll (start n b faulty version) es) e past (e .request) in
+    row number value → row number′ value′ → (number ≡ number′) × (value ≡ value′)
+
 -- "A refusal alters no set, book or order", and a client's history alone where the refused request counts: wherever a list has led
 abbrev pub RefusedUnchanged : Type 0
 RefusedUnchanged =
