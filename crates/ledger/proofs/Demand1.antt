@@ -66,7 +66,7 @@ use Rattle.ledger.proofs.Quota.{quota}
 use Rattle.ledger.proofs.Unchanged.{unchanged}
 use Rattle.ledger.proofs.Views.{arrives}
 use Rattle.ledger.specs.Decisions.{admissionAt, ageing, answering, certificate, clientPreflighting, committing, consent, consenting, countedConsent, counting, gated, gatedListing, historyWith, ifAdmitted, listing, preflighting, receiving, receivingAll, refusing, releasing, requiring, snapshotting, supersession, supplying, voting, withinQuota}
-use Rattle.ledger.specs.Demand1.{Admitted, Gives, AtSound, BookFull, CertifiedNow, CutShort, Demand1, EqualAt, FinishedNow, First, FirstAmong, GenerationsOf, Inside, MalformedRecord, NamedVaults, NoRivalHeld, NotBelow, RefusedUnchanged, CheckRow, SetWorks, SignedHere, SmallestSize, Unbooked, Unsigned, Value, Where, order}
+use Rattle.ledger.specs.Demand1.{Admitted, Gives, AtCorrect, BookFull, CertifiedNow, CutShort, Demand1, EqualAt, FinishedNow, First, FirstAmong, GenerationsOf, Inside, MalformedRecord, NamedVaults, NoRivalHeld, NotBelow, RefusedUnchanged, CheckRow, SetWorks, SignedHere, SmallestSize, Unbooked, Unsigned, Value, Where, order}
 use Rattle.ledger.specs.Demand2.{InPlace, accepts}
 use Rattle.ledger.specs.Demand3.{ByCreators, Held, ageAt, bookedJob}
 use Rattle.ledger.specs.Holders.{heldSomewhere, isHeld}
@@ -276,7 +276,7 @@ module _ {w : World} {r : Register} (i : Inv w r) (e : Event) where
 
   -- ---- kind 2
   preflight-row : (v k total : ℕ) → ones (signersOf (applied l (preflightDecision l journal v k .change) v k) k) ≡ total
-      → AtSound w e v k (Where (SignedHere w e v k) (Value total) (Admitted w e v k (Value total)))
+      → AtCorrect w e v k (Where (SignedHere w e v k) (Value total) (Admitted w e v k (Value total)))
       (numberOf (preflightDecision l journal v k .outcome)) (valueOf (preflightDecision l journal v k .outcome))
   unfolding preflightDecision preflighting consent vaultPreflight applied
   preflight-row v k total t =
@@ -360,7 +360,7 @@ module _ {w : World} {r : Register} (i : Inv w r) (e : Event) where
   acknowledgement-joins v k state h = votes-arrive (voted (withVault l v state) Acknowledgements v k) Acknowledgements k ∙ kept-joins v k state h
 
   commit-row : (v k signers total : ℕ) → ones (acknowledgersOf (applied l (commitDecision l journal v k signers .change) v k) k) ≡ total
-      → AtSound w e v k (First (Unsigned signers (signersOf l k)) 15 (First (ones signers < l .settings .n - l .settings .b) 16 (Value total)))
+      → AtCorrect w e v k (First (Unsigned signers (signersOf l k)) 15 (First (ones signers < l .settings .n - l .settings .b) 16 (Value total)))
       (numberOf (commitDecision l journal v k signers .outcome)) (valueOf (commitDecision l journal v k signers .outcome))
   unfolding commitDecision committing receiving votesIn applied
   commit-row v k signers total t =
@@ -448,7 +448,7 @@ module _ {w : World} {r : Register} (i : Inv w r) (e : Event) where
       ⊎-elim (λ f. f (lent-rivals k rival b (record { different = p .different; shares = p .shares }))) (λ f. f (p .held)) n
 
   release-row : (v k rival total : ℕ) → ones (signersOf (applied l (releaseDecision l journal v k rival .change) v k) k) ≡ total
-      → AtSound w e v k (Released v k rival total)
+      → AtCorrect w e v k (Released v k rival total)
       (numberOf (releaseDecision l journal v k rival .outcome)) (valueOf (releaseDecision l journal v k rival .outcome))
   unfolding releaseDecision releasing applied withVault votesIn
   release-row v k rival total t =
@@ -578,11 +578,11 @@ module _ {w : World} {r : Register} (i : Inv w r) (e : Event) where
   abbrev NoSet : ℕ → ℕ → Type 0
   NoSet v k = (s : JobSet) → SetWorks w e v k s → ⊥
 
-  dependencies-row : (v k : ℕ) → AtSound w e v k (First (NoSet v k) 21 (Gives (SmallestSize w e v k)))
+  dependencies-row : (v k : ℕ) → AtCorrect w e v k (First (NoSet v k) 21 (Gives (SmallestSize w e v k)))
       (numberOf (dependenciesDecision l journal v k .outcome)) (valueOf (dependenciesDecision l journal v k .outcome))
   unfolding dependenciesDecision dependenciesOf requiring supplying
   dependencies-row v k =
-      subst (λ (o : Outcome). AtSound w e v k (First (NoSet v k) 21 (Gives (SmallestSize w e v k))) (numberOf o) (valueOf o))
+      subst (λ (o : Outcome). AtCorrect w e v k (First (NoSet v k) 21 (Gives (SmallestSize w e v k))) (numberOf o) (valueOf o))
       (gate-listing (vaultGate l journal v k false))
       (gate-row v k false (First (NoSet v k) 21 (Gives (SmallestSize w e v k))) (record { outcome = found .outcome; change = Nothing })
       (λ h. by (jobHas (vaultAt l v .signed) k) (admissionAt (receivingAll (vaultAt l v) suppliers) (versionOf l) journal (l .booked) k) suppliers (subst (Smallest w (e .size) (e .beyond) v k) (ap (λ (g : Verdict). gatedListing g found)
@@ -667,7 +667,7 @@ module _ {w : World} {r : Register} (i : Inv w r) (e : Event) where
       → (Entered l journal v k false → isClient client ≡ true → jobHas (vaultAt l v .signed) k ≡ false
       → isSpent (historyAt l v client) ≡ spends (past v client))
       → ones (signersOf (applied l (clientPreflightDecision l journal v k client .change) v k) k) ≡ total
-      → AtSound w e v k (Asked past v k client total)
+      → AtCorrect w e v k (Asked past v k client total)
       (numberOf (clientPreflightDecision l journal v k client .outcome)) (valueOf (clientPreflightDecision l journal v k client .outcome))
   unfolding clientPreflightDecision clientPreflighting countedConsent vaultPreflight withinQuota isClient applied
   client-row past v k client total spent t =

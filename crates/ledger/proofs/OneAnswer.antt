@@ -18,7 +18,7 @@ use Rattle.vaults.specs.declared.Column.the-variants.{Acknowledgements, Signatu
 use Rattle.ledger.proofs.Demand3.{along, first}
 use Rattle.ledger.proofs.Holders.{reflect-held}
 use Rattle.ledger.proofs.Invariant.{Inv}
-use Rattle.ledger.specs.Demand1.{Admitted, AtFaulty, AtSound, CheckRow, First, FirstAmong, GenerationsOf, Gives, NamedVaults, OneAnswer, SmallestSize, Value, Where, order}
+use Rattle.ledger.specs.Demand1.{Admitted, AtFaulty, AtCorrect, CheckRow, First, FirstAmong, GenerationsOf, Gives, NamedVaults, OneAnswer, SmallestSize, Value, Where, order}
 use Rattle.ledger.specs.Demand3.{ByCreators, Held, OneCreator, bookedJob}
 use Rattle.ledger.specs.Register.{Register, newRegister}
 use Rattle.ledger.specs.State.{arrived}
@@ -112,8 +112,8 @@ module _ {w : World} {r : Register} (i : Inv w r) where
 
   -- ---- the rows
   module _ (e : Event) (past : ℕ → ℕ → List Ask) where
-    at-sound : (v k : ℕ) (rest : CheckRow) → Once rest → Once (AtSound w e v k rest)
-    at-sound v k rest b = first-once _ 3 _ (λ _. first-once _ 5 _ (λ _. first-once _ 4 rest (λ _. b)))
+    at-correct : (v k : ℕ) (rest : CheckRow) → Once rest → Once (AtCorrect w e v k rest)
+    at-correct v k rest b = first-once _ 3 _ (λ _. first-once _ 5 _ (λ _. first-once _ 4 rest (λ _. b)))
 
     at-faulty : (v k : ℕ) (rest : CheckRow) → Once rest → Once (AtFaulty w e v k rest)
     at-faulty v k rest b = first-once _ 3 _ (λ _. first-once _ 5 _ (λ _. first-once _ 4 rest (λ _. b)))
@@ -125,18 +125,18 @@ module _ {w : World} {r : Register} (i : Inv w r) where
     row-once (propose bytes) =
         first-once _ 6 _ (λ _. among-once 8 _ 7 _ (among-once 8 _ 8 _ (first-once _ 9 _
         (λ _. among-once _ _ 0 _ (first-once _ 10 _ (λ _. value-once _))))))
-    row-once (preflight v k) = at-sound v k _ (where-once _ _ _ (value-once _) (λ _. admitted v k _ (value-once _)))
-    row-once (commit v k signers) = at-sound v k _ (first-once _ 15 _ (λ _. first-once _ 16 _ (λ _. value-once _)))
+    row-once (preflight v k) = at-correct v k _ (where-once _ _ _ (value-once _) (λ _. admitted v k _ (value-once _)))
+    row-once (commit v k signers) = at-correct v k _ (first-once _ 15 _ (λ _. first-once _ 16 _ (λ _. value-once _)))
     row-once (faultyVote Signatures v k) = at-faulty v k _ (value-once _)
     row-once (faultyVote Acknowledgements v k) = at-faulty v k _ (value-once _)
     row-once (show k) = first-once _ 4 _ (λ _. where-once _ _ _ (value-once 2) (λ _. where-once _ _ _ (value-once 1) (λ _. value-once 0)))
     row-once (generations k) = first-once _ 4 _ (λ _. first-once _ 18 _ (λ n. gives-once _ (generations-once e k n)))
     row-once snapshot = value-once _
     row-once (release v k rival) =
-        at-sound v k _ (first-once _ 4 _ (λ _. first-once _ 19 _ (λ _. first-once _ 20 _ (λ _. value-once _))))
-    row-once (dependencies v k) = at-sound v k _ (first-once _ 21 _ (λ _. gives-once _ (smallest-once e v k)))
+        at-correct v k _ (first-once _ 4 _ (λ _. first-once _ 19 _ (λ _. first-once _ 20 _ (λ _. value-once _))))
+    row-once (dependencies v k) = at-correct v k _ (first-once _ 21 _ (λ _. gives-once _ (smallest-once e v k)))
     row-once (clientPreflight v k client) =
-        at-sound v k _ (first-once _ 22 _ (λ _. where-once _ _ _ (value-once _) (λ _. first-once _ 23 _ (λ _. admitted v k _ (value-once _)))))
+        at-correct v k _ (first-once _ 22 _ (λ _. where-once _ _ _ (value-once _) (λ _. first-once _ 23 _ (λ _. admitted v k _ (value-once _)))))
     row-once equivocating = first-once _ 4 _ (λ _. gives-once _ (named-once e))
 
 pub one-answer : OneAnswer

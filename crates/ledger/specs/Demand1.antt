@@ -101,8 +101,8 @@ module _ (w : World) (e : Event) where
   abbrev pub Faulty : ℕ → Type 0
   Faulty v = hasBit (now .settings .faulty) v ≡ true
 
-  abbrev pub Sound : ℕ → Type 0
-  Sound v = hasBit (now .settings .faulty) v ≡ false
+  abbrev pub NotFaulty : ℕ → Type 0
+  NotFaulty v = hasBit (now .settings .faulty) v ≡ false
 
   -- 6: "record malformed", of another length too
   abbrev pub MalformedRecord : List ℕ → Type 0
@@ -193,13 +193,13 @@ module _ (w : World) (e : Event) where
 
   -- ---- checks that kinds share
 
-  -- "3, 5, 4" of a step for correct vaults: 5 "at a faulty vault"
-  abbrev pub AtSound : ℕ → ℕ → CheckRow → CheckRow
-  AtSound v k rest = First (NotBelow v) 3 (First (Faulty v) 5 (First (Unbooked k) 4 rest))
+  -- "3, 5, 4" of a step for correct vaults: 5, "kinds 2, 3 at a faulty vault"
+  abbrev pub AtCorrect : ℕ → ℕ → CheckRow → CheckRow
+  AtCorrect v k rest = First (NotBelow v) 3 (First (Faulty v) 5 (First (Unbooked k) 4 rest))
 
-  -- "3, 5, 4" of a step for faulty ones: 5 "at a sound one"
+  -- "3, 5, 4" of a step for faulty ones: 5, "4, 5 at a sound one"
   abbrev pub AtFaulty : ℕ → ℕ → CheckRow → CheckRow
-  AtFaulty v k rest = First (NotBelow v) 3 (First (Sound v) 5 (First (Unbooked k) 4 rest))
+  AtFaulty v k rest = First (NotBelow v) 3 (First (NotFaulty v) 5 (First (Unbooked k) 4 rest))
 
   -- "11 to 14"
   abbrev pub Admitted : ℕ → ℕ → CheckRow → CheckRow
@@ -211,7 +211,8 @@ module _ (w : World) (e : Event) where
 
   -- ---- the order; `past` has a client's counted requests at a vault, the newest first
   abbrev pub order : (ℕ → ℕ → List Ask) → Request → CheckRow
-  -- "kind 1: 6 to 9, then a booked equal, then 10". Values: "1 the job number", of the first equal, or the next one
+  -- "kind 1: 6 to 9, then a booked equal, then 10". 7: "a used entry's label equals an earlier used entry's". 8: "drive can't read or write it". 9: "frames don't
+  -- balance". Values: "1 the job number", of the first equal, or the next one
   order past (propose bytes) =
       First (MalformedRecord bytes) 6
       (FirstAmong 8 (RepeatedAt (jobOf bytes)) 7
@@ -220,32 +221,32 @@ module _ (w : World) (e : Event) where
       (FirstAmong (now .booked) (EqualAt bytes) 0
       (First BookFull 10 (Value (now .booked)))))))
   -- "kind 2: 3, 5, 4, 11 to 14"; "A job signed here before is accepted again". Values: "2 and 4 the job's signatures afterwards"
-  order past (preflight v k) = AtSound v k (Where (SignedHere v k) (Value (signatures k)) (Admitted v k (Value (signatures k))))
-  -- "kind 3: 3, 5, 4, 15, 16". Values: "3 and 5 its acknowledgements"
+  order past (preflight v k) = AtCorrect v k (Where (SignedHere v k) (Value (signatures k)) (Admitted v k (Value (signatures k))))
+  -- "kind 3: 3, 5, 4, 15, 16". 16: "fewer than n − b signers". Values: "3 and 5 its acknowledgements"
   order past (commit v k signers) =
-      AtSound v k (First (Unsigned signers (signersOf now k)) 15 (First (ones signers < quorum) 16 (Value (acknowledgements k))))
+      AtCorrect v k (First (Unsigned signers (signersOf now k)) 15 (First (ones signers < quorum) 16 (Value (acknowledgements k))))
   -- "kinds 4, 5: 3, 5, 4"
   order past (faultyVote Signatures v k) = AtFaulty v k (Value (signatures k))
   order past (faultyVote Acknowledgements v k) = AtFaulty v k (Value (acknowledgements k))
   -- "kind 6: 4". Values: "6 gives 0 open, 1 certified, 2 finished"
   order past (show k) = First (Unbooked k) 4 (Where (FinishedNow k) (Value 2) (Where (CertifiedNow k) (Value 1) (Value 0)))
-  -- "kind 8: 4, 18". Values: "8 generations"
+  -- "kind 8: 4, 18". 18: "no sound vault holds the job". Values: "8 generations"
   order past (generations k) = First (Unbooked k) 4 (First (Held now k → ⊥) 18 (Gives (GenerationsOf k)))
   -- M-101, kind 9: "with no check but 2"; "The value is the number of different jobs seen in this round."
   order past snapshot = Value (jobCount (afterwards .seen))
   -- M-105, kind 10: "3, 5 as for preflight, 4 for either job; then 19 if the job isn't signed there; then 20 if the other is no rival or isn't held there"; "The
   -- value is the job's signature count."
   order past (release v k rival) =
-      AtSound v k
+      AtCorrect v k
       (First (Unbooked rival) 4
       (First (SignedHere v k → ⊥) 19
       (First (NoRivalHeld v k rival) 20 (Value (signatures k)))))
   -- M-108, kind 11: "3, 5, 4 as for preflight; then 21 exactly if no set works"; "the usual line with the set's size"
-  order past (dependencies v k) = AtSound v k (First ((jobs : JobSet) → SetWorks v k jobs → ⊥) 21 (Gives (SmallestSize v k)))
+  order past (dependencies v k) = AtCorrect v k (First ((jobs : JobSet) → SetWorks v k jobs → ⊥) 21 (Gives (SmallestSize v k)))
   -- M-109, kind 12: "3, 5, 4 as for kind 2; then 22 if the desk is above 7; then a job already signed is accepted; then 23 if four of the desk's previous fifteen
   -- requests there brought a new signature; then 11 to 14"
   order past (clientPreflight v k client) =
-      AtSound v k
+      AtCorrect v k
       (First (7 < client) 22
       (Where (SignedHere v k) (Value (signatures k))
       (First (4 ≤ news (take 15 (past v client))) 23 (Admitted v k (Value (signatures k))))))
