@@ -1,24 +1,22 @@
 -- Demand 3: the invariant holds at the start, each step of any list keeps it, and it says all that the statement asks.
-use mathlib.Core.Bool.{Bool, cond, false, true, true≢false}
+use mathlib.Core.Bool.{Bool, false, true, true≢false}
 use mathlib.Core.List.{List, [], _∷_}
 use mathlib.Core.Logic.{inl, inr, ⊎-elim}
-use mathlib.Core.Path.{_∙_, _≡_, ap, ap₂, refl, subst, sym}
+use mathlib.Core.Path.{_∙_, _≡_, ap, refl, subst, sym}
 use Prim.Native.Nat.{_+_, _<_, _^_, _≤_, suc, zero, ℕ}
 use native.Mathlib.Omega.{arith}
 use lib.Count.{ones}
-use lib.ListN.{getD, replicate, take}
+use lib.ListN.{getD, replicate}
 use lib.Pow.{pow-pos}
 use Rattle.base.proofs.Members.{in-getD}
-use Rattle.base.proofs.Reflect.{by-cases}
 use Rattle.base.specs.Lists.{In, total}
-use Rattle.outcome.specs.Figures.{numberOf, refusalNumber}
+use Rattle.outcome.specs.Figures.{numberOf}
 use Rattle.outcome.specs.declared.Outcome.{Outcome}
-use Rattle.outcome.specs.declared.Refusal.{Refusal}
 use Rattle.outcome.specs.declared.Verdict.the-variants.{Pass}
 use Rattle.checks.specs.Checks.{examined}
 use Rattle.codec.proofs.RoundTrip.{plain-untrimmed}
 use Rattle.codec.proofs.Sizes.{place-first}
-use Rattle.codec.specs.Codec.{placeOf, saysTrimmed}
+use Rattle.codec.specs.Codec.{saysTrimmed}
 use Rattle.conflicts.specs.Tapes.{framesIn}
 use Rattle.record.specs.declared.Entry.{Entry}
 use Rattle.record.specs.declared.Job.{Job}
@@ -28,53 +26,26 @@ use Rattle.sets.specs.Bits.{hasBit}
 use Rattle.job_sets.specs.Jobs.{jobHas, noJobs}
 use Rattle.job_sets.specs.declared.job_set.JobSet.{JobSet}
 use Rattle.ledger.proofs.Account.{books-new}
-use Rattle.ledger.proofs.Changes.{Change, Shape, appends, changes, counts, grants, holds, idle, nothing, releases, sees, shape-sane, signs, votes}
+use Rattle.ledger.proofs.Changes.{Change, appends, changes, counts, grants, holds, idle, nothing, releases, sees, shape-sane, signs, votes}
 use Rattle.ledger.proofs.Effects.{hold-settings}
 use Rattle.ledger.proofs.Gates.{reflect-sane}
 use Rattle.ledger.proofs.Invariant.{Inv, held-by, keep, tally}
-use Rattle.ledger.proofs.Lending.{kept-bytes}
 use Rattle.ledger.proofs.Places.{examined-length}
 use Rattle.ledger.proofs.Refusals.{never-one}
 use Rattle.ledger.proofs.Safety.{certified-apart, meeting}
-use Rattle.ledger.proofs.Unchanged.{unchanged}
 use Rattle.ledger.proofs.Views.{heldAt, signedAt, votedAt}
-use Rattle.ledger.specs.Decisions.{historyWith}
-use Rattle.ledger.specs.Demand3.{Apart, Demand3, Disjoint, FirstVersion, Held, Holds, RefusedUnchanged, accessionedAlong, madeAlong, recordsIn}
+use Rattle.ledger.specs.Demand3.{Apart, Demand3, Disjoint, FirstVersion, Held, Holds, accessionedAlong, madeAlong, recordsIn}
 use Rattle.ledger.specs.Demand3.{standingAlong, trimmedAlong}
 use Rattle.federation.specs.Federation.{Lawful, thresholdOf}
-use Rattle.ledger.specs.Refused.{isCounted, refusedLedger}
 use Rattle.ledger.specs.Register.{Register, feed, feedAll, isDone, log, newRegister, tabled}
-use Rattle.ledger.specs.State.{acknowledgersOf, booking, counted, historyAt, newLedger, signersOf, vaultAt, versionOf}
+use Rattle.ledger.specs.State.{acknowledgersOf, booking, counted, newLedger, signersOf, vaultAt, versionOf}
 use Rattle.ledger.specs.State.{visited, voted, votesIn, withVault}
 use Rattle.vaults.specs.Vaults.{newVault}
 use Rattle.vaults.specs.Votes.{columnOf, noVotes}
 use Rattle.vaults.specs.declared.Column.{Column}
 use Rattle.vaults.specs.declared.Column.the-variants.{Acknowledgements, Signatures}
 use Rattle.federation.specs.declared.Settings.{Settings}
-use Rattle.ledger.specs.Worlds.{
-  Event,
-  Request,
-  World,
-  after,
-  afterAll,
-  clientPreflight,
-  commit,
-  dependencies,
-  equivocating,
-  faultyVote,
-  generations,
-  leftBy,
-  lent,
-  outcomes,
-  overlay,
-  preflight,
-  propose,
-  release,
-  replyTo,
-  show,
-  snapshot,
-  start,
-}
+use Rattle.ledger.specs.Worlds.{Event, Request, World, after, afterAll, lent, outcomes, replyTo, start}
 use Rattle.ledger.specs.declared.Ledger.{Ledger}
 use Rattle.vaults.specs.declared.Vault.{Vault}
 
@@ -104,34 +75,6 @@ settings-along [] w r i = refl
 settings-along (e ∷ es) w r i =
     settings-along es (after w e) (feed r (e .request) (isDone (replyTo w e .outcome))) (kept w r i e)
     ∙ same-settings w (e .request) (isDone (replyTo w e .outcome)) (after w e) (changes w (i .shape) e)
-
--- ---- a refused step
-same-count : (l : Ledger) (q : Request) (why : Refusal) → refusedLedger l q why .booked ≡ l .booked
-unfolding counted
-same-count l (propose bytes) why = refl
-same-count l (preflight v k) why = refl
-same-count l (commit v k signers) why = refl
-same-count l (faultyVote c v k) why = refl
-same-count l (show k) why = refl
-same-count l (generations k) why = refl
-same-count l snapshot why = refl
-same-count l (release v k rival) why = refl
-same-count l (dependencies v k) why = refl
-same-count l equivocating why = refl
-same-count l (clientPreflight v k client) why =
-    by-cases (λ b. cond b (counted l v (historyWith client (historyAt l v client) false)) l .booked ≡ l .booked) (isCounted (refusalNumber why)) (λ _. refl)
-    (λ _. refl)
-
--- the world after a step that left the journal as it was lent
-refused-world : (w : World) → Shape (w .ledger) (w .booked) → (e : Event) (l : Ledger) → replyTo w e .ledger ≡ l → l .booked ≡ w .ledger .booked
-    → leftBy (w .ledger) (lent w e) (e .request) ≡ lent w e → after w e ≡ record { ledger = l; booked = w .booked }
-unfolding after
-refused-world w sh e l a b c =
-    let version = versionOf (w .ledger) in
-    ap₂ (λ (x : Ledger) (journal : List ℕ). record { ledger = x; booked = take (placeOf version (x .booked)) (overlay journal (w .booked)) }) a c
-    ∙ ap (λ (bytes : List ℕ). record { ledger = l; booked = bytes })
-    (ap (λ (n : ℕ). take n (overlay (lent w e) (w .booked))) (ap (λ (n : ℕ). placeOf version n) b ∙ sym (sh .records))
-    ∙ kept-bytes (e .size) (w .booked) (e .beyond))
 
 -- ---- at first nothing is held, signed, recorded or acknowledged
 pub filled : {A : Type 0} (n i : ℕ) (a : A) → getD (replicate n a) i a ≡ a
@@ -286,15 +229,6 @@ pub first-version : FirstVersion
 first-version n b faulty lawful es =
     let h = demand3 n b faulty 1 lawful es .0 in
     omega (arith, h .frames, untrimmed h (ap (λ (s : Settings). s .version) (h .settings)))
-
--- a refused step leaves the journal as it was lent, and so the booked bytes
-pub refused-unchanged : RefusedUnchanged
-unfolding after
-refused-unchanged n b faulty version lawful es e why refused =
-    let w = afterAll (start n b faulty version) es in
-    let i = along es (start n b faulty version) (newRegister version) (first n b faulty version lawful) in
-    let u = unchanged (w .ledger) (lent w e) (e .request) why refused in
-    refused-world w (i .shape) e (refusedLedger (w .ledger) (e .request) why) (u .0) (same-count (w .ledger) (e .request) why) (u .1)
 
 -- two jobs that correct vaults hold were each signed by a quorum, and a correct vault signed both and released neither
 pub disjoint : Disjoint

@@ -3,6 +3,7 @@ pub mod Algorithms
 pub mod Changes
 pub mod Counted
 pub mod Creators
+pub mod Demand1
 pub mod Demand2
 pub mod Demand3
 pub mod Dependencies
@@ -16,6 +17,7 @@ pub mod Lending
 pub mod Meaning
 pub mod Missing
 pub mod NoQuota
+pub mod OneAnswer
 pub mod Paper
 pub mod Places
 pub mod Quota

@@ -12,8 +12,6 @@ use lib.ListN.{drop, length, take}
 use Rattle.base.specs.Lists.{Distinct, In, anyIn, keepIf, total}
 use Rattle.outcome.specs.Figures.{numberOf}
 use Rattle.outcome.specs.declared.Outcome.{Outcome}
-use Rattle.outcome.specs.declared.Outcome.the-variants.{Refused}
-use Rattle.outcome.specs.declared.Refusal.{Refusal}
 use Rattle.outcome.specs.declared.Verdict.the-variants.{Pass}
 use Rattle.checks.specs.Checks.{examined}
 use Rattle.codec.specs.Codec.{recordSize}
@@ -24,10 +22,9 @@ use Rattle.sets.specs.Bits.{hasBit}
 use Rattle.job_sets.specs.Jobs.{jobHas}
 use Rattle.federation.specs.Federation.{Lawful, thresholdOf}
 use Rattle.generations.specs.Generations.{ageIn}
-use Rattle.ledger.specs.Refused.{refusedLedger}
 use Rattle.ledger.specs.Register.{Register, accessionOf, feedAll, log, newRegister, tabled}
 use Rattle.ledger.specs.State.{arrived, acknowledgersOf, signersOf, vaultAt, versionOf}
-use Rattle.ledger.specs.Worlds.{Event, World, after, afterAll, outcomes, replyTo, start}
+use Rattle.ledger.specs.Worlds.{Event, World, afterAll, outcomes, start}
 use Rattle.ledger.specs.declared.Ledger.{Ledger}
 use Rattle.federation.specs.declared.Settings.{Settings}
 
@@ -131,13 +128,6 @@ abbrev pub FirstVersion : Type 0
 FirstVersion =
     (n b faulty : ℕ) → Lawful (record { n = n; b = b; faulty = faulty; version = 1 }) → (es : List Event)
     → let r = feedAll (newRegister 1) (log (start n b faulty 1) es) in framesIn (r .standing) ≡ r .accessioned
-
--- "A refusal alters no set, book or order", and a client's history alone where the refused request counts: wherever a list has led
-abbrev pub RefusedUnchanged : Type 0
-RefusedUnchanged =
-    (n b faulty version : ℕ) → Lawful (record { n = n; b = b; faulty = faulty; version = version }) → (es : List Event) (e : Event) (why : Refusal)
-    → let w = afterAll (start n b faulty version) es in
-    replyTo w e .outcome ≡ Refused why → after w e ≡ record { ledger = refusedLedger (w .ledger) (e .request) why; booked = w .booked }
 
 -- ---- for readers
 

@@ -1,4 +1,5 @@
 pub mod Decisions
+pub mod Demand1
 pub mod Demand2
 pub mod Demand3
 pub mod Dependencies

@@ -1,3 +1,4 @@
+pub mod Demand1
 pub mod History
 pub mod Turns
 pub mod Versions
