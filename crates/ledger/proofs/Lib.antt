@@ -24,6 +24,7 @@ pub mod Releases
 pub mod Rivals
 pub mod Rounds
 pub mod Safety
+pub mod Splits
 pub mod Unchanged
 pub mod Unnamed
 pub mod Views
