@@ -11,10 +11,10 @@ use native.Mathlib.Omega.{arith}
 use lib.Count.{ones, ones-step}
 use lib.Dec.{leb}
 use lib.ListN.{length, take}
-use borrow.Author.Tests.{leb-false, leb-true}
+use borrow.Author.Tests.{leb-false, leb-true, lt-leb}
 use Rattle.base.proofs.Reflect.{by-cases}
 use Rattle.base.specs.Lists.{In}
-use Rattle.quota.specs.Asks.{AllOver, Ask, Stretch, news, spends}
+use Rattle.quota.specs.Asks.{AllOver, Ask, NoNews, Stretch, news, spends}
 use Rattle.quota.specs.Quota.{isSpent, remembered}
 
 -- ---- the bits of a history
@@ -109,7 +109,7 @@ news-few (suc k) [] = zero-le
 news-few (suc k) (a ∷ l) = let r = news-few k l in let s = bit-small a in omega arith
 
 -- requests that brought nothing leave fewer places
-news-stale : (k : ℕ) (ys zs : List Ask) → ((a : Ask) → In a ys → a .fresh ≡ false) → length ys ≤ k → news (take k (ys ++ zs)) + length ys ≤ k
+news-stale : (k : ℕ) (ys zs : List Ask) → NoNews ys → length ys ≤ k → news (take k (ys ++ zs)) + length ys ≤ k
 news-stale k [] zs h q = let r = news-few k zs in omega arith
 news-stale zero (y ∷ ys) zs h q = absurd (not-suc-le-zero q)
 news-stale (suc k) (y ∷ ys) zs h q =
@@ -117,7 +117,7 @@ news-stale (suc k) (y ∷ ys) zs h q =
     let r = news-stale k ys zs (λ a m. h a (inr m)) (omega arith) in
     omega arith
 
-stale : (ys zs : List Ask) → Ruled (ys ++ zs) → AllOver ys → (a : Ask) → In a ys → a .fresh ≡ false
+stale : (ys zs : List Ask) → Ruled (ys ++ zs) → AllOver ys → NoNews ys
 stale (y ∷ ys) zs (f, o, h) t a (inl e) = rw e (o (t y (inl refl)) .1)
 stale (y ∷ ys) zs (f, o, h) t a (inr m) = stale ys zs h (λ x i. t x (inr i)) a m
 
@@ -133,3 +133,7 @@ soon (y ∷ ys) zs (f, o, h) t =
 -- "Whoever keeps asking comes within the quota again after at most twelve refusals by it"
 pub patience : (l : List Ask) → Ruled l → (s : List Ask) → Stretch s l → AllOver s → length s ≤ 12
 patience l r s x t = soon s (x .older) (ruled-older (x .newer) (s ++ x .older) (subst Ruled (x .whole) r)) t
+
+-- after twelve in a row that brought none, whatever they were answered, at most three of the previous fifteen did
+pub recovers : (s older : List Ask) → NoNews s → length s ≡ 12 → spends (s ++ older) ≡ false
+recovers s older n h = let r = news-stale 15 s older n (omega (arith, h)) in lt-leb 4 (news (take 15 (s ++ older))) (omega (arith, h, r))
