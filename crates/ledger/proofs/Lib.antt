@@ -8,6 +8,7 @@ pub mod Demand3
 pub mod Dependencies
 pub mod Effects
 pub mod Equivocation
+pub mod EveryVisit
 pub mod Gates
 pub mod Growth
 pub mod Holders
@@ -28,4 +29,5 @@ pub mod Splits
 pub mod Unchanged
 pub mod Unnamed
 pub mod Views
+pub mod Words
 pub mod Writes

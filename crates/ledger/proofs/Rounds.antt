@@ -53,9 +53,9 @@ use Rattle.ledger.specs.Worlds.{
 use Rattle.ledger.specs.declared.Ledger.{Ledger}
 
 -- ---- what a step does to the snapshot
-record Untouched (l l′ : Ledger) : Type 0 where
-  next : l′ .next ≡ l .next
-  seen : l′ .seen ≡ l .seen
+pub record Untouched (l l′ : Ledger) : Type 0 where
+  pub next : l′ .next ≡ l .next
+  pub seen : l′ .seen ≡ l .seen
 
 -- a visit that is answered 0 makes its own change, and every other step leaves the snapshot
 abbrev Turned : World → Bool → Bool → World → Type 0
@@ -66,7 +66,7 @@ untouched : (w : World) (visit done : Bool) → (visit ≡ true → done ≡ tru
 untouched w true done n = λ d. absurd (n refl d)
 untouched w false done n = record { next = refl; seen = refl }
 
-is-snapshot : (q : Request) → isSnapshot q ≡ true → q ≡ snapshot
+pub is-snapshot : (q : Request) → isSnapshot q ≡ true → q ≡ snapshot
 is-snapshot (propose bytes) e = absurd (true≢false (sym e))
 is-snapshot (preflight v k) e = absurd (true≢false (sym e))
 is-snapshot (commit v k signers) e = absurd (true≢false (sym e))
@@ -93,18 +93,18 @@ turned w q done w′ (counts v k client d h) = record { next = refl; seen = refl
 turned w q done w′ (grants v k client h c b u) = record { next = refl; seen = refl }
 
 -- a sane ledger answers a visit with the number of jobs seen
-answered : (w : World) → Shape (w .ledger) (w .booked) → (e : Event) → e .request ≡ snapshot → replyTo w e .outcome ≡ Done (jobCount (seenNext (w .ledger)))
+pub answered : (w : World) → Shape (w .ledger) (w .booked) → (e : Event) → e .request ≡ snapshot → replyTo w e .outcome ≡ Done (jobCount (seenNext (w .ledger)))
 unfolding snapshotDecision snapshotting saneGate
 answered w sh e q = simp (q, reflect-sane (w .ledger) .complete (shape-sane sh))
 
 -- so its change is made
-made : (w : World) → Shape (w .ledger) (w .booked) → (e : Event) → isSnapshot (e .request) ≡ true
+pub made : (w : World) → Shape (w .ledger) (w .booked) → (e : Event) → isSnapshot (e .request) ≡ true
     → after w e .ledger ≡ visited (w .ledger) (seenNext (w .ledger))
 made w sh e q =
     subst (λ (b : Bool). Turned w b (isDone (replyTo w e .outcome)) (after w e)) q
     (turned w (e .request) (isDone (replyTo w e .outcome)) (after w e) (changes w sh e)) (ap isDone (answered w sh e (is-snapshot (e .request) q)))
 
-left : (w : World) → Shape (w .ledger) (w .booked) → (e : Event) → isSnapshot (e .request) ≡ false → Untouched (w .ledger) (after w e .ledger)
+pub left : (w : World) → Shape (w .ledger) (w .booked) → (e : Event) → isSnapshot (e .request) ≡ false → Untouched (w .ledger) (after w e .ledger)
 left w sh e q =
     subst (λ (b : Bool). Turned w b (isDone (replyTo w e .outcome)) (after w e)) q
     (turned w (e .request) (isDone (replyTo w e .outcome)) (after w e) (changes w sh e))
@@ -193,7 +193,7 @@ module _ (n : ℕ) (l₀ : Ledger) (count : l₀ .settings .n ≡ n) where
       through es (after w e) _ inv′ s′ i next c)
       refl c
 
-after-append : (xs ys : List Event) (w : World) → afterAll w (xs ++ ys) ≡ afterAll (afterAll w xs) ys
+pub after-append : (xs ys : List Event) (w : World) → afterAll w (xs ++ ys) ≡ afterAll (afterAll w xs) ys
 after-append [] ys w = refl
 after-append (x ∷ xs) ys w = after-append xs ys (after w x)
 
