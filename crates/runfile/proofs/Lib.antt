@@ -1,4 +1,5 @@
 pub mod History
+pub mod Listings
 pub mod Turns
 pub mod Versions
 pub mod Words

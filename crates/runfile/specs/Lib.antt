@@ -1,3 +1,4 @@
 pub mod History
+pub mod Listings
 pub mod Run
 pub mod Steps
