@@ -3,33 +3,41 @@
 -- So the count that a visit answers is the number of these jobs.
 use mathlib.Core.Bool.{Bool, cond, false, true, true≢false}
 use mathlib.Core.List.{List, [], _++_, _∷_, append-assoc, append-nil}
-use mathlib.Core.Logic.{_↔_, _⊎_, inl, inr, ⊎-elim}
+use mathlib.Core.Logic.{_↔_, ⊎-elim}
 use mathlib.Core.Path.{_∙_, _≡_, ap, ap₂, refl, subst, sym}
-use Prim.Native.Nat.{_%_, _+_, _<_, _≤_, suc, ℕ}
+use Prim.Native.Nat.{_%_, _+_, _<_, suc, ℕ}
 use native.Mathlib.Nat.{mod-add-mod, mod-eq-of-lt, mod-lt, mod-self, suc-mod, zero-mod}
 use native.Mathlib.Omega.{arith}
 use lib.Dec.{ltb}
 use borrow.Author.Tests.{ltb-false, ltb-true}
 use Rattle.base.proofs.Reflect.{by-cases, by-test}
 use Rattle.federation.specs.declared.Settings.{Settings}
-use Rattle.sets.specs.Bits.{hasBit}
+use Rattle.outcome.specs.declared.Outcome.the-variants.{Done}
 use Rattle.job_sets.proofs.Jobs.{has-no-jobs}
 use Rattle.job_sets.specs.Jobs.{jobCount, jobHas}
 use Rattle.job_sets.specs.declared.job_set.JobSet.{JobSet}
 use Rattle.snapshot.proofs.Visits.{begins-anew, goes-on, sees-held, sees-only, sees-still}
 use Rattle.snapshot.specs.Snapshot.{following}
-use Rattle.ledger.proofs.Changes.{Shape, changes, seenNext}
+use Rattle.ledger.proofs.Changes.{Shape, changes, seenNext, shape-sane}
 use Rattle.ledger.proofs.Demand3.{along, first, kept, same-settings, settings-first}
+use Rattle.ledger.proofs.Gates.{reflect-sane}
 use Rattle.ledger.proofs.Invariant.{Inv}
-use Rattle.ledger.proofs.Rounds.{after-append, answered, is-snapshot, left, made}
+use Rattle.ledger.proofs.Snapshots.{after-append, is-snapshot, left, made}
 use Rattle.ledger.proofs.Splits.{CutBefore, CutLast, cut, empty-uncut}
 use Rattle.ledger.proofs.Words.{count-lists, fits-along, fits-first, seen-words}
+use Rattle.ledger.specs.Decisions.{snapshotting}
 use Rattle.ledger.specs.Demand3.{HeldBy}
 use Rattle.ledger.specs.Register.{Register, isDone, newRegister}
 use Rattle.ledger.specs.Rounds.{EveryVisit, SeenAlong, isSnapshot, visits}
-use Rattle.ledger.specs.State.{newLedger, vaultAt, visited}
+use Rattle.ledger.specs.State.{newLedger, visited}
+use Rattle.ledger.specs.Steps.{saneGate, snapshotDecision}
 use Rattle.ledger.specs.Worlds.{Event, World, after, afterAll, replyTo, snapshot, start}
 use Rattle.ledger.specs.declared.Ledger.{Ledger}
+
+-- a sane ledger answers a visit with the number of jobs seen
+pub answered : (w : World) → Shape (w .ledger) (w .booked) → (e : Event) → e .request ≡ snapshot → replyTo w e .outcome ≡ Done (jobCount (seenNext (w .ledger)))
+unfolding snapshotDecision snapshotting saneGate
+answered w sh e q = simp (q, reflect-sane (w .ledger) .complete (shape-sane sh))
 
 visits-append : (xs ys : List Event) → visits (xs ++ ys) ≡ visits xs + visits ys
 visits-append [] ys = omega arith

@@ -25,6 +25,7 @@ pub mod Releases
 pub mod Rivals
 pub mod Rounds
 pub mod Safety
+pub mod Snapshots
 pub mod Splits
 pub mod Unchanged
 pub mod Unnamed

@@ -1,6 +1,6 @@
 -- What the quota gives over any list of a client's counted requests. A request that brought a new signature had at most three among the fifteen before it, so
 -- sixteen in a row have at most four. A refusal by the quota had four among the fifteen before it; after twelve refusals in a row only three of those fifteen
--- can be others. The history's bits are the list's newest fifteen, so counting its ones counts them.
+-- can be others; and so after any twelve that brought none. The history's bits are the list's newest fifteen, so counting its ones counts them.
 use mathlib.Core.Bool.{Bool, cond, false, true}
 use mathlib.Core.List.{List, [], _++_, _∷_}
 use mathlib.Core.Logic.{inl, inr}
@@ -13,8 +13,7 @@ use lib.Dec.{leb}
 use lib.ListN.{length, take}
 use borrow.Author.Tests.{leb-false, leb-true, lt-leb}
 use Rattle.base.proofs.Reflect.{by-cases}
-use Rattle.base.specs.Lists.{In}
-use Rattle.quota.specs.Asks.{AllOver, Ask, NoNews, Stretch, news, spends}
+use Rattle.quota.specs.Asks.{AllOver, Ask, NoNews, Recovers, Stretch, news, spends}
 use Rattle.quota.specs.Quota.{isSpent, remembered}
 
 -- ---- the bits of a history
@@ -134,6 +133,6 @@ soon (y ∷ ys) zs (f, o, h) t =
 pub patience : (l : List Ask) → Ruled l → (s : List Ask) → Stretch s l → AllOver s → length s ≤ 12
 patience l r s x t = soon s (x .older) (ruled-older (x .newer) (s ++ x .older) (subst Ruled (x .whole) r)) t
 
--- after twelve in a row that brought none, whatever they were answered, at most three of the previous fifteen did
-pub recovers : (s older : List Ask) → NoNews s → length s ≡ 12 → spends (s ++ older) ≡ false
+-- at most three of the previous fifteen brought one
+pub recovers : Recovers
 recovers s older n h = let r = news-stale 15 s older n (omega (arith, h)) in lt-leb 4 (news (take 15 (s ++ older))) (omega (arith, h, r))
