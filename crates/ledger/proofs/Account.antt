@@ -45,7 +45,8 @@ use Rattle.conflicts.specs.Tapes.{framesIn, inputTapes, labels, outputTapes, sa
 use Rattle.record.specs.declared.Entry.{Entry}
 use Rattle.record.specs.declared.Job.{Job}
 use Rattle.ledger.proofs.Gates.{passed-rest}
-use Rattle.ledger.specs.Demand3.{OneCreator, accessionedAlong, madeAlong, retire, standingAlong, standingFrom, trimmedAlong}
+use Rattle.ledger.proofs.Splits.{CutLast, CutBefore, cut as cut-last, empty-uncut}
+use Rattle.ledger.specs.Demand3.{InTurn, OneCreator, accessionedAlong, madeAlong, retire, standingAlong, standingFrom, trimmedAlong}
 use Rattle.ledger.specs.Register.{Register, accessionOf, entering, isAdmissible, newRegister, passes, tabled, taking, withoutInputs}
 
 -- ---- what admissible means
@@ -135,6 +136,8 @@ pub record Books (r : Register) : Type 0 where
   pub makers-once : (i k x : ℕ) → In i (r .taken) → In k (r .taken) → In x (labels (outputTapes (tabled (r .table) i)))
       → In x (labels (outputTapes (tabled (r .table) k))) → i ≡ k
   pub creators : (k : ℕ) → In k (r .taken) → (t : Entry) → In t (inputTapes (tabled (r .table) k)) → OneCreator (tabled (r .table)) (r .taken) k t
+  -- wherever the list is cut, the job there found its inputs standing and its output labels unmade
+  pub in-turn : (earlier later : List ℕ) (k : ℕ) → r .taken ≡ earlier ++ (k ∷ later) → InTurn (tabled (r .table)) earlier k
   pub once : Distinct (labels (r .standing))
   pub along : r .standing ≡ standingAlong (tabled (r .table)) (r .taken)
   pub marks : r .made ≡ madeAlong (tabled (r .table)) (r .taken)
@@ -152,6 +155,7 @@ books-new version = record {
   made-all = λ k x m. absurd m;
   makers-once = λ i k x m. absurd m;
   creators = λ k m. absurd m;
+  in-turn = λ earlier later k e. absurd (empty-uncut earlier later k e);
   once = tt;
   along = refl;
   marks = refl;
@@ -245,6 +249,17 @@ module _ (r : Register) (k : ℕ) (b : Books r) (h : k < length (r .table)) (a :
         only = only-maker (q .0) t (in-left (r .taken) (k ∷ []) (q .0) (q .1 .0)) (q .1 .1);
       }
 
+  -- it found its inputs standing and its output labels unmade, and so did each before it
+  turns : (earlier later : List ℕ) (m : ℕ) → CutLast (r .taken) k earlier m later ⊎ CutBefore (r .taken) k earlier m later
+      → InTurn (tabled (r .table)) earlier m
+  turns earlier later m (inl h) =
+      rw (h .before, h .last)
+      (record {
+        stand = λ t i. subst (λ (l : List Entry). In t l) (b .along) (a .standing t i);
+        unmade = λ x o y. new-label x o (subst (λ (l : List ℕ). In x l) (sym (b .marks)) y);
+      })
+  turns earlier later m (inr h) = b .in-turn earlier (h .fewer) m (h .split)
+
   cut : rest ≡ retire j (r .standing)
   cut = by-label j (r .standing) (b .once) (a .standing)
 
@@ -275,6 +290,7 @@ module _ (r : Register) (k : ℕ) (b : Books r) (h : k < length (r .table)) (a :
         (in-snoc (r .taken) k i m);
     makers-once = λ i m x p q o n. one-maker i m x (in-snoc (r .taken) k i p) (in-snoc (r .taken) k m q) o n;
     creators = λ m p t i. created m (in-snoc (r .taken) k m p) t i;
+    in-turn = λ earlier later m e. turns earlier later m (cut-last (r .taken) k earlier m later e);
     once = rw (map-append (λ (t : Entry). t .label) rest (outputTapes j))
         (distinct-append (labels rest) (labels (outputTapes j))
         (distinct-map-keep (λ (t : Entry). t .label) (λ t. not (anyIn (λ s. sameTape s t) (inputTapes j))) (r .standing) (b .once)) outputs-once
@@ -324,6 +340,18 @@ books-enter r bytes b =
               makes = rw (e (o .creator) (creator-in o)) (c .makes);
             };
             only = λ i p q. o .only i p (rw (e i p) at q);
+          };
+      in-turn = λ earlier later k q.
+          let c = b .in-turn earlier later k q in
+          let old : (m : ℕ) → In m earlier
+          → tabled (r .table ++ (bytes ∷ [])) m ≡ tabled (r .table) m = λ (m : ℕ) (i : In m earlier). e m
+          (subst (λ (l : List ℕ). In m l) (sym q) (in-left earlier (k ∷ later) m i)) in
+          let now = e k (subst (λ (l : List ℕ). In k l) (sym q) (in-right earlier (k ∷ later) k (inl refl))) in
+          record {
+            stand = λ t i. rw (standing-jobs (tabled (r .table)) (tabled (r .table ++ (bytes ∷ []))) [] earlier old) (c .stand t (rw now at i));
+            unmade = λ x o y.
+                c .unmade x (rw now at o)
+                (subst (λ (l : List ℕ). In x l) (made-jobs (tabled (r .table)) (tabled (r .table ++ (bytes ∷ []))) earlier old) y);
           };
       once = b .once;
       along = b .along ∙ sym (standing-jobs (tabled (r .table)) (tabled (r .table ++ (bytes ∷ []))) [] (r .taken) e);

@@ -1,6 +1,6 @@
 -- Demand 3: the invariant holds at the start, each step of any list keeps it, and it says all that the statement asks.
 use mathlib.Core.Bool.{Bool, false, true, true≢false}
-use mathlib.Core.List.{List, [], _∷_}
+use mathlib.Core.List.{List, [], _++_, _∷_}
 use mathlib.Core.Logic.{inl, inr, ⊎-elim}
 use mathlib.Core.Path.{_∙_, _≡_, ap, refl, subst, sym}
 use Prim.Native.Nat.{_+_, _<_, _^_, _≤_, suc, zero, ℕ}
@@ -34,11 +34,11 @@ use Rattle.ledger.proofs.Places.{examined-length}
 use Rattle.ledger.proofs.Refusals.{never-one}
 use Rattle.ledger.proofs.Safety.{certified-apart, meeting}
 use Rattle.ledger.proofs.Views.{heldAt, signedAt, votedAt}
-use Rattle.ledger.specs.Demand3.{Apart, Demand3, Disjoint, FirstVersion, Held, Holds, accessionedAlong, madeAlong, recordsIn}
-use Rattle.ledger.specs.Demand3.{standingAlong, trimmedAlong}
+use Rattle.ledger.specs.Demand3.{Apart, Besides, Demand3, Disjoint, FirstVersion, Held, InTurn, SingleRegister, accessionedAlong}
+use Rattle.ledger.specs.Demand3.{bookedJob, madeAlong, recordsIn, standingAlong, trimmedAlong}
 use Rattle.federation.specs.Federation.{Lawful, thresholdOf}
 use Rattle.ledger.specs.Register.{Register, feed, feedAll, isDone, log, newRegister, tabled}
-use Rattle.ledger.specs.State.{acknowledgersOf, booking, counted, newLedger, signersOf, vaultAt, versionOf}
+use Rattle.ledger.specs.State.{acknowledgersOf, arrived, booking, counted, newLedger, signersOf, vaultAt, versionOf}
 use Rattle.ledger.specs.State.{visited, voted, votesIn, withVault}
 use Rattle.vaults.specs.Vaults.{newVault}
 use Rattle.vaults.specs.Votes.{columnOf, noVotes}
@@ -168,27 +168,42 @@ module _ {w : World} {r : Register} (i : Inv w r) where
   job = tabled (r .table)
 
   -- the law of frames along a list
-  abbrev Balanced : List ℕ → Type 0
-  Balanced ks = framesIn (standingAlong job ks) + trimmedAlong job ks ≡ accessionedAlong job ks
+  abbrev Balanced : (ℕ → Job) → List ℕ → Type 0
+  Balanced job ks = framesIn (standingAlong job ks) + trimmedAlong job ks ≡ accessionedAlong job ks
 
-  pub inv-holds : (s : Settings) → w .ledger .settings ≡ s → Holds s w r
-  inv-holds s e = record {
-    settings = e;
-    running = i .running;
-    taken = i .taken;
+  -- along the register's list it is the law of what the register keeps
+  balanced : Balanced job (r .taken)
+  balanced = ap (λ (st : List Entry). framesIn st + trimmedAlong job (r .taken)) (sym (i .books .along)) ∙ i .books .frames ∙ i .books .mints
+
+  -- what is said of the register's table and list is said of the booked jobs and the arrival order
+  of-order : (P : (ℕ → Job) → List ℕ → Type 0) → P job (r .taken) → P (bookedJob w) (arrived (w .ledger))
+  of-order P p = subst (λ (t : List (List ℕ)). P (tabled t) (arrived (w .ledger))) (i .table) (subst (P job) (i .taken) p)
+
+  pub inv-register : SingleRegister w r
+  inv-register = record {
     taken-held = i .taken-held;
     held-taken = λ k h. let q = held-by (w .ledger) k h in i .held-taken (q .0) k (q .1);
     table = i .table;
+    running = i .running;
+    frames-along = of-order Balanced balanced;
+  }
+
+  abbrev InTurns : (ℕ → Job) → List ℕ → Type 0
+  InTurns job ks = (earlier later : List ℕ) (k : ℕ) → ks ≡ earlier ++ (k ∷ later) → InTurn job earlier k
+
+  pub inv-besides : (s : Settings) → w .ledger .settings ≡ s → Besides s w r
+  inv-besides s e = record {
+    settings = e;
+    taken = i .taken;
+    once = i .once;
+    known = i .books .known;
     records-once = i .unique;
     checked = λ x m. subst (λ (v : ℕ). examined v x ≡ Pass) (i .version) (i .fit x m);
-    known = i .books .known;
-    once = i .once;
+    in-turn = of-order InTurns (i .books .in-turn);
     standing = subst (λ (ks : List ℕ). r .standing ≡ standingAlong (tabled (r .table)) ks) (i .taken) (i .books .along);
     made = subst (λ (ks : List ℕ). r .made ≡ madeAlong (tabled (r .table)) ks) (i .taken) (i .books .marks);
     accessioned = subst (λ (ks : List ℕ). r .accessioned ≡ accessionedAlong (tabled (r .table)) ks) (i .taken) (i .books .mints);
     frames = i .books .frames;
-    frames-along = subst Balanced (i .taken)
-        (ap (λ (st : List Entry). framesIn st + trimmedAlong job (r .taken)) (sym (i .books .along)) ∙ i .books .frames ∙ i .books .mints);
     creators = i .books .creators;
     certified = finished-certified;
   }
@@ -206,9 +221,10 @@ never-ones (e ∷ es) w r i o m =
 -- ---- demand 3
 pub demand3 : Demand3
 demand3 n b faulty version lawful es =
-    let i : Inv (start n b faulty version) (newRegister version) = first n b faulty version lawful in (
-      inv-holds (along es (start n b faulty version) (newRegister version) i) _
-          (settings-along es (start n b faulty version) (newRegister version) i ∙ settings-first n b faulty version),
+    let i : Inv (start n b faulty version) (newRegister version) = first n b faulty version lawful in
+    let last = along es (start n b faulty version) (newRegister version) i in (
+      inv-register last,
+      inv-besides last _ (settings-along es (start n b faulty version) (newRegister version) i ∙ settings-first n b faulty version),
       never-ones es (start n b faulty version) (newRegister version) i,
     )
 
@@ -218,7 +234,7 @@ no-total f [] e = refl
 no-total f (k ∷ ks) e = omega (arith, e k (inl refl), no-total f ks (λ m i. e m (inr i)))
 
 -- a record that has no place for trimmed frames says none
-untrimmed : {s : Settings} {w : World} {r : Register} → Holds s w r → versionOf (w .ledger) ≡ 1 → trimmedAlong (tabled (r .table)) (r .taken) ≡ 0
+untrimmed : {s : Settings} {w : World} {r : Register} → Besides s w r → versionOf (w .ledger) ≡ 1 → trimmedAlong (tabled (r .table)) (r .taken) ≡ 0
 unfolding saysTrimmed
 untrimmed {s} {w} {r} h v =
     no-total (λ k. tabled (r .table) k .trimmed) (r .taken)
@@ -227,8 +243,13 @@ untrimmed {s} {w} {r} h v =
 
 pub first-version : FirstVersion
 first-version n b faulty lawful es =
-    let h = demand3 n b faulty 1 lawful es .0 in
-    omega (arith, h .frames, untrimmed h (ap (λ (s : Settings). s .version) (h .settings)))
+    let d = demand3 n b faulty 1 lawful es in
+    let h = d .1 in
+    let i = along es (start n b faulty 1) (newRegister 1) (first n b faulty 1 lawful) in
+    let none = untrimmed h (ap (λ (s : Settings). s .version) (h .settings)) in (
+      omega (arith, d .0 .frames-along, of-order i (λ (job : ℕ → Job) (ks : List ℕ). trimmedAlong job ks ≡ 0) none),
+      omega (arith, h .frames, none),
+    )
 
 -- two jobs that correct vaults hold were each signed by a quorum, and a correct vault signed both and released neither
 pub disjoint : Disjoint

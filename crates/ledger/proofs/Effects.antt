@@ -106,7 +106,7 @@ module _ (l : Ledger) (v k : ℕ) where
   unfolding held
   hold-arrives = arrives kept k
 
-  kept-vaults : held l v k .vaults ≡ set (l .vaults) v holder
+  pub kept-vaults : held l v k .vaults ≡ set (l .vaults) v holder
   unfolding voted withVault
   kept-vaults = hold-arrives .vaults
 

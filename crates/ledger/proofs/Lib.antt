@@ -9,6 +9,7 @@ pub mod Demand3
 pub mod Dependencies
 pub mod Effects
 pub mod Equivocation
+pub mod EveryVisit
 pub mod Gates
 pub mod Growth
 pub mod Holders
@@ -26,7 +27,10 @@ pub mod Releases
 pub mod Rivals
 pub mod Rounds
 pub mod Safety
+pub mod Snapshots
+pub mod Splits
 pub mod Unchanged
 pub mod Unnamed
 pub mod Views
+pub mod Words
 pub mod Writes

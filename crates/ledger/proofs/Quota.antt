@@ -10,12 +10,14 @@ use native.Mathlib.Omega.{arith}
 use lib.Dec.{eqb}
 use lib.ListN.{getD, set}
 use lib.Seq.{getD-set-other, getD-set-same}
-use borrow.Author.Tests.{eq-eqb, ltb-true, ne-eqb}
+use borrow.Author.Tests.{eq-eqb, eqb-true, ltb-true, ne-eqb}
 use Rattle.base.proofs.Reflect.{and-true, by-cases, not-true-false}
+use Rattle.outcome.specs.Figures.{numberOf}
+use Rattle.outcome.specs.declared.Outcome.{Outcome}
 use Rattle.outcome.specs.declared.Refusal.the-variants.{NoClient, OverQuota}
 use Rattle.outcome.specs.declared.Verdict.{Verdict}
 use Rattle.outcome.specs.declared.Verdict.the-variants.{Fail, Pass}
-use Rattle.quota.proofs.Windows.{Ruled, bits, patience, remembers, spent-is, window}
+use Rattle.quota.proofs.Windows.{Ruled, bits, patience, recovers, remembers, spent-is, window}
 use Rattle.quota.specs.Asks.{Ask, spends}
 use Rattle.quota.specs.Quota.{historyPlace, isClient, isSpent, remembered}
 use Rattle.job_sets.specs.Jobs.{jobHas}
@@ -338,6 +340,19 @@ deciding v c w sh past h e k q t =
     ∙ (n .over ∙ (n .decides ∙ ap (λ (b : Bool). not (signedIn w v k) && b) (ap isSpent (h .bits (n .vault) (n .client)) ∙ spent-is past))))
     (comes (w .ledger) (w .booked) sh (lent w e) v k c)
 
+-- a refusal by the quota counts
+over-counts : (answer : Outcome) → isOver answer ≡ true → counts answer ≡ true
+over-counts answer o = rw (eqb-true (numberOf answer) 23 o) refl
+
+-- so the next request is not refused by the quota where the past does not spend it, whether that request counts or not
+unspent : (v c : ℕ) (w : World) → Shape (w .ledger) (w .booked) → (past : List Ask) → Kept v c w past → spends past ≡ false
+    → (e : Event) (k : ℕ) → e .request ≡ clientPreflight v k c → isOver (replyTo w e .outcome) ≡ false
+unspent v c w sh past h n e k q =
+    not-true-false (isOver (replyTo w e .outcome))
+    (λ o.
+    let both = and-true (not (signedIn w v k)) (spends past) (sym (deciding v c w sh past h e k q (over-counts (replyTo w e .outcome) o)) ∙ o) in
+    true≢false (sym (both .1) ∙ n))
+
 -- ---- a preflight, and the quota besides
 module _ (l : Ledger) (journal : List ℕ) (v k c : ℕ) where
   abbrev plain : Bool
@@ -398,4 +413,6 @@ quota n b faulty version lawful es v c =
       decides = deciding v c (afterAll w₀ es) (along es w₀ (newRegister version) i₀ .shape) _ h;
       grants = granting v c (afterAll w₀ es) (along es w₀ (newRegister version) i₀ .shape) _ h;
       patience = patience _ (h .ruled);
+      again = λ s older whole none twelve.
+          unspent v c (afterAll w₀ es) (along es w₀ (newRegister version) i₀ .shape) _ h (ap spends whole ∙ recovers s older none twelve);
     }

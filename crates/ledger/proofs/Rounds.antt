@@ -1,7 +1,7 @@
 -- A round of the snapshot. After i visits the jobs seen include what the first i vaults held when it began, since what is held stays held, and each of them is
--- held by a correct vault, since it was when it was seen. Every other step leaves both the jobs seen and whose turn it is.
-use mathlib.Core.Bool.{Bool, cond, false, true, true≢false}
-use mathlib.Core.List.{List, [], _++_, _∷_}
+-- held by a correct vault, since it was when it was seen.
+use mathlib.Core.Bool.{cond, false, true}
+use mathlib.Core.List.{List, [], _∷_}
 use mathlib.Core.Logic.{⊎-elim}
 use mathlib.Core.Path.{_∙_, _≡_, ap, refl, subst, sym}
 use Prim.Native.Nat.{_+_, _<_, _≤_, suc, ℕ}
@@ -16,98 +16,19 @@ use Rattle.job_sets.specs.Jobs.{jobCount, jobHas}
 use Rattle.job_sets.specs.declared.job_set.JobSet.{JobSet}
 use Rattle.snapshot.proofs.Visits.{begins-anew, goes-on, sees-held, sees-only, sees-still}
 use Rattle.federation.specs.declared.Settings.{Settings}
-use Rattle.ledger.proofs.Changes.{Change, Idle, Shape, appends, changes, counts, grants, holds, idle, nothing, releases}
-use Rattle.ledger.proofs.Changes.{seenNext, sees, shape-sane, signs, votes}
+use Rattle.ledger.proofs.Changes.{changes, seenNext}
 use Rattle.ledger.proofs.Demand3.{along, first, kept, same-settings, settings-along, settings-first}
-use Rattle.ledger.proofs.Effects.{hold-next, hold-seen}
-use Rattle.ledger.proofs.Gates.{reflect-sane}
+use Rattle.ledger.proofs.EveryVisit.{answered}
 use Rattle.ledger.proofs.Growth.{grow}
 use Rattle.ledger.proofs.Invariant.{Inv, Keeps, still}
+use Rattle.ledger.proofs.Snapshots.{Untouched, after-append, left, made}
 use Rattle.ledger.proofs.Views.{heldAt}
-use Rattle.ledger.specs.Decisions.{snapshotting}
 use Rattle.ledger.specs.Demand3.{Held, HeldBy}
 use Rattle.ledger.specs.Register.{Register, isDone, newRegister}
 use Rattle.ledger.specs.Rounds.{Rounds, isSnapshot, visits}
-use Rattle.ledger.specs.State.{booking, counted, vaultAt, visited, voted, withVault}
-use Rattle.ledger.specs.Steps.{saneGate, snapshotDecision}
-use Rattle.ledger.specs.Worlds.{
-  Event,
-  Request,
-  World,
-  after,
-  afterAll,
-  clientPreflight,
-  commit,
-  dependencies,
-  equivocating,
-  faultyVote,
-  generations,
-  preflight,
-  propose,
-  release,
-  replyTo,
-  show,
-  snapshot,
-  start,
-}
+use Rattle.ledger.specs.State.{vaultAt, visited}
+use Rattle.ledger.specs.Worlds.{Event, World, after, afterAll, replyTo, snapshot, start}
 use Rattle.ledger.specs.declared.Ledger.{Ledger}
-
--- ---- what a step does to the snapshot
-record Untouched (l l′ : Ledger) : Type 0 where
-  next : l′ .next ≡ l .next
-  seen : l′ .seen ≡ l .seen
-
--- a visit that is answered 0 makes its own change, and every other step leaves the snapshot
-abbrev Turned : World → Bool → Bool → World → Type 0
-Turned w visit done w′ =
-    cond visit (done ≡ true → w′ .ledger ≡ visited (w .ledger) (seenNext (w .ledger))) (Untouched (w .ledger) (w′ .ledger))
-
-untouched : (w : World) (visit done : Bool) → (visit ≡ true → done ≡ true → ⊥) → Turned w visit done w
-untouched w true done n = λ d. absurd (n refl d)
-untouched w false done n = record { next = refl; seen = refl }
-
-is-snapshot : (q : Request) → isSnapshot q ≡ true → q ≡ snapshot
-is-snapshot (propose bytes) e = absurd (true≢false (sym e))
-is-snapshot (preflight v k) e = absurd (true≢false (sym e))
-is-snapshot (commit v k signers) e = absurd (true≢false (sym e))
-is-snapshot (faultyVote c v k) e = absurd (true≢false (sym e))
-is-snapshot (show k) e = absurd (true≢false (sym e))
-is-snapshot (generations k) e = absurd (true≢false (sym e))
-is-snapshot snapshot e = refl
-is-snapshot (release v k rival) e = absurd (true≢false (sym e))
-is-snapshot (dependencies v k) e = absurd (true≢false (sym e))
-is-snapshot (clientPreflight v k client) e = absurd (true≢false (sym e))
-is-snapshot equivocating e = absurd (true≢false (sym e))
-
-turned : (w : World) (q : Request) (done : Bool) (w′ : World) → Change w q done w′ → Turned w (isSnapshot q) done w′
-unfolding booking counted voted withVault
-turned w q done w′ (nothing p) = untouched w (isSnapshot p) false (λ _ d. true≢false (sym d))
-turned w q done w′ (idle p m) = untouched w (isSnapshot p) true (λ e _. subst (Idle w) (is-snapshot p e) m)
-turned w q done w′ (appends bytes e h n) = record { next = refl; seen = refl }
-turned w q done w′ (signs v k c h u) = record { next = refl; seen = refl }
-turned w q done w′ (votes d v k h f b) = record { next = refl; seen = refl }
-turned w q done w′ (holds v k signers c h e) = record { next = hold-next (w .ledger) v k; seen = hold-seen (w .ledger) v k }
-turned w q done w′ sees = λ _. refl
-turned w q done w′ (releases v k m c s h n) = record { next = refl; seen = refl }
-turned w q done w′ (counts v k client d h) = record { next = refl; seen = refl }
-turned w q done w′ (grants v k client h c b u) = record { next = refl; seen = refl }
-
--- a sane ledger answers a visit with the number of jobs seen
-answered : (w : World) → Shape (w .ledger) (w .booked) → (e : Event) → e .request ≡ snapshot → replyTo w e .outcome ≡ Done (jobCount (seenNext (w .ledger)))
-unfolding snapshotDecision snapshotting saneGate
-answered w sh e q = simp (q, reflect-sane (w .ledger) .complete (shape-sane sh))
-
--- so its change is made
-made : (w : World) → Shape (w .ledger) (w .booked) → (e : Event) → isSnapshot (e .request) ≡ true
-    → after w e .ledger ≡ visited (w .ledger) (seenNext (w .ledger))
-made w sh e q =
-    subst (λ (b : Bool). Turned w b (isDone (replyTo w e .outcome)) (after w e)) q
-    (turned w (e .request) (isDone (replyTo w e .outcome)) (after w e) (changes w sh e)) (ap isDone (answered w sh e (is-snapshot (e .request) q)))
-
-left : (w : World) → Shape (w .ledger) (w .booked) → (e : Event) → isSnapshot (e .request) ≡ false → Untouched (w .ledger) (after w e .ledger)
-left w sh e q =
-    subst (λ (b : Bool). Turned w b (isDone (replyTo w e .outcome)) (after w e)) q
-    (turned w (e .request) (isDone (replyTo w e .outcome)) (after w e) (changes w sh e))
 
 -- ---- the round
 module _ (n : ℕ) (l₀ : Ledger) (count : l₀ .settings .n ≡ n) where
@@ -192,10 +113,6 @@ module _ (n : ℕ) (l₀ : Ledger) (count : l₀ .settings .n ≡ n) where
       let next = passes i (w .ledger) (after w e .ledger) m (left w (inv .shape) e q) (still-held w r inv e) in
       through es (after w e) _ inv′ s′ i next c)
       refl c
-
-after-append : (xs ys : List Event) (w : World) → afterAll w (xs ++ ys) ≡ afterAll (afterAll w xs) ys
-after-append [] ys w = refl
-after-append (x ∷ xs) ys w = after-append xs ys (after w x)
 
 -- at the end of a round, of the world in which it began
 ended : (n : ℕ) (w : World) (r : Register) → Inv w r → (size : w .ledger .settings .n ≡ n) → w .ledger .next ≡ 0 → (rs : List Event) → visits rs ≡ n

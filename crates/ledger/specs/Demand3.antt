@@ -86,30 +86,47 @@ pub record OneCreator (job : ℕ → Job) (ks : List ℕ) (m : ℕ) (t : Entry) 
   pub made : MadeBefore job ks m t creator
   pub only : (k : ℕ) → In k ks → In t (outputTapes (job k)) → k ≡ creator
 
--- ---- the statement: of the settings at the start, and of the world and the register at the end
-pub record Holds (s : Settings) (w : World) (r : Register) : Type 0 where
-  -- no step changes the settings
-  pub settings : w .ledger .settings ≡ s
-  -- "the register never stops"
-  pub running : r .running ≡ true
-  -- jobs held and jobs taken, "compared by number and by record"
-  pub taken : r .taken ≡ arrived (w .ledger)
+-- where the job k comes after the earlier ones: its input tapes stand among what they left, label and frames, and they made none of its output labels
+pub record InTurn (job : ℕ → Job) (earlier : List ℕ) (k : ℕ) : Type 0 where
+  pub stand : (t : Entry) → In t (inputTapes (job k)) → In t (standingAlong job earlier)
+  pub unmade : (x : ℕ) → In x (labels (outputTapes (job k))) → In x (madeAlong job earlier) → ⊥
+
+-- the job booked under a number
+abbrev pub bookedJob : World → ℕ → Job
+bookedJob w k = tabled (recordsIn (versionOf (w .ledger)) (w .ledger .booked) (w .booked)) k
+
+-- ---- the statement: of the world and the register at the end
+pub record SingleRegister (w : World) (r : Register) : Type 0 where
+  -- the jobs that correct vaults hold are exactly those that the register has taken, by number
   pub taken-held : (k : ℕ) → In k (r .taken) → Held (w .ledger) k
   pub held-taken : (k : ℕ) → Held (w .ledger) k → In k (r .taken)
+  -- and by record
   pub table : r .table ≡ recordsIn (versionOf (w .ledger)) (w .ledger .booked) (w .booked)
+  -- "the register never stops"
+  pub running : r .running ≡ true
+  -- "frames standing plus frames trimmed by the jobs in arrival order equal frames accessioned" (M-102)
+  pub frames-along : framesIn (standingAlong (bookedJob w) (arrived (w .ledger))) + trimmedAlong (bookedJob w) (arrived (w .ledger))
+      ≡ accessionedAlong (bookedJob w) (arrived (w .ledger))
+
+-- what holds besides, of the settings at the start too
+pub record Besides (s : Settings) (w : World) (r : Register) : Type 0 where
+  -- no step changes the settings
+  pub settings : w .ledger .settings ≡ s
+  -- the register's list is the arrival order, "each job counted once"
+  pub taken : r .taken ≡ arrived (w .ledger)
+  pub once : Distinct (r .taken)
+  pub known : (k : ℕ) → In k (r .taken) → k < length (r .table)
+  -- no record is booked twice, and each passes checks 6 to 9
   pub records-once : Distinct (r .table)
   pub checked : (bytes : List ℕ) → In bytes (r .table) → examined (versionOf (w .ledger)) bytes ≡ Pass
-  pub known : (k : ℕ) → In k (r .taken) → k < length (r .table)
-  -- "each job counted once"
-  pub once : Distinct (r .taken)
-  -- the tapes standing, the labels made and the frames accessioned are those that are defined along the arrival order
+  -- along the arrival order, wherever it is cut: each job finds its inputs standing and its output labels unmade
+  pub in-turn : (earlier later : List ℕ) (k : ℕ) → arrived (w .ledger) ≡ earlier ++ (k ∷ later) → InTurn (bookedJob w) earlier k
+  -- the tapes standing, the labels made and the frames accessioned are those that are defined along it
   pub standing : r .standing ≡ standingAlong (tabled (r .table)) (arrived (w .ledger))
   pub made : r .made ≡ madeAlong (tabled (r .table)) (arrived (w .ledger))
   pub accessioned : r .accessioned ≡ accessionedAlong (tabled (r .table)) (arrived (w .ledger))
-  -- "frames standing plus frames trimmed by the jobs in arrival order equal frames accessioned" (M-102): of the register's list, and of the order
+  -- so the sum is right of what the register keeps
   pub frames : framesIn (r .standing) + trimmedAlong (tabled (r .table)) (r .taken) ≡ r .accessioned
-  pub frames-along : framesIn (standingAlong (tabled (r .table)) (arrived (w .ledger))) + trimmedAlong (tabled (r .table)) (arrived (w .ledger))
-      ≡ accessionedAlong (tabled (r .table)) (arrived (w .ledger))
   -- generations rest on it
   pub creators : (k : ℕ) → In k (r .taken) → (t : Entry) → In t (inputTapes (tabled (r .table) k)) → OneCreator (tabled (r .table)) (r .taken) k t
   -- a finished job is certified
@@ -119,15 +136,20 @@ pub record Holds (s : Settings) (w : World) (r : Register) : Type 0 where
 abbrev pub Demand3 : Type 0
 Demand3 =
     (n b faulty version : ℕ) → Lawful (record { n = n; b = b; faulty = faulty; version = version }) → (es : List Event)
-    → Holds (record { n = n; b = b; faulty = faulty; version = version }) (afterAll (start n b faulty version) es)
-    (feedAll (newRegister version) (log (start n b faulty version) es))
+    → let w = afterAll (start n b faulty version) es in
+    let r = feedAll (newRegister version) (log (start n b faulty version) es) in
+    SingleRegister w r
+    × Besides (record { n = n; b = b; faulty = faulty; version = version }) w r
     × ((o : Outcome) → In o (outcomes (start n b faulty version) es) → numberOf o ≡ 1 → ⊥)
 
--- of a list over version 1 records, which trim nothing: "frames standing equal frames accessioned"
+-- of a list over version 1 records, which trim nothing: "frames standing equal frames accessioned", along the arrival order and of what the register keeps
 abbrev pub FirstVersion : Type 0
 FirstVersion =
     (n b faulty : ℕ) → Lawful (record { n = n; b = b; faulty = faulty; version = 1 }) → (es : List Event)
-    → let r = feedAll (newRegister 1) (log (start n b faulty 1) es) in framesIn (r .standing) ≡ r .accessioned
+    → let w = afterAll (start n b faulty 1) es in
+    let r = feedAll (newRegister 1) (log (start n b faulty 1) es) in
+    (framesIn (standingAlong (bookedJob w) (arrived (w .ledger))) ≡ accessionedAlong (bookedJob w) (arrived (w .ledger)))
+    × (framesIn (r .standing) ≡ r .accessioned)
 
 -- ---- for readers
 
@@ -135,10 +157,6 @@ FirstVersion =
 pub record Apart (a c : Job) : Type 0 where
   pub inputs : (x : ℕ) → In x (labels (inputTapes a)) → In x (labels (inputTapes c)) → ⊥
   pub outputs : (x : ℕ) → In x (labels (outputTapes a)) → In x (labels (outputTapes c)) → ⊥
-
--- the job booked under a number
-abbrev pub bookedJob : World → ℕ → Job
-bookedJob w k = tabled (recordsIn (versionOf (w .ledger)) (w .ledger .booked) (w .booked)) k
 
 -- no two jobs that correct vaults hold, be it different vaults, retire the same label or make the same label
 abbrev pub Disjoint : Type 0

@@ -1,15 +1,19 @@
 -- What kind 13 answers (document 02, M-113): "Every vault that the rule names is listed, and no other", of any books; and of books that a list of steps leaves,
--- "A sound vault is never listed, releases included".
-use mathlib.Core.Bool.{false}
+-- "A sound vault is never listed, releases included", so that at most b are.
+use mathlib.Core.Bool.{false, true}
 use mathlib.Core.List.{List}
 use mathlib.Core.Path.{_≡_}
 use Prim.Native.Nat.{_<_, _≤_, ℕ}
 use lib.ListN.{length}
+use Rattle.base.specs.Lists.{Distinct, In}
 use Rattle.base.specs.Reflect.{Reflects}
 use Rattle.codec.specs.Codec.{placeOf}
 use Rattle.federation.specs.Federation.{Lawful}
+use Rattle.federation.specs.declared.Settings.{Settings}
 use Rattle.journal.specs.Journal.{jobAt}
+use Rattle.outcome.specs.Figures.{valueOf}
 use Rattle.outcome.specs.declared.Refusal.the-variants.{NotBooked, Settings as BadSettings}
+use Rattle.sets.specs.Bits.{hasBit}
 use Rattle.job_sets.specs.Jobs.{InWords, jobHas}
 use Rattle.job_sets.specs.declared.job_set.JobSet.{JobSet}
 use Rattle.ledger.specs.Decisions.{listing, unlisted}
@@ -52,3 +56,18 @@ abbrev pub CorrectNeverNamed : Type 0
 CorrectNeverNamed =
     (n b faulty version : ℕ) → Lawful (record { n = n; b = b; faulty = faulty; version = version }) → (es : List Event) (v : ℕ)
     → Correct (record { n = n; b = b; faulty = faulty; version = version }) v → Unnamed (afterAll (start n b faulty version) es) v
+
+-- the listed vaults are faulty ones, so there are at most b
+pub record FewListed (s : Settings) (answer : Listing) : Type 0 where
+  pub faulty : (v : ℕ) → jobHas (answer .members) v ≡ true → hasBit (s .faulty) v ≡ true
+  -- no list of different ones is longer than b
+  pub few : (vs : List ℕ) → Distinct vs → ((v : ℕ) → In v vs → jobHas (answer .members) v ≡ true) → length vs ≤ s .b
+  -- "the number of vaults listed"
+  pub value : valueOf (answer .outcome) ≤ s .b
+
+-- wherever a list of steps has led, and whatever journal is lent
+abbrev pub AtMostB : Type 0
+AtMostB =
+    (n b faulty version : ℕ) → Lawful (record { n = n; b = b; faulty = faulty; version = version }) → (es : List Event) (size : ℕ) (beyond : List ℕ)
+    → let w = afterAll (start n b faulty version) es in
+    FewListed (record { n = n; b = b; faulty = faulty; version = version }) (equivocatorsOf (w .ledger) (lend (w .booked) size beyond))

@@ -1,7 +1,7 @@
 -- The quota of a client at a vault (document 02, "A fair quota for each desk"), over lists of steps and read from outside: from the requests, the answers, and
 -- whether the job was signed there before and after.
 use mathlib.Core.Bool.{Bool, _&&_, _||_, cond, false, not, true}
-use mathlib.Core.List.{List, [], _∷_}
+use mathlib.Core.List.{List, [], _++_, _∷_}
 use mathlib.Core.Path.{_≡_}
 use Prim.Native.Nat.{_≤_, ℕ}
 use lib.Dec.{eqb}
@@ -9,7 +9,7 @@ use lib.ListN.{length}
 use Rattle.federation.specs.Federation.{Lawful}
 use Rattle.outcome.specs.Figures.{numberOf}
 use Rattle.outcome.specs.declared.Outcome.{Outcome}
-use Rattle.quota.specs.Asks.{AllOver, Ask, Stretch, news, spends}
+use Rattle.quota.specs.Asks.{AllOver, Ask, NoNews, Stretch, news, spends}
 use Rattle.quota.specs.Quota.{isClient}
 use Rattle.job_sets.specs.Jobs.{jobHas}
 use Rattle.ledger.specs.Refused.{isCounted}
@@ -91,6 +91,9 @@ pub record Fair (v c : ℕ) (w : World) (past : List Ask) : Type 0 where
       ≡ (isClient c && (isDone (replyTo w (asPreflight v k e) .outcome) && (signedIn w v k || not (spends past))))
   -- "Whoever keeps asking comes within the quota again after at most twelve refusals by it."
   pub patience : (s : List Ask) → Stretch s past → AllOver s → length s ≤ 12
+  -- where its newest twelve counted requests there brought no new signature, repeats of signed jobs among them, the next one is not refused by the quota
+  pub again : (s older : List Ask) → past ≡ s ++ older → NoNews s → length s ≡ 12
+      → (e : Event) (k : ℕ) → e .request ≡ clientPreflight v k c → isOver (replyTo w e .outcome) ≡ false
 
 -- wherever a list of steps has led
 abbrev pub Quota : Type 0

@@ -2,13 +2,16 @@
 -- the jobs seen include all that sound vaults held when it began, and none that no sound vault holds when it ends."
 use mathlib.Core.Bool.{Bool, cond, false, true}
 use mathlib.Core.List.{List, [], _++_, _∷_}
+use mathlib.Core.Logic.{_↔_}
 use mathlib.Core.Path.{_≡_}
-use Prim.Native.Nat.{suc, ℕ}
+use Prim.Native.Nat.{_%_, _+_, _<_, suc, ℕ}
+use lib.ListN.{length}
+use Rattle.base.specs.Lists.{Distinct, In}
 use Rattle.outcome.specs.declared.Outcome.{Outcome}
 use Rattle.outcome.specs.declared.Outcome.the-variants.{Done}
 use Rattle.job_sets.specs.Jobs.{jobCount, jobHas}
 use Rattle.federation.specs.Federation.{Lawful}
-use Rattle.ledger.specs.Demand3.{Held}
+use Rattle.ledger.specs.Demand3.{Held, HeldBy}
 use Rattle.ledger.specs.Worlds.{Event, Request, World, afterAll, clientPreflight, commit, dependencies, equivocating, faultyVote, generations}
 use Rattle.ledger.specs.Worlds.{preflight, propose, release, replyTo, show, snapshot, start}
 
@@ -53,3 +56,33 @@ Rounds =
     → afterAll (start n b faulty version) es .ledger .next ≡ 0 → (rs : List Event) (r : Round n rs)
     → Counted (afterAll (start n b faulty version) es) (afterAll (afterAll (start n b faulty version) es) rs)
     (replyTo (afterAll (afterAll (start n b faulty version) es) (r .before)) (r .last) .outcome)
+
+-- ---- every visit: "The value is the number of different jobs seen in this round."
+
+-- The job is seen in the round of the list's last visit: at some visit of that round the visited vault was correct and held it. "visits the next vault, beginning at
+-- 0 .. After the last vault the following such step begins anew": a visit with so many before it comes to the remainder by n, and those after it are of its
+-- round as long as they have not come past the last vault.
+pub record SeenAlong (w : World) (es : List Event) (k : ℕ) : Type 0 where
+  pub before : List Event
+  pub visit : Event
+  pub later : List Event
+  pub split : es ≡ before ++ (visit ∷ later)
+  pub visits-here : visit .request ≡ snapshot
+  pub this-round : visits before % w .ledger .settings .n + visits later < w .ledger .settings .n
+  -- "sees the jobs held there; a step that comes to a faulty vault adds no job"
+  pub held : HeldBy (afterAll w before .ledger) k (visits before % w .ledger .settings .n)
+
+-- so many different jobs are seen
+pub record CountOf (Seen : ℕ → Type 0) (value : ℕ) : Type 0 where
+  pub jobs : List ℕ
+  pub once : Distinct jobs
+  pub each : (k : ℕ) → In k jobs ↔ Seen k
+  pub size : length jobs ≡ value
+
+-- after any list of steps a visit is answered 0, and its value is the number of different jobs seen in this round, itself included
+abbrev pub EveryVisit : Type 0
+EveryVisit =
+    (n b faulty version : ℕ) → Lawful (record { n = n; b = b; faulty = faulty; version = version }) → (es : List Event) (e : Event)
+    → e .request ≡ snapshot
+    → (value : ℕ) × (replyTo (afterAll (start n b faulty version) es) e .outcome ≡ Done value)
+    × CountOf (SeenAlong (start n b faulty version) (es ++ (e ∷ []))) value

@@ -1,6 +1,6 @@
 -- What the quota gives over any list of a client's counted requests. A request that brought a new signature had at most three among the fifteen before it, so
 -- sixteen in a row have at most four. A refusal by the quota had four among the fifteen before it; after twelve refusals in a row only three of those fifteen
--- can be others. The history's bits are the list's newest fifteen, so counting its ones counts them.
+-- can be others; and so after any twelve that brought none. The history's bits are the list's newest fifteen, so counting its ones counts them.
 use mathlib.Core.Bool.{Bool, cond, false, true}
 use mathlib.Core.List.{List, [], _++_, _∷_}
 use mathlib.Core.Logic.{inl, inr}
@@ -11,10 +11,9 @@ use native.Mathlib.Omega.{arith}
 use lib.Count.{ones, ones-step}
 use lib.Dec.{leb}
 use lib.ListN.{length, take}
-use borrow.Author.Tests.{leb-false, leb-true}
+use borrow.Author.Tests.{leb-false, leb-true, lt-leb}
 use Rattle.base.proofs.Reflect.{by-cases}
-use Rattle.base.specs.Lists.{In}
-use Rattle.quota.specs.Asks.{AllOver, Ask, Stretch, news, spends}
+use Rattle.quota.specs.Asks.{AllOver, Ask, NoNews, Recovers, Stretch, news, spends}
 use Rattle.quota.specs.Quota.{isSpent, remembered}
 
 -- ---- the bits of a history
@@ -109,7 +108,7 @@ news-few (suc k) [] = zero-le
 news-few (suc k) (a ∷ l) = let r = news-few k l in let s = bit-small a in omega arith
 
 -- requests that brought nothing leave fewer places
-news-stale : (k : ℕ) (ys zs : List Ask) → ((a : Ask) → In a ys → a .fresh ≡ false) → length ys ≤ k → news (take k (ys ++ zs)) + length ys ≤ k
+news-stale : (k : ℕ) (ys zs : List Ask) → NoNews ys → length ys ≤ k → news (take k (ys ++ zs)) + length ys ≤ k
 news-stale k [] zs h q = let r = news-few k zs in omega arith
 news-stale zero (y ∷ ys) zs h q = absurd (not-suc-le-zero q)
 news-stale (suc k) (y ∷ ys) zs h q =
@@ -117,7 +116,7 @@ news-stale (suc k) (y ∷ ys) zs h q =
     let r = news-stale k ys zs (λ a m. h a (inr m)) (omega arith) in
     omega arith
 
-stale : (ys zs : List Ask) → Ruled (ys ++ zs) → AllOver ys → (a : Ask) → In a ys → a .fresh ≡ false
+stale : (ys zs : List Ask) → Ruled (ys ++ zs) → AllOver ys → NoNews ys
 stale (y ∷ ys) zs (f, o, h) t a (inl e) = rw e (o (t y (inl refl)) .1)
 stale (y ∷ ys) zs (f, o, h) t a (inr m) = stale ys zs h (λ x i. t x (inr i)) a m
 
@@ -133,3 +132,7 @@ soon (y ∷ ys) zs (f, o, h) t =
 -- "Whoever keeps asking comes within the quota again after at most twelve refusals by it"
 pub patience : (l : List Ask) → Ruled l → (s : List Ask) → Stretch s l → AllOver s → length s ≤ 12
 patience l r s x t = soon s (x .older) (ruled-older (x .newer) (s ++ x .older) (subst Ruled (x .whole) r)) t
+
+-- at most three of the previous fifteen brought one
+pub recovers : Recovers
+recovers s older n h = let r = news-stale 15 s older n (omega (arith, h)) in lt-leb 4 (news (take 15 (s ++ older))) (omega (arith, h, r))

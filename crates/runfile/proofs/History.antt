@@ -17,11 +17,10 @@ use Rattle.federation.proofs.Lawful.{reflect-lawful}
 use Rattle.ledger.proofs.Effects.{applied-settings}
 use Rattle.ledger.proofs.Places.{examined-length, proposed}
 use Rattle.journal.proofs.Putting.{put-length}
-use Rattle.ledger.specs.Demand3.{Holds}
+use Rattle.ledger.specs.Demand3.{Besides, SingleRegister}
 use Rattle.federation.specs.Federation.{Lawful}
 use Rattle.federation.specs.declared.Settings.{Settings}
 use Rattle.ledger.specs.Meaning.{Proposed, failed, full, insane, known, new}
-use Rattle.ledger.specs.Register.{feedAll, log, newRegister}
 use Rattle.ledger.specs.State.{newLedger, versionOf}
 use Rattle.ledger.specs.Steps.{journalAfter, journalWith, proposeDecision}
 use Rattle.ledger.specs.Worlds.{Request, clientPreflight, commit, dependencies, equivocating, faultyVote, generations, preflight, propose, release, show}
@@ -29,7 +28,7 @@ use Rattle.ledger.specs.Worlds.{snapshot}
 use Rattle.ledger.specs.Worlds.{World, after as afterEvent, afterAll, leftBy, lend, lent, overlay, start, stepOf}
 use Rattle.ledger.specs.declared.Decision.{Decision}
 use Rattle.ledger.specs.declared.Ledger.{Ledger}
-use Rattle.runfile.specs.History.{Item, RunKeeps, begun, eventOf, events, itemOf, itemsNext, steps, told, worldOf, worldWith}
+use Rattle.runfile.specs.History.{Item, RunKeeps, begun, eventOf, events, itemOf, itemsNext, registerOf, steps, told, worldOf, worldWith}
 use Rattle.runfile.proofs.Turns.{runs-out}
 use Rattle.runfile.specs.Run.{Run, begins, commandOf, ended, isHeader, journalSize, lastFrom, longest, opened, opens, opensUpTo, runNext, turn}
 use Rattle.runfile.specs.Run.{textFrom, textNext, textOf, textUpTo, versionIn}
@@ -160,7 +159,7 @@ run-keeps input o =
       all = runs-out (length input - begins input .count) input (begins input) (omega arith);
       world = there;
       text = simp o (f .text ∙ ap (λ (w : World). told 0 w (steps input)) (sym (begun-world input)));
-      holds = subst (λ (w : World). Holds (opened input .settings) w
-          (feedAll (newRegister (versionIn input)) (log (begun input) (events (steps input))))) there (d .0);
-      never-one = d .1;
+      holds = subst (λ (w : World). SingleRegister w (registerOf input)) there (d .0);
+      besides = subst (λ (w : World). Besides (opened input .settings) w (registerOf input)) there (d .1);
+      never-one = d .2;
     }

@@ -1,4 +1,5 @@
 pub mod Demand1
 pub mod History
+pub mod Listings
 pub mod Run
 pub mod Steps
