@@ -72,8 +72,9 @@ use Rattle.ledger.specs.Steps.{
 use Rattle.vaults.specs.Vaults.{holding, signing, vaultPreflight}
 use Rattle.ledger.specs.Worlds.{Event, World, after, afterAll, commit, faultyVote, lend, outcomes, overlay, preflight, propose, show, snapshot, start}
 use Rattle.ledger.specs.Demand3.{recordsIn}
-use Rattle.consequences.specs.Ready.{Accepted, Accepts, AtEach, Ready, Round, Through}
-use Rattle.instances.proofs.Example.{accession, blank, lending, migration}
+use Rattle.consequences.specs.Ready.{Accepted, Accepts, Allowed, AtEach, Ready, Round, Through}
+use Rattle.instances.proofs.Example.{lending}
+use Rattle.instances.specs.Records.{accession, accessionBy, migration}
 use Rattle.consequences.proofs.Ready.{accepted-is-ready, ready-gets-through}
 use Rattle.ledger.proofs.Rivals.{peaceful-apart}
 use Rattle.federation.specs.Federation.{Lawful}
@@ -86,7 +87,7 @@ abbrev pub third-tape : List ℕ
 third-tape = 86 ∷ 65 ∷ 67 ∷ 48 ∷ 48 ∷ 49 ∷ 76 ∷ 55 ∷ 244 ∷ 1 ∷ 0 ∷ 0 ∷ []
 
 abbrev pub another : List ℕ
-another = (0 ∷ 7 ∷ 0 ∷ 1 ∷ []) ++ blank ++ blank ++ blank ++ blank ++ third-tape ++ blank ++ blank ++ blank
+another = accessionBy 7 third-tape
 
 -- job 0 is held at vaults 0, 1 and 2, and job 1 is booked
 abbrev pub past : List Event
@@ -145,8 +146,8 @@ other e = absurd (omega (arith, e))
 pub premises :
     Accepted world 7 1
     × AtEach 7 (λ v. jobHas (vaultAt (world .ledger) v .held) 1 ≡ false)
-    × Round (λ v. preflight v 1) world 7 1 preflights
-    × Round (λ v. commit v 1 7) (afterAll world preflights) 7 1 commits
+    × Round Allowed (λ v. preflight v 1) world 7 1 preflights
+    × Round Allowed (λ v. commit v 1 7) (afterAll world preflights) 7 1 commits
     × (outcomes world (preflights ++ (commits ++ (lending (show 1) ∷ [])))
     ≡ Done 1 ∷ Done 2 ∷ Done 2 ∷ Done 1 ∷ Done 1 ∷ Done 3 ∷ Done 1 ∷ Refused NotSigned ∷ Done 2 ∷ Done 2 ∷ Done 3 ∷ Done 2 ∷ [])
 unfolding sameList anyBelow allBelow firstBelow sumFrom hasBit withBit withMember withoutBit subsetOf jobHas jobWith jobWithout inputsFormed
