@@ -1,14 +1,13 @@
--- "Near each edge": C1 to C10, C7 and C8 in their two halves. A row has what is answered, by a definition that a contract cites, and the two
+-- "Near each edge": C1 to C10, C7, C8 and C10 in two halves. A row has what is answered, by a definition that a contract cites, and the two
 -- figures that document 01 gives for it; C9's value is that of M-103 of document 02, "Case C9 changes with it".
 use mathlib.Core.List.{List, [], _++_, _∷_}
 use Prim.Native.Nat.{_+_, ℕ}
-use lib.Count.{ones}
 use lib.ListN.{replicate}
 use Rattle.outcome.specs.Figures.{numberOf, valueOf}
 use Rattle.outcome.specs.declared.Outcome.{Outcome}
-use Rattle.outcome.specs.declared.Outcome.the-variants.{Done}
-use Rattle.ledger.specs.State.{newLedger}
-use Rattle.ledger.specs.Steps.{newOf, proposeOf}
+use Rattle.ledger.specs.State.{booking, newLedger, voted}
+use Rattle.ledger.specs.Steps.{commitOf, newOf, proposeOf}
+use Rattle.vaults.specs.declared.Column.the-variants.{Signatures}
 use Rattle.binomials.specs.Draw.{drawOf}
 
 pub record Row : Type 0 where
@@ -48,6 +47,12 @@ migration drive m o = (1 ∷ drive ∷ 1 ∷ 1 ∷ []) ++ (tape 86 m thousand ++
 abbrev pub proposal : List ℕ → Outcome
 proposal bytes = proposeOf (newLedger 4 1 0 1) (replicate 100 0) bytes .outcome
 
+-- job 0 is booked in a ledger of n vaults, b 1, and vaults 0, 1 and 3 have signed it; vault 0 is handed it with signers 11
+abbrev pub commitAt : ℕ → Outcome
+commitAt n =
+    let signed = voted (voted (voted (booking (newLedger n 1 0 1)) Signatures 0 0) Signatures 1 0) Signatures 3 0 in
+    commitOf signed (replicate 100 0) 0 0 11 .outcome
+
 abbrev pub drawAt : ℕ → ℕ → ℕ → Outcome
 drawAt n b u = drawOf (record { n = n; b = b; faulty = 0; version = 1 }) u
 
@@ -70,8 +75,9 @@ table =
     ∷ row 8 (drawAt 4 1 0) 0 0
     ∷ row 8 (drawAt 4 1 1) 0 750
     ∷ row 9 (drawAt 16 3 1) 0 812
-    -- signers 11 name three vaults
-    ∷ row 10 (Done (ones 11)) 0 3
+    -- signers 11 name three vaults: enough where three must sign, n 4, and too few where four must, n 5
+    ∷ row 10 (commitAt 4) 0 1
+    ∷ row 10 (commitAt 5) 16 0
     ∷ []
 
 -- the figures of each answer, and those that the documents give

@@ -1,6 +1,6 @@
 -- Acceptance lasts: what preflight accepts at a vault it goes on accepting, while the vault signs and holds no rival of the job. What check 11 found there
--- stays held, and what is new there has no label of the job. Beside it, what a step leaves that is answered 0: a preflight the vault's signature, a commit
--- the job held; and what a vault holds it has acknowledged.
+-- stays held, what is new there has no label of the job, and where no correct vault holds a rival of the job none can release it. Beside it, what a step leaves
+-- that is answered 0: a preflight the vault's signature, a commit the job held; and what a vault holds it has acknowledged.
 use mathlib.Core.Bool.{Bool, true, true≢false}
 use mathlib.Core.List.{List, [], _∷_}
 use mathlib.Core.Logic.{_≢_, _⊎_, inl, inr, ⊎-elim}
@@ -38,11 +38,12 @@ use Rattle.ledger.proofs.Growth.{grow}
 use Rattle.ledger.proofs.Invariant.{Inv}
 use Rattle.ledger.proofs.Lending.{records-length, records-snoc}
 use Rattle.ledger.proofs.Places.{examined-length}
+use Rattle.ledger.proofs.Rivals.{Rival}
 use Rattle.ledger.proofs.Views.{ackedAt, heldAt, recordedAt, signedAt, voted-added, votedAt}
-use Rattle.ledger.specs.Demand3.{Apart, bookedJob, recordsIn}
+use Rattle.ledger.specs.Demand3.{Apart, Correct, bookedJob, recordsIn}
 use Rattle.ledger.specs.Graph.{Algorithm1, Lister}
 use Rattle.consequences.specs.Ready.{NoRival, Spares}
-use Rattle.ledger.specs.Register.{Register, isDone}
+use Rattle.ledger.specs.Register.{Register, isDone, tabled}
 use Rattle.ledger.specs.State.{booking, counted, vaultAt, versionOf, visited, voted, votesIn, withVault}
 use Rattle.ledger.specs.Worlds.{Event, Request, World, after, clientPreflight, commit, dependencies, equivocating, faultyVote, generations, preflight}
 use Rattle.ledger.specs.Worlds.{propose, release, replyTo, show, snapshot}
@@ -51,6 +52,10 @@ use Rattle.ledger.specs.declared.History.{History}
 use Rattle.ledger.specs.declared.Ledger.{Ledger}
 use Rattle.vaults.specs.declared.Vault.{Vault}
 use Rattle.vaults.specs.declared.Column.the-variants.{Acknowledgements}
+
+-- no correct vault holds a rival of the job, so none can release it
+abbrev pub Unopposed : World → ℕ → Type 0
+Unopposed w j = (u k : ℕ) → Correct (w .ledger .settings) u → jobHas (vaultAt (w .ledger) u .held) k ≡ true → Rival (tabled (tableOf w)) k j → ⊥
 
 -- ---- what a vault holds it has acknowledged
 abbrev pub Acknowledged : Ledger → Type 0
@@ -198,32 +203,33 @@ module _ (w : World) (sh : Shape (w .ledger) (w .booked)) where
     unfolding counted heldAt signedAt
     spared-count m u h p = record { held = p .held; signed = p .signed; still = p .still }
 
-    spared : (q : Request) (done : Bool) (w′ : World) → Change w q done w′ → Spares w s j q → Spared (w′ .ledger)
+    spared : Unopposed w j → (q : Request) (done : Bool) (w′ : World) → Change w q done w′ → Spares w s j q → Spared (w′ .ledger)
     unfolding booking visited voted
-    spared q done w′ (nothing p) a = spared-as (w′ .ledger) refl
-    spared q done w′ (idle p m) a = spared-as (w′ .ledger) refl
-    spared q done w′ (appends bytes e h n) a = spared-as (w′ .ledger) refl
-    spared q done w′ (signs u k c h b) a = spared-sign u k (c .below) h a
-    spared q done w′ (votes e u k h f x) a = spared-as (w′ .ledger) refl
-    spared q done w′ (holds u k signers c h e) a = record {
+    spared free q done w′ (nothing p) a = spared-as (w′ .ledger) refl
+    spared free q done w′ (idle p m) a = spared-as (w′ .ledger) refl
+    spared free q done w′ (appends bytes e h n) a = spared-as (w′ .ledger) refl
+    spared free q done w′ (signs u k c h b) a = spared-sign u k (c .below) h a
+    spared free q done w′ (votes e u k h f x) a = spared-as (w′ .ledger) refl
+    spared free q done w′ (holds u k signers c h e) a = record {
       held = λ m t. ⊎-elim inl
           (λ e. let x = a (ap (hasBit s) (sym (e .0)) ∙ member) in inr (subst Away (sym (e .1)) (h, x .1 (x .0) h)))
           (hold-held l u k (in-vaults u (c .below)) (is-job k h) .cases v m t);
       signed = λ m n t. inl (ap (λ (f : ℕ → ℕ → Bool). f v m) (sym (hold-signed l u k)) ∙ t);
       still = λ t. ap (λ (f : ℕ → ℕ → Bool). f v j) (hold-signed l u k) ∙ t;
     }
-    spared q done w′ sees a = spared-as (w′ .ledger) refl
-    spared q done w′ (releases u k m c g h n) a = record {
+    spared free q done w′ sees a = spared-as (w′ .ledger) refl
+    spared free q done w′ (releases u k m c g h n) a = record {
       held = λ i t. inl (ap (λ (f : ℕ → ℕ → Bool). f v i) (sym (release-held l u k)) ∙ t);
       signed = λ i ne t. inl (release-signed l u k .old v i t);
-      still = λ t. ⊎-elim (λ o. o) (λ e. absurd (a (ap (hasBit s) (sym (e .0)) ∙ member) (sym (e .1)))) (release-signed l u k .cases v j t);
+      still = λ t. ⊎-elim (λ o. o) (λ e. absurd (free u m c h (subst (λ (y : ℕ). Rival (tabled (tableOf w)) m y) (sym (e .1)) n)))
+          (release-signed l u k .cases v j t);
     }
-    spared q done w′ (counts u k client d h) a = spared-count l u h (spared-as l refl)
-    spared q done w′ (grants u k client h c b x) a = spared-count (signedBy l u k) u h (spared-sign u k (c .below) b a)
+    spared free q done w′ (counts u k client d h) a = spared-count l u h (spared-as l refl)
+    spared free q done w′ (grants u k client h c b x) a = spared-count (signedBy l u k) u h (spared-sign u k (c .below) b a)
 
 -- ---- acceptance lasts
 module _ {w : World} {r : Register} (i : Inv w r) (e : Event) (s j v : ℕ) (booked : j < w .ledger .booked) (member : hasBit s v ≡ true)
-    (spares : Spares w s j (e .request)) where
+    (spares : Spares w s j (e .request)) (free : Unopposed w j) where
   abbrev w′ : World
   w′ = after w e
 
@@ -240,7 +246,7 @@ module _ {w : World} {r : Register} (i : Inv w r) (e : Event) (s j v : ℕ) (boo
   grown = more w (i .shape) (e .request) _ w′ change
 
   at-vault : Spared w (i .shape) s j v member later
-  at-vault = spared w (i .shape) s j v member (e .request) _ w′ change spares
+  at-vault = spared w (i .shape) s j v member free (e .request) _ w′ change spares
 
   -- a job of the set afterwards that has a label of j was in the set before
   abbrev Old : JobSet → JobSet → Type 0

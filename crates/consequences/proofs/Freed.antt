@@ -192,7 +192,7 @@ module _ {w : World} {r : Register} (i : Inv w r) where
         (record { from = omega arith; below = omega (arith, f .booked); finished = reflect-finished l k .complete (f .acknowledged); input = m });
     only = λ x m. let h = freed-in l (bookedJob w) (l .booked) 0 x m in
         (record { booked = omega (arith, h .below); acknowledged = reflect-finished l (x .job) .sound (h .finished) }, h .input);
-    taken = λ x m. finished-taken (x .job) (reflect-finished l (x .job) .sound (freed-in l (bookedJob w) (l .booked) 0 x m .finished));
+    taken = λ k f. finished-taken k (f .acknowledged);
     gone = λ x m. let h = freed-in l (bookedJob w) (l .booked) 0 x m in
         booked-jobs (λ job. In (x .tape) (inputTapes (job (x .job))) → In (x .tape .label) (labels (r .standing)) → ⊥)
         (λ p. label-gone r (i .books) (x .job) (x .tape .label) (finished-taken (x .job) (reflect-finished l (x .job) .sound (h .finished)))
@@ -203,8 +203,8 @@ module _ {w : World} {r : Register} (i : Inv w r) where
         (labels-once k (finished-taken k (reflect-finished l k .sound f))))
         (λ j k x f g ne. certified-apart (i .safe) (tally i) j k (finished-certified i j (reflect-finished l j .sound f))
         (finished-certified i k (reflect-finished l k .sound g)) ne .inputs x) (l .booked) 0);
-    copied = λ k t f. booked-jobs (λ job. In t (outputTapes (job k)) → In t (r .standing) ⊎ Retired job r k t)
-        (λ o. let m = finished-taken k (f .acknowledged) in stands-or-retired r (i .books) k t m o (labels-once k m));
+    copied = λ k t m. booked-jobs (λ job. In t (outputTapes (job k)) → In t (r .standing) ⊎ Retired job r k t)
+        (λ o. stands-or-retired r (i .books) k t m o (labels-once k m));
   }
 
 -- ---- along further steps

@@ -45,6 +45,7 @@ use Rattle.ledger.proofs.Rivals.{apart-sym}
 use Rattle.ledger.specs.Demand3.{Apart}
 use Rattle.consequences.specs.Independence.{
   Alike,
+  ApartDiffer,
   BatchesCommute,
   Commit,
   CommitsCommute,
@@ -331,9 +332,15 @@ swapped l i k x m =
     (λ e. in-left (l ++ (k ∷ [])) (i ∷ []) x (in-right l (k ∷ []) x (inl e)))
     (in-snoc (l ++ (i ∷ [])) k x m)
 
+-- a job makes a tape, which it shares with itself
+pub apart-differ : ApartDiffer
+apart-differ r reached i k hi h e =
+    let m = some-label r (reached-kept r reached) i (can-take r i hi) in
+    h .outputs (m .0) (m .1) (subst (λ (z : ℕ). In (m .0) (labels (outputTapes (tabled (r .table) z)))) e (m .1))
+
 pub commuting : Commuting
 unfolding taking
-commuting r reached i k hi hk h =
+commuting r reached i k ne hi hk h =
     let q : Kept r = reached-kept r reached in
     let second : Eligible (taking r i) k = still r i k hk h in
     let first : Eligible (taking r k) i = still r k i hi (apart-sym h) in
@@ -344,9 +351,6 @@ commuting r reached i k hi hk h =
           (kept-take (taking r i) (kept-take r q i (can-take r i hi) (hi .known)) k (can-take (taking r i) k second) (hk .known))
           (kept-take (taking r k) (kept-take r q k (can-take r k hk) (hk .known)) i (can-take (taking r k) i first) (hi .known))
           refl refl (λ x. (swapped (r .taken) i k x, swapped (r .taken) k i x));
-      different = λ (e : i ≡ k).
-          let m = some-label r q i (can-take r i hi) in
-          h .outputs (m .0) (m .1) (subst (λ (z : ℕ). In (m .0) (labels (outputTapes (tabled (r .table) z)))) e (m .1));
       independent = record { in-in = h .inputs; out-in = strange r i k hk q hi; in-out = strange r k i hi q hk };
     }
 

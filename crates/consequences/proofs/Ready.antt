@@ -25,7 +25,7 @@ use Rattle.sets.proofs.Size.{below-power, reflect-at-least}
 use Rattle.sets.specs.Bits.{hasBit}
 use Rattle.federation.specs.Federation.{Lawful, thresholdOf}
 use Rattle.federation.specs.declared.Settings.{Settings}
-use Rattle.consequences.proofs.Acceptance.{Acknowledged, Leaves, acknowledged-on, algorithm-lasts, leaves, more, signed-lasts}
+use Rattle.consequences.proofs.Acceptance.{Acknowledged, Leaves, Unopposed, acknowledged-on, algorithm-lasts, leaves, more, signed-lasts}
 use Rattle.ledger.proofs.Changes.{changes, shape-sane}
 use Rattle.ledger.proofs.Demand2.{obeys}
 use Rattle.ledger.proofs.Demand3.{along, first, kept, same-settings, settings-along}
@@ -49,9 +49,12 @@ use Rattle.consequences.specs.Ready.{
   Asks,
   AtEach,
   EachStep,
+  Harmless,
   HoldsCreators,
   NoRival,
+  ReadyAmidReleases,
   ReadyGetsThrough,
+  Round,
   SomeStep,
   Spares,
   Through,
@@ -142,26 +145,51 @@ asked-done : (w : World) (e : Event) (q : Request) → e .request ≡ q → isDo
 asked-done w e q h d = ap (λ (x : Request). isDone (stepOf (w .ledger) (lent w e) x .outcome)) h ∙ d
 
 -- ---- the job at the vaults of the set
-module _ (s j : ℕ) where
-  -- in the first round: each of them accepts it
-  record Welcome (w : World) (r : Register) : Type 0 where
-    inv : Inv w r
-    booked : j < w .ledger .booked
-    correct : AtEach s (Correct (w .ledger .settings))
-    signs : AtEach s (λ v. Signs w v j)
 
-  welcome-on : (w : World) (r : Register) (e : Event) → Welcome w r → Spares w s j (e .request) → Welcome (after w e) (fedBy w r e)
+-- in the first round: each of them accepts it
+record Welcome (s j : ℕ) (w : World) (r : Register) : Type 0 where
+  inv : Inv w r
+  booked : j < w .ledger .booked
+  correct : AtEach s (Correct (w .ledger .settings))
+  signs : AtEach s (λ v. Signs w v j)
+  enough : thresholdOf (w .ledger .settings) ≤ ones s
+
+-- a held rival would have a quorum that has not signed the job, and shares with the set a vault that has signed the rival: that vault would not accept the job
+module _ {s j : ℕ} {w : World} {r : Register} (f : Welcome s j w r) where
+  no-rival : (v k : ℕ) → Correct (w .ledger .settings) v → heldAt (w .ledger) v k ≡ true → Rival (tabled (r .table)) k j → ⊥
+  unfolding signedAt
+  no-rival v k c h rival =
+      let i = f .inv in
+      let o = i .safe .outvoted v k j c h rival in
+      let small = ltb-true s _ (reflect-within s s (w .ledger .settings .n) (below-power s) .complete (λ u b m. f .correct u m .below)) in
+      let m = meeting (i .shape .lawful) (o .quorum) s (o .below) small (o .enough) (f .enough) in
+      let u = m .vault in
+      let signed = unreleased (i .safe) (tally i) u (o .rival) (m .correct) (o .signed u (m .first)) (i .safe .certified (o .holder) (o .rival) (o .holds)) in
+      ⊎-elim
+      (λ t. o .without u (m .correct) (m .first) (i .safe .backed u j t))
+      (λ x.
+      let clear = clear i u j (admission-unblocked _ _ _ _ _ (signs-admission _ _ _ _ _ x)) in
+      apart-peaceful (clear .apart (o .rival) signed (o .is .other)) (rival-sym (o .is) .conflicts))
+      (f .signs u (m .second))
+
+  no-held-rival : Unopposed w j
+  unfolding heldAt
+  no-held-rival v k c h rival = no-rival v k c h (subst (λ (t : List (List ℕ)). Rival (tabled t) k j) (sym (f .inv .table)) rival)
+
+module _ (s j : ℕ) where
+  welcome-on : (w : World) (r : Register) (e : Event) → Welcome s j w r → Spares w s j (e .request) → Welcome s j (after w e) (fedBy w r e)
   welcome-on w r e f a = record {
     inv = kept w r (f .inv) e;
     booked = still-booked (f .inv) e j (f .booked);
     correct = λ v m. still-correct (f .inv) e v (f .correct v m);
     signs = λ v m. ⊎-elim
-        (λ t. inl (signed-lasts (f .inv) e s j v (f .booked) m a t))
-        (λ t. inr (algorithm-lasts (f .inv) e s j v (f .booked) m a t))
+        (λ t. inl (signed-lasts (f .inv) e s j v (f .booked) m a (no-held-rival f) t))
+        (λ t. inr (algorithm-lasts (f .inv) e s j v (f .booked) m a (no-held-rival f) t))
         (f .signs v m);
+    enough = subst (λ (st : Settings). thresholdOf st ≤ ones s) (sym (same-settings w (e .request) _ (after w e) (changes w (f .inv .shape) e))) (f .enough);
   }
 
-  welcome-done : (w : World) (r : Register) (e : Event) (v : ℕ) → Welcome w r → hasBit s v ≡ true → Asks (preflight v j) w e
+  welcome-done : (w : World) (r : Register) (e : Event) (v : ℕ) → Welcome s j w r → hasBit s v ≡ true → Asks (preflight v j) w e
       → isDone (replyTo w e .outcome) ≡ true
   welcome-done w r e v f m a =
       asked-done w e (preflight v j) (a .request)
@@ -224,6 +252,7 @@ welcomed i s j a =
       booked = placed i j (m .0) (a .each (m .0) (m .1)) .booked;
       correct = λ v m. placed i j v (a .each v m) .correct;
       signs = λ v m. accepted-signs i j v (a .each v m);
+      enough = a .enough;
     }
 
 -- ---- the two rounds
@@ -330,6 +359,9 @@ allowed-spares w s j (dependencies v k) a = tt
 allowed-spares w s j (clientPreflight v k client) a = absurd a
 allowed-spares w s j equivocating a = tt
 
+harmless-spares : (w : World) (s j : ℕ) (q : Request) → Harmless w j q → Spares w s j q
+harmless-spares w s j q = ⊎-elim (allowed-spares w s j q) (λ r. subst (Spares w s j) (sym (r .is)) tt)
+
 own-spares : (w : World) (s j v : ℕ) (q : Request) → q ≡ preflight v j → Spares w s j q
 own-spares w s j v q e = subst (Spares w s j) (sym e) (λ m n b. absurd (n refl))
 
@@ -343,14 +375,22 @@ asks q [] w h a = a
 asks q (e ∷ es) w (h, hs) (inl a) = inl (record { request = a; whole = h })
 asks q (e ∷ es) w (h, hs) (inr a) = inr (asks q es (after w e) hs a)
 
-pub ready-gets-through : ReadyGetsThrough
-ready-gets-through n b faulty version lawful past s j ready es one fs two =
+pub ready-amid-releases : ReadyAmidReleases
+ready-amid-releases n b faulty version lawful past s j ready es one fs two =
     let w = afterAll (start n b faulty version) past in
     accepted-gets-through n b faulty version lawful past s j (ready .accepted) es
-    (each-map (λ w e. ⊎-elim (λ o. own-spares w s j (o .0) (e .request) (o .1 .1)) (allowed-spares w s j (e .request))) es w (one .steps))
+    (each-map (λ w e. ⊎-elim (λ o. own-spares w s j (o .0) (e .request) (o .1 .1)) (harmless-spares w s j (e .request))) es w (one .steps))
     (λ v m. asks (preflight v j) es w (one .whole) (one .each v m))
     fs
     (λ v m. asks (commit v j s) fs (afterAll w es) (two .whole) (two .each v m))
+
+-- what is allowed is harmless
+allowed-round : {own : ℕ → Request} {w : World} {s j : ℕ} {es : List Event} → Round Allowed own w s j es → Round Harmless own w s j es
+allowed-round {own} {w} {s} {j} {es} o = record { whole = o .whole; steps = each-map (λ w e. ⊎-elim inl (λ a. inr (inl a))) es w (o .steps); each = o .each }
+
+pub ready-gets-through : ReadyGetsThrough
+ready-gets-through n b faulty version lawful past s j ready es one fs two =
+    ready-amid-releases n b faulty version lawful past s j ready es (allowed-round one) fs (allowed-round two)
 
 -- ---- what need not be asked: a vault that accepts the job is correct, and holds each job that created an input, for only one did
 module _ {w : World} {r : Register} (i : Inv w r) (s j v : ℕ) (a : Accepts w j v) where
@@ -378,33 +418,11 @@ module _ {w : World} {r : Register} (i : Inv w r) (s j v : ℕ) (a : Accepts w j
       absurd (apart .outputs (t .label) (in-map (λ (t : Entry). t .label) (outputTapes (bookedJob w (c .maker))) t (c .makes))
       (in-map (λ (t : Entry). t .label) (outputTapes (bookedJob w k)) t o)))
 
--- a held rival would have a quorum that has not signed the job, and shares with the set a vault that has signed the rival: that vault would not accept the job
-module _ {w : World} {r : Register} (i : Inv w r) (s j : ℕ) (a : Accepted w s j) where
-  abbrev jobs : ℕ → Job
-  jobs = tabled (r .table)
-
-  no-rival : (v k : ℕ) → Correct (w .ledger .settings) v → heldAt (w .ledger) v k ≡ true → Rival jobs k j → ⊥
-  unfolding signedAt
-  no-rival v k c h rival =
-      let o = i .safe .outvoted v k j c h rival in
-      let small = ltb-true s _ (reflect-within s s (w .ledger .settings .n) (below-power s) .complete (λ u b m. placed i j u (a .each u m) .correct .below)) in
-      let m = meeting (i .shape .lawful) (o .quorum) s (o .below) small (o .enough) (a .enough) in
-      let u = m .vault in
-      let signed = unreleased (i .safe) (tally i) u (o .rival) (m .correct) (o .signed u (m .first)) (i .safe .certified (o .holder) (o .rival) (o .holds)) in
-      ⊎-elim
-      (λ t. o .without u (m .correct) (m .first) (i .safe .backed u j t))
-      (λ x.
-      let clear = clear i u j (admission-unblocked _ _ _ _ _ (signs-admission _ _ _ _ _ x)) in
-      apart-peaceful (clear .apart (o .rival) signed (o .is .other)) (rival-sym (o .is) .conflicts))
-      (accepted-signs i j u (a .each u (m .second)))
-
-  unopposed : (k : ℕ) → Held (w .ledger) k → NoRival w j k
-  unfolding heldAt
-  unopposed k h ne b =
-      subst (λ (job : ℕ → Job). Apart (job j) (job k)) (ap tabled (i .table))
-      (by-test (conflicting (jobs k) (jobs j))
-      (λ e. absurd (no-rival (h .vault) k (h .by .correct) (h .by .held) (record { other = ne; conflicts = e })))
-      (λ e. apart-sym (peaceful-apart e)))
+unopposed : {w : World} {r : Register} (i : Inv w r) (s j : ℕ) → Accepted w s j → (k : ℕ) → Held (w .ledger) k → NoRival w j k
+unopposed {w} i s j a k h ne b =
+    by-test (conflicting (bookedJob w k) (bookedJob w j))
+    (λ e. absurd (no-held-rival (welcomed i s j a) (h .vault) k (h .by .correct) (h .by .held) (record { other = ne; conflicts = e })))
+    (λ e. apart-sym (peaceful-apart e))
 
 pub accepted-is-ready : AcceptedIsReady
 accepted-is-ready n b faulty version lawful past s j a =

@@ -57,14 +57,14 @@ pub record Free (w : World) (r : Register) : Type 0 where
   -- a tape is listed exactly if a finished job has it as an input
   pub listed : (k : ℕ) (t : Entry) → Finished (w .ledger) k → In t (inputTapes (bookedJob w k)) → In (record { tape = t; job = k }) (freedIn w)
   pub only : (x : Freed) → In x (freedIn w) → Finished (w .ledger) (x .job) × In (x .tape) (inputTapes (bookedJob w (x .job)))
-  -- its job is one that the register has taken
-  pub taken : (x : Freed) → In x (freedIn w) → In (x .job) (r .taken)
+  -- a finished job is one that the register has taken, so the job of a listed tape is
+  pub taken : (k : ℕ) → Finished (w .ledger) k → In k (r .taken)
   -- no tape with its label stands
   pub gone : (x : Freed) → In x (freedIn w) → In (x .tape .label) (labels (r .standing)) → ⊥
   -- no label is listed twice
   pub once : Distinct (map (λ (x : Freed). x .tape .label) (freedIn w))
-  -- no frame is left on a listed tape alone: each output of a finished job stands, or another taken job has it as an input
-  pub copied : (k : ℕ) (t : Entry) → Finished (w .ledger) k → In t (outputTapes (bookedJob w k)) → In t (r .standing) ⊎ Retired (bookedJob w) r k t
+  -- no frame is left on a listed tape alone: each output of a taken job stands, or another taken job has it as an input
+  pub copied : (k : ℕ) (t : Entry) → In k (r .taken) → In t (outputTapes (bookedJob w k)) → In t (r .standing) ⊎ Retired (bookedJob w) r k t
 
 -- after any list of steps the list says this, and after any further steps too; what is listed stays listed, so no tape with a listed label ever stands again
 abbrev pub FreeForGood : Type 0

@@ -1,6 +1,7 @@
 -- Jobs that share no input label and no output label may go either way (document 02, M-107): statements about the single register alone, of
--- which every register of demand 3 is one. The paper's condition, which does not name outputs in common, stands beside them.
-use mathlib.Core.Bool.{false, true}
+-- which every register of demand 3 is one. The paper's condition, which does not name outputs in common, stands beside them; that the law fails by it is said in
+-- crates/instances/specs/OneLabel.antt, where a pair is shown.
+use mathlib.Core.Bool.{true}
 use mathlib.Core.List.{List, [], map}
 use mathlib.Core.Logic.{_≢_, _↔_}
 use mathlib.Core.Path.{_≡_}
@@ -73,19 +74,21 @@ pub record EitherWay (r : Register) (i k : ℕ) : Type 0 where
   pub first : Eligible (taking r k) i
   -- "both orders end with the same jobs and standing tapes, as sets, and the same frames"
   pub alike : Alike (taking (taking r i) k) (taking (taking r k) i)
-  -- none of this is a premise: a job makes a tape, so two that share no output are different; and neither makes what the other takes, since an
-  -- input stands, so its label is made, and an output's label is new
-  pub different : i ≢ k
+  -- this is no premise: neither makes what the other takes, since an input stands, so its label is made, and an output's label is new
   pub independent : CausallyIndependent (tabled (r .table) i) (tabled (r .table) k)
 
--- two jobs of the table, both admissible now, that meet the condition
+-- "two different jobs that are both admissible now", and meet the condition
 abbrev pub CommutingIf : (Job → Job → Type 0) → Type 0
 CommutingIf Condition =
-    (r : Register) → Reached r → (i k : ℕ) → Eligible r i → Eligible r k → Condition (tabled (r .table) i) (tabled (r .table) k) → EitherWay r i k
+    (r : Register) → Reached r → (i k : ℕ) → i ≢ k → Eligible r i → Eligible r k → Condition (tabled (r .table) i) (tabled (r .table) k) → EitherWay r i k
 
 -- "share no input and no output label"
 abbrev pub Commuting : Type 0
 Commuting = CommutingIf Apart
+
+-- that they are different need not be asked then: a job makes a tape, so one that shares no output label with it is another
+abbrev pub ApartDiffer : Type 0
+ApartDiffer = (r : Register) → Reached r → (i k : ℕ) → Eligible r i → Apart (tabled (r .table) i) (tabled (r .table) k) → i ≢ k
 
 -- two commits answered 0, at any vaults and with any signers, as the register is fed them
 abbrev pub CommitsCommute : Type 0
@@ -121,26 +124,3 @@ pub record AnyOrder (r : Register) (cs ds : List Commit) : Type 0 where
 abbrev pub BatchesCommute : Type 0
 BatchesCommute =
     (r : Register) → Reached r → (cs ds : List Commit) → Batch r (jobsOf cs) → ((k : ℕ) → In k (jobsOf cs) ↔ In k (jobsOf ds)) → AnyOrder r cs ds
-
--- ---- outputs in common: "show a pair for which the law fails without it"
-
--- the law by the paper's condition, which can't be
-abbrev pub PaperFails : Type 0
-PaperFails = CommutingIf CausallyIndependent → ⊥
-
-pub record Clash (r : Register) (i k : ℕ) : Type 0 where
-  pub reached : Reached r
-  pub empty : r .taken ≡ []
-  -- both are admissible now, and they meet the paper's condition
-  pub ready : Eligible r i
-  pub ready′ : Eligible r k
-  pub independent : CausallyIndependent (tabled (r .table) i) (tabled (r .table) k)
-  -- an output label in common
-  pub label : ℕ
-  pub shared : In label (labels (outputTapes (tabled (r .table) i)))
-  pub shared′ : In label (labels (outputTapes (tabled (r .table) k)))
-  -- after either the other is not admissible, and the register stops where both are committed
-  pub second : isAdmissible (taking r i) (getD (r .table) k []) ≡ false
-  pub first : isAdmissible (taking r k) (getD (r .table) i []) ≡ false
-  pub stops : (v w signers signers′ : ℕ) → feed (feed r (commit v i signers) true) (commit w k signers′) true .running ≡ false
-  pub stops′ : (v w signers signers′ : ℕ) → feed (feed r (commit w k signers′) true) (commit v i signers) true .running ≡ false

@@ -95,7 +95,8 @@ pub record Accepted (w : World) (s j : ℕ) : Type 0 where
 abbrev pub NoRival : World → ℕ → ℕ → Type 0
 NoRival w j k = k ≢ j → k < w .ledger .booked → Apart (bookedJob w j) (bookedJob w k)
 
--- a step after which the vaults of the set still accept the job: at these vaults it signs and holds no rival, and it neither holds nor releases the job itself
+-- a step after which the vaults of the set still accept the job: at these vaults it signs and holds no rival, and it does not hold the job itself. A release
+-- does no harm, be it of the job itself: no correct vault holds a rival of it (`AlreadyReady`), so each vault turns that back
 abbrev pub Spares : World → ℕ → ℕ → Request → Type 0
 Spares w s j (propose bytes) = Unit {0}
 Spares w s j (preflight v k) = hasBit s v ≡ true → NoRival w j k
@@ -104,7 +105,7 @@ Spares w s j (faultyVote column v k) = Unit {0}
 Spares w s j (show k) = Unit {0}
 Spares w s j (generations k) = Unit {0}
 Spares w s j snapshot = Unit {0}
-Spares w s j (release v k rival) = hasBit s v ≡ true → k ≢ j
+Spares w s j (release v k rival) = Unit {0}
 Spares w s j (dependencies v k) = Unit {0}
 Spares w s j (clientPreflight v k client) = hasBit s v ≡ true → NoRival w j k
 Spares w s j equivocating = Unit {0}
@@ -152,20 +153,37 @@ Allowed w j (dependencies v k) = (k ≢ j) × NoRival w j k
 Allowed w j (clientPreflight v k client) = ⊥
 Allowed w j equivocating = Unit {0}
 
--- a round: a request at each of the vaults, at least once and in any order, and what is allowed between
-pub record Round (own : ℕ → Request) (w : World) (s j : ℕ) (es : List Event) : Type 0 where
+-- any release besides, the job's own included
+pub record Releases (q : Request) : Type 0 where
+  pub vault : ℕ
+  pub job : ℕ
+  pub rival : ℕ
+  pub is : q ≡ release vault job rival
+
+abbrev pub Harmless : World → ℕ → Request → Type 0
+Harmless w j q = Allowed w j q ⊎ Releases q
+
+-- a round: a request at each of the vaults, at least once and in any order, and what may come between
+pub record Round (May : World → ℕ → Request → Type 0) (own : ℕ → Request) (w : World) (s j : ℕ) (es : List Event) : Type 0 where
   pub whole : EachStep Whole w es
-  pub steps : EachStep (λ w e. ((v : ℕ) × ((hasBit s v ≡ true) × (e .request ≡ own v))) ⊎ Allowed w j (e .request)) w es
+  pub steps : EachStep (λ w e. ((v : ℕ) × ((hasBit s v ≡ true) × (e .request ≡ own v))) ⊎ May w j (e .request)) w es
   pub each : AtEach s (λ v. SomeStep (λ w e. e .request ≡ own v) w es)
 
-abbrev pub ReadyGetsThrough : Type 0
-ReadyGetsThrough =
+abbrev pub GetsThroughAmid : (World → ℕ → Request → Type 0) → Type 0
+GetsThroughAmid May =
     (n b faulty version : ℕ) → Lawful (record { n = n; b = b; faulty = faulty; version = version }) → (past : List Event)
     → let w = afterAll (start n b faulty version) past in
     (s j : ℕ) → Ready w s j
-    → (es : List Event) → Round (λ v. preflight v j) w s j es
-    → (fs : List Event) → Round (λ v. commit v j s) (afterAll w es) s j fs
+    → (es : List Event) → Round May (λ v. preflight v j) w s j es
+    → (fs : List Event) → Round May (λ v. commit v j s) (afterAll w es) s j fs
     → Through w s j es fs
+
+abbrev pub ReadyGetsThrough : Type 0
+ReadyGetsThrough = GetsThroughAmid Allowed
+
+-- the proviso about releases is not needed
+abbrev pub ReadyAmidReleases : Type 0
+ReadyAmidReleases = GetsThroughAmid Harmless
 
 -- what of a ready job is so of every job that n − b vaults accept
 pub record AlreadyReady (w : World) (s j : ℕ) : Type 0 where

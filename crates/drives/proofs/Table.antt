@@ -17,20 +17,20 @@ use Rattle.record.specs.Labels.{M8, isBetween, media}
 
 abbrev reads : List (List Bool)
 reads =
-    (true ∷ false ∷ false ∷ false ∷ false ∷ false ∷ [])
-    ∷ (true ∷ true ∷ false ∷ false ∷ false ∷ false ∷ [])
-    ∷ (true ∷ true ∷ true ∷ false ∷ false ∷ false ∷ [])
-    ∷ (false ∷ false ∷ true ∷ true ∷ false ∷ true ∷ [])
-    ∷ (false ∷ false ∷ false ∷ true ∷ true ∷ false ∷ [])
+    (true ∷ false ∷ false ∷ false ∷ false ∷ false ∷ [])  -- drive 5 reads
+    ∷ (true ∷ true ∷ false ∷ false ∷ false ∷ false ∷ [])  -- drive 6 reads
+    ∷ (true ∷ true ∷ true ∷ false ∷ false ∷ false ∷ [])  -- drive 7 reads
+    ∷ (false ∷ false ∷ true ∷ true ∷ false ∷ true ∷ [])  -- drive 8 reads
+    ∷ (false ∷ false ∷ false ∷ true ∷ true ∷ false ∷ [])  -- drive 9 reads
     ∷ []
 
 abbrev writes : List (List Bool)
 writes =
-    (true ∷ false ∷ false ∷ false ∷ false ∷ false ∷ [])
-    ∷ (true ∷ true ∷ false ∷ false ∷ false ∷ false ∷ [])
-    ∷ (false ∷ true ∷ true ∷ false ∷ false ∷ false ∷ [])
-    ∷ (false ∷ false ∷ true ∷ true ∷ false ∷ true ∷ [])
-    ∷ (false ∷ false ∷ false ∷ true ∷ true ∷ false ∷ [])
+    (true ∷ false ∷ false ∷ false ∷ false ∷ false ∷ [])  -- drive 5 writes
+    ∷ (true ∷ true ∷ false ∷ false ∷ false ∷ false ∷ [])  -- drive 6 writes
+    ∷ (false ∷ true ∷ true ∷ false ∷ false ∷ false ∷ [])  -- drive 7 writes
+    ∷ (false ∷ false ∷ true ∷ true ∷ false ∷ true ∷ [])  -- drive 8 writes
+    ∷ (false ∷ false ∷ false ∷ true ∷ true ∷ false ∷ [])  -- drive 9 writes
     ∷ []
 
 abbrev pub cell : Bool → ℕ → ℕ → Bool
@@ -43,11 +43,11 @@ row writing d = getD (cond writing writeRows readRows) (d - 5) []
 abbrev rule : Bool → ℕ → ℕ → Bool
 rule writing d m = isInTable writing d m || (eqb d 8 && eqb m M8)
 
-abbrev agree : Bool → Bool → Bool
+abbrev pub agree : Bool → Bool → Bool
 agree true b = b
 agree false b = not b
 
-agree-eq : (a b : Bool) → agree a b ≡ true → a ≡ b
+pub agree-eq : (a b : Bool) → agree a b ≡ true → a ≡ b
 agree-eq true b e = sym e
 agree-eq false b e = sym (not-true b e)
 

@@ -9,20 +9,20 @@ use Rattle.record.specs.Labels.{isBetween, L5, L6, L7, L8, L9, M8}
 -- document 01's table, a row for each of drives 5 to 9
 abbrev pub readRows : List (List ℕ)
 readRows =
-    (L5 ∷ [])
-    ∷ (L5 ∷ L6 ∷ [])
-    ∷ (L5 ∷ L6 ∷ L7 ∷ [])
-    ∷ (L7 ∷ L8 ∷ [])
-    ∷ (L8 ∷ L9 ∷ [])
+    (L5 ∷ [])  -- drive 5 reads
+    ∷ (L5 ∷ L6 ∷ [])  -- drive 6 reads
+    ∷ (L5 ∷ L6 ∷ L7 ∷ [])  -- drive 7 reads
+    ∷ (L7 ∷ L8 ∷ [])  -- drive 8 reads
+    ∷ (L8 ∷ L9 ∷ [])  -- drive 9 reads
     ∷ []
 
 abbrev pub writeRows : List (List ℕ)
 writeRows =
-    (L5 ∷ [])
-    ∷ (L5 ∷ L6 ∷ [])
-    ∷ (L6 ∷ L7 ∷ [])
-    ∷ (L7 ∷ L8 ∷ [])
-    ∷ (L8 ∷ L9 ∷ [])
+    (L5 ∷ [])  -- drive 5 writes
+    ∷ (L5 ∷ L6 ∷ [])  -- drive 6 writes
+    ∷ (L6 ∷ L7 ∷ [])  -- drive 7 writes
+    ∷ (L7 ∷ L8 ∷ [])  -- drive 8 writes
+    ∷ (L8 ∷ L9 ∷ [])  -- drive 9 writes
     ∷ []
 
 abbrev pub isListed : ℕ → List ℕ → Bool

@@ -1,9 +1,8 @@
 -- Document 01's whole run ("One run whole") through the functions that demand 3 is about, and the register beside it: computed from its
 -- real bytes. The label VAA001L5 reads as the number 3840498665277964630.
 use mathlib.Core.Bool.{true}
-use mathlib.Core.List.{List, [], _++_, _∷_}
+use mathlib.Core.List.{List, [], _∷_}
 use mathlib.Core.Path.{_≡_, refl}
-use Prim.Native.Nat.{ℕ}
 use lib.Count.{ones, onesIn}
 use lib.ListN.{replicate}
 use Rattle.base.specs.Lists.{sameList}
@@ -58,23 +57,8 @@ use Rattle.ledger.specs.Steps.{
   vaultGate,
 }
 use Rattle.vaults.specs.Vaults.{holding, signing, vaultPreflight}
+use Rattle.instances.specs.Records.{accession, migration}
 use Rattle.ledger.specs.Worlds.{Event, Request, after, commit, faultyVote, generations, lend, outcomes, overlay, preflight, propose, show, start}
-
--- an unused entry, and the used ones of the two records
-abbrev pub blank : List ℕ
-blank = replicate 12 0
-
-abbrev pub first-tape : List ℕ
-first-tape = 86 ∷ 65 ∷ 65 ∷ 48 ∷ 48 ∷ 49 ∷ 76 ∷ 53 ∷ 232 ∷ 3 ∷ 0 ∷ 0 ∷ []
-
-abbrev pub second-tape : List ℕ
-second-tape = 86 ∷ 65 ∷ 66 ∷ 48 ∷ 48 ∷ 49 ∷ 76 ∷ 55 ∷ 232 ∷ 3 ∷ 0 ∷ 0 ∷ []
-
-abbrev pub accession : List ℕ
-accession = (0 ∷ 7 ∷ 0 ∷ 1 ∷ []) ++ blank ++ blank ++ blank ++ blank ++ first-tape ++ blank ++ blank ++ blank
-
-abbrev pub migration : List ℕ
-migration = (1 ∷ 7 ∷ 1 ∷ 1 ∷ []) ++ first-tape ++ blank ++ blank ++ blank ++ second-tape ++ blank ++ blank ++ blank
 
 -- each step is lent 300 bytes, and all that are not booked are 7
 abbrev pub lending : Request → Event

@@ -12,7 +12,7 @@ use lib.ListN.{replicate}
 use Rattle.base.specs.Lists.{sameList}
 use Rattle.base.specs.Search.{allBelow, anyBelow, firstBelow, sumFrom}
 use Rattle.outcome.specs.declared.Outcome.the-variants.{Done, Refused}
-use Rattle.outcome.specs.declared.Refusal.the-variants.{NotSigned}
+use Rattle.outcome.specs.declared.Refusal.the-variants.{NotSigned, NotSuperseded}
 use Rattle.checks.specs.Checks.{
   balanced,
   checkOf,
@@ -52,9 +52,12 @@ use Rattle.ledger.specs.Decisions.{
   preflighting,
   proposal,
   receiving,
+  releasing,
   settling,
   snapshotting,
   statusOf,
+  supersededAt,
+  supersession,
 }
 use Rattle.ledger.specs.Steps.{
   bookedGate,
@@ -64,17 +67,19 @@ use Rattle.ledger.specs.Steps.{
   journalAfter,
   preflightDecision,
   proposeDecision,
+  releaseDecision,
   saneGate,
   showDecision,
   snapshotDecision,
   vaultGate,
 }
-use Rattle.vaults.specs.Vaults.{holding, signing, vaultPreflight}
-use Rattle.ledger.specs.Worlds.{Event, World, after, afterAll, commit, faultyVote, lend, outcomes, overlay, preflight, propose, show, snapshot, start}
+use Rattle.vaults.specs.Vaults.{holding, signing, unsigning, vaultPreflight}
+use Rattle.ledger.specs.Worlds.{Event, World, after, afterAll, commit, faultyVote, lend, outcomes, overlay, preflight, propose, release, show, snapshot, start}
 use Rattle.ledger.specs.Demand3.{recordsIn}
-use Rattle.consequences.specs.Ready.{Accepted, Accepts, AtEach, Ready, Round, Through}
-use Rattle.instances.proofs.Example.{accession, blank, lending, migration}
-use Rattle.consequences.proofs.Ready.{accepted-is-ready, ready-gets-through}
+use Rattle.consequences.specs.Ready.{Accepted, Accepts, Allowed, AtEach, Harmless, Ready, Round, Through}
+use Rattle.instances.proofs.Example.{lending}
+use Rattle.instances.specs.Records.{accession, accessionBy, migration}
+use Rattle.consequences.proofs.Ready.{accepted-is-ready, ready-amid-releases, ready-gets-through}
 use Rattle.ledger.proofs.Rivals.{peaceful-apart}
 use Rattle.federation.specs.Federation.{Lawful}
 use Rattle.snapshot.specs.Snapshot.{following, seenAfter, seenBefore, visible}
@@ -86,7 +91,7 @@ abbrev pub third-tape : List ℕ
 third-tape = 86 ∷ 65 ∷ 67 ∷ 48 ∷ 48 ∷ 49 ∷ 76 ∷ 55 ∷ 244 ∷ 1 ∷ 0 ∷ 0 ∷ []
 
 abbrev pub another : List ℕ
-another = (0 ∷ 7 ∷ 0 ∷ 1 ∷ []) ++ blank ++ blank ++ blank ++ blank ++ third-tape ++ blank ++ blank ++ blank
+another = accessionBy 7 third-tape
 
 -- job 0 is held at vaults 0, 1 and 2, and job 1 is booked
 abbrev pub past : List Event
@@ -145,8 +150,8 @@ other e = absurd (omega (arith, e))
 pub premises :
     Accepted world 7 1
     × AtEach 7 (λ v. jobHas (vaultAt (world .ledger) v .held) 1 ≡ false)
-    × Round (λ v. preflight v 1) world 7 1 preflights
-    × Round (λ v. commit v 1 7) (afterAll world preflights) 7 1 commits
+    × Round Allowed (λ v. preflight v 1) world 7 1 preflights
+    × Round Allowed (λ v. commit v 1 7) (afterAll world preflights) 7 1 commits
     × (outcomes world (preflights ++ (commits ++ (lending (show 1) ∷ [])))
     ≡ Done 1 ∷ Done 2 ∷ Done 2 ∷ Done 1 ∷ Done 1 ∷ Done 3 ∷ Done 1 ∷ Refused NotSigned ∷ Done 2 ∷ Done 2 ∷ Done 3 ∷ Done 2 ∷ [])
 unfolding sameList anyBelow allBelow firstBelow sumFrom hasBit withBit withMember withoutBit subsetOf jobHas jobWith jobWithout inputsFormed
@@ -215,3 +220,50 @@ ready =
 -- so the migration is certified and finished, by the theorem
 pub example-gets-through : Through world 7 1 preflights commits
 example-gets-through = ready-gets-through 4 1 8 1 lawful past 7 1 ready preflights (premises .2) commits (premises .3)
+
+-- ---- the same with releases: vault 2 is asked to release the migration that it has signed, and turns that back; and so is vault 0 between the commits
+abbrev pub preflights-amid : List Event
+preflights-amid = lending (preflight 2 1) ∷ lending (release 2 1 0) ∷ lending (preflight 0 1) ∷ lending (preflight 1 1) ∷ []
+
+abbrev pub commits-amid : List Event
+commits-amid = lending (commit 0 1 7) ∷ lending (release 0 1 0) ∷ lending (commit 1 1 7) ∷ lending (commit 2 1 7) ∷ []
+
+pub premises-amid :
+    Round Harmless (λ v. preflight v 1) world 7 1 preflights-amid
+    × Round Harmless (λ v. commit v 1 7) (afterAll world preflights-amid) 7 1 commits-amid
+    × (outcomes world (preflights-amid ++ (commits-amid ++ (lending (show 1) ∷ [])))
+    ≡ Done 1 ∷ Refused NotSuperseded ∷ Done 2 ∷ Done 3 ∷ Done 1 ∷ Refused NotSuperseded ∷ Done 2 ∷ Done 3 ∷ Done 2 ∷ [])
+unfolding sameList anyBelow allBelow firstBelow sumFrom hasBit withBit withMember withoutBit subsetOf jobHas jobWith jobWithout inputsFormed
+    countsFormed isFilled isBlank entryFormed trimmedFormed wellFormed hasLabelOf repeatedAt isWritten unsupportedAt balanced checkOf examined
+    recordSize saysTrimmed placeOf wholeIn leAt
+    entryAt
+    entriesAt jobOf isLabelAt labelIn isTapeAt makesTape isDrive supports labelOf framesOf isUsed usedFrames isBetween charAt isAlphanumeric mediumOf
+    isLabel usedFrom makesAt madeBy listsAt listedBy notCreatedAt consumedAt madeBefore remadeAt admission isKnown isFederation isLawfulUpTo
+    thresholdOf isAt slotAt isBooked
+    recordAt jobAt insideOf equalAt equalIn hasRoom putAt votesIn hasArrived isSane newLedger booking voted withVault enqueued arriving applied
+    bookedGate gateOf saneGate vaultGate placing settling proposal proposeDecision journalAfter consent preflighting preflightDecision certificate
+    receiving committing commitDecision faultyVoteDecision statusOf showDecision signing holding admissionAt vaultPreflight lend overlay after start
+    ones onesIn sharesAt sharesIn conflicting recordsIn following visible seenBefore seenAfter snapshotting visited snapshotDecision jobCount jobUnion
+    noJobs supersededAt supersession releasing releaseDecision unsigning
+premises-amid = (
+  record {
+    whole = (lit≤ tt, (lit≤ tt, (lit≤ tt, (lit≤ tt, tt))));
+    steps = (
+      inl (2, (refl, refl)),
+      (inr (inr (record { vault = 2; job = 1; rival = 0; is = refl })), (inl (0, (refl, refl)), (inl (1, (refl, refl)), tt))),
+    );
+    each = of-seven _ (inr (inr (inl refl))) (inr (inr (inr (inl refl)))) (inl refl);
+  },
+  record {
+    whole = (lit≤ tt, (lit≤ tt, (lit≤ tt, (lit≤ tt, tt))));
+    steps = (
+      inl (0, (refl, refl)),
+      (inr (inr (record { vault = 0; job = 1; rival = 0; is = refl })), (inl (1, (refl, refl)), (inl (2, (refl, refl)), tt))),
+    );
+    each = of-seven _ (inl refl) (inr (inr (inl refl))) (inr (inr (inr (inl refl))));
+  },
+  refl,
+)
+
+pub example-amid-releases : Through world 7 1 preflights-amid commits-amid
+example-amid-releases = ready-amid-releases 4 1 8 1 lawful past 7 1 ready preflights-amid (premises-amid .0) commits-amid (premises-amid .1)

@@ -36,7 +36,7 @@ use Rattle.record.specs.Entries.{framesOf, isUsed, labelOf, usedFrames}
 use Rattle.record.specs.Labels.{charAt, isAlphanumeric, isBetween, isLabel, mediumOf}
 use Rattle.sets.specs.Bits.{hasBit, withBit, withMember, withoutBit}
 use Rattle.job_sets.specs.Jobs.{jobHas, jobWith, jobWithout}
-use Rattle.instances.proofs.Example.{blank}
+use Rattle.instances.specs.Records.{blank}
 use Rattle.ledger.specs.Decisions.{admissionAt, clientPreflighting, countedConsent, placing, proposal, settling, withinQuota}
 use Rattle.ledger.specs.Quota.{Twelve, asked}
 use Rattle.ledger.specs.State.{applied, booking, counted, historyAt, isSane, newLedger, voted, votesIn, withVault}

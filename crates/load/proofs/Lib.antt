@@ -1,3 +1,4 @@
+pub mod Answered
 pub mod Booking
 pub mod Checked
 pub mod Different

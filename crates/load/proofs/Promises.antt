@@ -1,20 +1,22 @@
 -- Every load keeps the promises.
-use mathlib.Core.Bool.{Bool, false, true, true≢false}
-use mathlib.Core.List.{List, [], _∷_, map}
-use mathlib.Core.Logic.{inl, inr, ⊎-elim}
-use mathlib.Core.Path.{_∙_, _≡_, ap, refl, subst, sym}
-use Prim.Native.Nat.{_%_, _*_, _+_, _/_, _<_, _≤_, suc, zero, ℕ}
+use mathlib.Core.List.{map}
+use mathlib.Core.Logic.{inl, inr}
+use mathlib.Core.Path.{_∙_, _≡_, ap, refl, sym}
+use Prim.Native.Nat.{_%_, _*_, _+_, _-_, _/_, _<_, _≤_, suc, zero, ℕ}
 use native.Mathlib.Nat.{zero-add}
 use native.Mathlib.Omega.{arith}
+use lib.ListN.{length}
 use borrow.Author.Tests.{lt-ltb}
 use Rattle.base.specs.Lists.{In}
 use Rattle.generator.specs.Generator.{drawn, next}
 use Rattle.runfile.specs.History.{steps}
-use Rattle.runfile.specs.Steps.{Command, draw, request, unreadable}
+use Rattle.runfile.specs.Run.{begins, runText, textFrom, textUpTo}
+use Rattle.load.proofs.Answered.{Lines, all-lines}
 use Rattle.load.proofs.Checked.{record-passes}
 use Rattle.load.proofs.Different.{loads-differ, records-differ}
 use Rattle.load.proofs.Preflights.{preflights-counted, proposed-below}
-use Rattle.load.proofs.Whole.{commands-load, drawn-below, fair, lawful-load, opens-load, two-hundred}
+use Rattle.load.proofs.Whole.{commands-load, drawn-below, fair, lawful-load, long, opens-load, reads-load, two-hundred}
+use Rattle.load.specs.Answers.{linesAfter, outcomesOf}
 use Rattle.load.specs.Commands.{commandFor, commandsOf}
 use Rattle.load.specs.Loads.{loadBytes, stepsFrom, stepsOf}
 use Rattle.load.specs.Plans.{planOf, planWith}
@@ -22,30 +24,7 @@ use Rattle.load.specs.Promises.{EveryLoad}
 use Rattle.load.specs.Steps.{asking, stepFor}
 use Rattle.load.specs.declared.Plan.{Plan}
 use Rattle.load.specs.declared.Step.{Step}
-use Rattle.load.specs.declared.Step.the-variants.{Commit, Draw, FaultyAcknowledge, FaultySign, Generations, Preflight, Propose, Show}
-
--- ---- no command of a step is unreadable
-abbrev isRead : Command → Bool
-isRead (request q) = true
-isRead (draw u) = true
-isRead unreadable = false
-
-step-read : (first : ℕ) (s : Step) → isRead (commandFor first s) ≡ true
-step-read first (Propose j) = refl
-step-read first (Preflight v j) = refl
-step-read first (Commit v j signers) = refl
-step-read first (FaultySign v j) = refl
-step-read first (FaultyAcknowledge v j) = refl
-step-read first (Show j) = refl
-step-read first (Draw u) = refl
-step-read first (Generations j) = refl
-
-step-readable : (first : ℕ) (s : Step) → unreadable ≡ commandFor first s → ⊥
-step-readable first s e = true≢false (sym (step-read first s) ∙ ap isRead (sym e))
-
-all-readable : (first : ℕ) (steps : List Step) → In unreadable (map (commandFor first) steps) → ⊥
-all-readable first [] h = h
-all-readable first (s ∷ steps) h = ⊎-elim (step-readable first s) (all-readable first steps) h
+use Rattle.load.specs.declared.Step.the-variants.{Propose}
 
 -- ---- each of the forty records is proposed, in its place
 proposes-at : (p : Plan) (j d : ℕ) → j < 40 → stepFor p (j / 10 * 50 + j % 10) d ≡ Propose j
@@ -68,6 +47,19 @@ commands : (seed n b : ℕ) → n ≤ 16 → 3 * b < n → commandsOf (steps (lo
 unfolding planOf planWith
 commands seed n b h g = commands-load seed n b h g
 
+-- a run of the load prints a line for each of its steps
+lines-load : (seed n b : ℕ) → n ≤ 16 → 3 * b < n
+    → Lines (planOf seed n b .first) (stepsOf seed n b) (loadBytes seed n b) (begins (loadBytes seed n b)) (length (loadBytes seed n b))
+lines-load seed n b h g =
+    all-lines (planOf seed n b .first) (stepsOf seed n b) (loadBytes seed n b) (begins (loadBytes seed n b)) (length (loadBytes seed n b))
+    (omega (arith, two-hundred seed n b h g, long seed n b h g)) (reads-load seed n b h g)
+
+printed : (seed n b : ℕ) → n ≤ 16 → 3 * b < n → runText (loadBytes seed n b) ≡ linesAfter 0 (outcomesOf (loadBytes seed n b))
+unfolding textUpTo textFrom
+printed seed n b h g =
+    let z : length (loadBytes seed n b) - 0 ≡ length (loadBytes seed n b) = omega arith in
+    simp (opens-load seed n b h g) (rw z (lines-load seed n b h g .text))
+
 -- the statement
 pub every-load : EveryLoad
 unfolding stepsOf
@@ -76,7 +68,9 @@ every-load seed n b h g = record {
   opened = opens-load seed n b h g;
   reads = commands seed n b h g;
   count = two-hundred seed n b h g;
-  readable = λ m. all-readable (drawn (next seed)) (stepsOf seed n b) (subst (In unreadable) (commands seed n b h g) m);
+  lines = printed seed n b h g;
+  answered = lines-load seed n b h g .count ∙ two-hundred seed n b h g;
+  readable = lines-load seed n b h g .none;
   passes = λ j l. record-passes (drawn (next seed)) j (drawn-below seed) l;
   forty = λ j m. proposed-below (planOf seed n b) (fair seed n b h g) 200 0 (next (next (next seed))) refl j m;
   proposed = λ j l. stands-at (planOf seed n b) (Propose j) 200 0 (next (next (next seed))) (j / 10 * 50 + j % 10) (omega arith)

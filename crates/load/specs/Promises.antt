@@ -9,10 +9,12 @@ use Rattle.checks.specs.Checks.{examined}
 use Rattle.codec.specs.Codec.{bytesOf}
 use Rattle.federation.specs.Federation.{Lawful}
 use Rattle.generator.specs.Generator.{drawn, next}
+use Rattle.outcome.specs.Figures.{numberOf}
+use Rattle.outcome.specs.declared.Outcome.{Outcome}
 use Rattle.outcome.specs.declared.Verdict.the-variants.{Pass}
 use Rattle.runfile.specs.History.{steps}
-use Rattle.runfile.specs.Run.{begins, opens}
-use Rattle.runfile.specs.Steps.{unreadable}
+use Rattle.runfile.specs.Run.{begins, opens, runText}
+use Rattle.load.specs.Answers.{linesAfter, outcomesOf}
 use Rattle.load.specs.Commands.{commandFor, commandsOf}
 use Rattle.load.specs.Loads.{loadBytes, stepsOf}
 use Rattle.load.specs.Plans.{faultyOf, planOf}
@@ -30,8 +32,10 @@ pub record Promises (seed n b : ℕ) : Type 0 where
   -- "of 200 steps": a run reads it as exactly these
   pub reads : commandsOf (steps (loadBytes seed n b)) ≡ map (commandFor (firstDraw seed)) (stepsOf seed n b)
   pub count : length (stepsOf seed n b) ≡ 200
-  -- "no step gets refusal 2"
-  pub readable : In unreadable (commandsOf (steps (loadBytes seed n b))) → ⊥
+  -- "no step gets refusal 2": a run of it prints a line for each of the 200 and nothing else, and none of these lines says 2
+  pub lines : runText (loadBytes seed n b) ≡ linesAfter 0 (outcomesOf (loadBytes seed n b))
+  pub answered : length (outcomesOf (loadBytes seed n b)) ≡ 200
+  pub readable : (o : Outcome) → In o (outcomesOf (loadBytes seed n b)) → numberOf o ≡ 2 → ⊥
   -- "Every record written passes checks 6 to 9", and no other job's record is written
   pub passes : (j : ℕ) → j < 40 → examined 1 (bytesOf 1 (jobFor (firstDraw seed) j)) ≡ Pass
   pub forty : (j : ℕ) → In (Propose j) (stepsOf seed n b) → j < 40

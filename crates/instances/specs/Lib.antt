@@ -1,0 +1,2 @@
+pub mod OneLabel
+pub mod Records
