@@ -35,8 +35,8 @@ use Rattle.text.proofs.Members.{nothing-listed}
 use Rattle.text.specs.Text.{lineFor, lineOf}
 use Rattle.runfile.proofs.History.{run-keeps}
 use Rattle.runfile.proofs.Turns.{opened-run}
-use Rattle.runfile.specs.Demand1.{KindRow, NoKindFits, OfDraw, PrintedLine, Readable, Reads, RecordBytes, Refusal1, Refusal2, RunInOrder, StandsAt, kinds, rowFor, version-1, version-2, zeroOneZero}
-use Rattle.runfile.specs.History.{Item, begun, drawn, event, events, steps, told, unread}
+use Rattle.runfile.specs.Demand1.{KindRow, NextStep, NoKindFits, OfDraw, PrintedLine, Readable, Reads, RecordBytes, Refusal1, Refusal2, RunInOrder, StandsAt, kinds, rowFor, version-1, version-2, zeroOneZero}
+use Rattle.runfile.specs.History.{Item, begun, drawn, event, events, itemOf, itemsNext, steps, told, unread}
 use Rattle.runfile.specs.Run.{Run, begins, commandOf, ended, headerSize, isHeader, longest, opened, opens, opensUpTo, runNext, textFrom, textNext}
 use Rattle.runfile.specs.Run.{textOf, textUpTo, turn}
 use Rattle.runfile.specs.Steps.{Command, bodySize, commandIn, draw, endOf, kindAt, kindOf, nextAt, replyOf, request, stepAt, unreadable, wordAt}
@@ -358,6 +358,65 @@ refusal-2 input readable recordBytes sized m h n =
     none : 0 + m ≡ m
     none = omega arith
 
+-- ---- the steps, by where they stand
+itemless : (n : ℕ) (input : List ℕ) (r : Run) → length input ≤ r .pos → itemsNext n input r ≡ []
+unfolding itemsNext
+itemless zero input r h = refl
+itemless (suc n) input r h = simp (le-leb _ _ h)
+
+more-items : (m n : ℕ) (input : List ℕ) (r : Run) → itemsNext (m + n) input r ≡ itemsNext m input r ++ itemsNext n input (runNext m input r)
+unfolding itemsNext runNext
+more-items zero n input r = let same : 0 + n ≡ n = omega arith in ap (λ (k : ℕ). itemsNext k input r) same
+more-items (suc m) n input r =
+    let next : suc m + n ≡ suc (m + n) = omega arith in
+    ap (λ (k : ℕ). itemsNext k input r) next ∙ by (ended input r) refl (more-items m n input (turn input r))
+  where
+    by : (b : Bool) → ended input r ≡ b
+        → itemsNext (m + n) input (turn input r) ≡ itemsNext m input (turn input r) ++ itemsNext n input (runNext m input (turn input r))
+        → cond b [] (itemOf r (commandOf input r) ∷ itemsNext (m + n) input (turn input r))
+        ≡ cond b [] (itemOf r (commandOf input r) ∷ itemsNext m input (turn input r)) ++ itemsNext n input (cond b r (runNext m input (turn input r)))
+    by true e f = sym (itemless n input r (leb-true (length input) (r .pos) e))
+    by false e f = ap (λ (t : List Item). itemOf r (commandOf input r) ∷ t) f
+
+-- where something is left to read each of them was one
+all-items : (m : ℕ) (input : List ℕ) (r : Run) → runNext m input r .pos < length input → length (itemsNext m input r) ≡ m
+unfolding itemsNext runNext
+all-items zero input r h = refl
+all-items (suc m) input r h = by (ended input r) refl (all-items m input (turn input r)) h
+  where
+    by : (b : Bool) → ended input r ≡ b → (runNext m input (turn input r) .pos < length input → length (itemsNext m input (turn input r)) ≡ m)
+        → (cond b r (runNext m input (turn input r))) .pos < length input
+        → length (cond b [] (itemOf r (commandOf input r) ∷ itemsNext m input (turn input r))) ≡ suc m
+    by true e f h = absurd (omega (arith, h, leb-true (length input) (r .pos) e))
+    by false e f h = ap suc (f h)
+
+one-item : (n : ℕ) (input : List ℕ) (r : Run) → r .pos < length input
+    → itemsNext (suc n) input r ≡ itemOf r (commandOf input r) ∷ itemsNext n input (turn input r)
+unfolding itemsNext
+one-item n input r h = simp (lt-leb _ _ h)
+
+next-step : (input : List ℕ) (m : ℕ) → runNext m input (begins input) .pos < length input → NextStep input m
+unfolding opened newLedger
+next-step input m h =
+    let o = on m input (begins input) h in
+    let r : Run = runNext m input (begins input) in
+    let version : versionOf (r .ledger) ≡ wordAt input 3 = ap (λ (s : Settings). s .version) (o .settings) in
+    let left = length input - (m + 1) in
+    let fuel : length input - 0 ≡ m + suc left = omega (arith, o .far, h) in
+    record {
+      before = itemsNext m input (begins input);
+      later = itemsNext left input (turn input r);
+      many = all-items m input (begins input) h;
+      next =
+          ap (λ (n : ℕ). itemsNext n input (begins input)) fuel ∙ more-items m (suc left) input (begins input)
+          ∙ ap (λ (t : List Item). itemsNext m input (begins input) ++ t)
+          (one-item left input r h ∙ ap (λ (v : ℕ). itemOf r (stepAt v input (r .pos)) ∷ itemsNext left input (turn input r)) version);
+    }
+
+goes-on : (input : List ℕ) (r : Run) → turn input r .pos ≡ nextAt (versionOf (r .ledger)) input (r .pos)
+unfolding turn
+goes-on input r = refl
+
 -- ---- kind 7
 draw-row : (s : Settings) (u : ℕ) → OfDraw s u (numberOf (drawOf s u)) (valueOf (drawOf s u))
 unfolding failing thresholdOf
@@ -424,6 +483,9 @@ pub run-in-order : RunInOrder
 run-in-order = record {
   refusal-1 = refusal-1;
   reads = λ version recordBytes sized. reads version recordBytes (record-bytes sized);
+  starts = λ input. refl;
+  goes-on = goes-on;
+  next-step = next-step;
   refusal-2 = refusal-2;
   lines = λ input h before later item q. line input h before later item q;
 }

@@ -11,12 +11,13 @@ use Rattle.federation.specs.Federation.{Lawful}
 use Rattle.federation.specs.declared.Settings.{Settings}
 use Rattle.ledger.specs.Demand1.{Gives, First, CheckRow, order}
 use Rattle.ledger.specs.Quota.{asked}
+use Rattle.ledger.specs.State.{versionOf}
 use Rattle.ledger.specs.Worlds.{Event, World, afterAll, clientPreflight, commit, dependencies, equivocating, faultyVote, generations, preflight, propose, release}
 use Rattle.ledger.specs.Worlds.{show, snapshot}
 use Rattle.text.specs.Text.{lineOf}
 use Rattle.vaults.specs.declared.Column.the-variants.{Acknowledgements, Signatures}
-use Rattle.runfile.specs.History.{Item, begun, drawn, event, events, steps, told, unread}
-use Rattle.runfile.specs.Run.{Run, begins, runNext, runText, textNext}
+use Rattle.runfile.specs.History.{Item, begun, drawn, event, events, itemOf, steps, told, unread}
+use Rattle.runfile.specs.Run.{Run, begins, runNext, runText, textNext, turn}
 use Rattle.runfile.specs.Steps.{Command, draw, nextAt, request, stepAt, unreadable, wordAt}
 
 -- ---- refusal 1: "header or settings wrong, or file too long"
@@ -105,6 +106,15 @@ OfDraw s u =
     let q = s .n - s .b in
     First (Lawful s → ⊥) 1 (First (s .n < u) 17 (Gives (Nearest (choose (s .n) q - choose (s .n - u) q) (choose (s .n) q))))
 
+-- ---- the steps of a run, by where they stand
+
+-- after m steps a run has come to a place where its next step stands
+pub record NextStep (input : List ℕ) (m : ℕ) : Type 0 where
+  pub before : List Item
+  pub later : List Item
+  pub many : length before ≡ m
+  pub next : steps input ≡ before ++ (itemOf (runNext m input (begins input)) (stepAt (wordAt input 3) input (runNext m input (begins input) .pos)) ∷ later)
+
 -- ---- the lines: "step number from 1, 0 or the refusal, a value"
 
 -- the row of a step in a world that a list of steps led to
@@ -125,7 +135,11 @@ pub record PrintedLine (input : List ℕ) (before : List Item) (item : Item) : T
 pub record RunInOrder : Type 0 where
   pub refusal-1 : (input : List ℕ) → Refusal1 input
   pub reads : (version recordBytes : ℕ) → RecordBytes version recordBytes → (input : List ℕ) (pos : ℕ) → Reads version recordBytes input pos
+  -- the first step stands behind the header's nine bytes, and each other one where the one before ends
+  pub starts : (input : List ℕ) → begins input .pos ≡ 9
+  pub goes-on : (input : List ℕ) (r : Run) → turn input r .pos ≡ nextAt (versionOf (r .ledger)) input (r .pos)
   -- wherever a run has come and something is left to read
+  pub next-step : (input : List ℕ) (m : ℕ) → runNext m input (begins input) .pos < length input → NextStep input m
   pub refusal-2 : (input : List ℕ) → Readable input → (recordBytes : ℕ) → RecordBytes (wordAt input 3) recordBytes → (m : ℕ)
       → let r : Run = runNext m input (begins input) in r .pos < length input → NoKindFits recordBytes input (r .pos) → Refusal2 input m
   pub lines : (input : List ℕ) → Readable input → (before later : List Item) (item : Item) → steps input ≡ before ++ (item ∷ later) → PrintedLine input before item
