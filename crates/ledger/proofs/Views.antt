@@ -100,7 +100,7 @@ minus-job s m = record {
 -- ---- a store in a list
 
 -- what is so of the element that is stored, and of each that stays, is so of all
-at-store : {A : Type 0} (xs : List A) (i : ℕ) (a d : A) (P : ℕ → A → A → Type 0) → ((u : ℕ) (x : A) → P u x x) → P i (getD xs i d) a
+pub at-store : {A : Type 0} (xs : List A) (i : ℕ) (a d : A) (P : ℕ → A → A → Type 0) → ((u : ℕ) (x : A) → P u x x) → P i (getD xs i d) a
     → (u : ℕ) → P u (getD xs u d) (getD (set xs i a) u d)
 at-store xs i a d P same stored u = by (eqb u i) refl (ltb i (length xs)) refl
   where

@@ -8,7 +8,9 @@ pub mod Given
 pub mod Graph
 pub mod Growth
 pub mod Holders
+pub mod Links
 pub mod Meaning
+pub mod Parts
 pub mod Quota
 pub mod Refused
 pub mod Register
