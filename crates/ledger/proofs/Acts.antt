@@ -11,14 +11,14 @@ use Rattle.outcome.specs.declared.Refusal.the-variants.{NoClient, NotHeld}
 use Rattle.outcome.specs.declared.Verdict.{Verdict}
 use Rattle.outcome.specs.declared.Verdict.the-variants.{Fail, Pass}
 use Rattle.job_sets.specs.Jobs.{jobHas}
-use Rattle.journal.specs.Journal.{isBooked, jobAt}
+use Rattle.journal.specs.Journal.{Booked, isBooked, jobAt}
 use Rattle.generations.specs.Generations.{ageIn}
 use Rattle.quota.specs.Quota.{isClient}
 use Rattle.vaults.specs.Vaults.{consented, holding, signing, unsigning, vaultPreflight}
 use Rattle.vaults.specs.declared.Column.{Column}
 use Rattle.vaults.specs.declared.Consent.the-variants.{Already}
 use Rattle.vaults.specs.declared.Signing.{Signing}
-use Rattle.ledger.proofs.Gates.{entered, passed-rest, passed-test}
+use Rattle.ledger.proofs.Gates.{booked-entered, entered, passed-rest, passed-test}
 use Rattle.ledger.specs.Decisions.{admissionAt, ageing, answering, certificate, clientPreflighting, committing, consent, consenting, countedConsent, counting, gated, historyWith, preflighting, receiving, refusing, releasing, snapshotting, statusOf, supersession, voting, withinQuota}
 use Rattle.ledger.specs.Holders.{isHeld}
 use Rattle.ledger.specs.Meaning.{Entered}
@@ -50,8 +50,9 @@ pub data Act (l : Ledger) (journal : List ℕ) : Request → Decision → Type 0
   asks : (v k client : ℕ) → Entered l journal v k false → isClient client ≡ true → jobHas (vaultAt l v .signed) k ≡ false
       → Act l journal (clientPreflight v k client)
       (voting (signersOf l k) v (Grant (record { vault = signing (vaultAt l v) k; history = historyWith client (historyAt l v client) true })))
-  shows : (k value : ℕ) → Act l journal (show k) (answering value)
-  ages : (k value : ℕ) → Act l journal (generations k) (answering value)
+  shows : (k : ℕ) → Act l journal (show k) (answering (statusOf (l .settings) (votesAt l k)))
+  ages : (k : ℕ) → Booked (versionOf l) journal (l .booked) k
+      → Act l journal (generations k) (answering (ageIn (jobAt (versionOf l) journal (l .booked)) (l .order) (l .arrivals) k))
   depends : (v k value : ℕ) → Act l journal (dependencies v k) (answering value)
   names : (value : ℕ) → Act l journal equivocating (answering value)
 
@@ -137,7 +138,7 @@ module _ (l : Ledger) (journal : List ℕ) where
   -- ---- steps that only read
   pub act-show : (k : ℕ) → isDone (showDecision l journal k .outcome) ≡ true → Act l journal (show k) (showDecision l journal k)
   unfolding showDecision
-  act-show k e = behind (show k) (bookedGate l journal k) _ e (λ g x. shows k (statusOf (l .settings) (votesAt l k)))
+  act-show k e = behind (show k) (bookedGate l journal k) _ e (λ g x. shows k)
 
   pub act-generations : (k : ℕ) → isDone (generationsDecision l journal k .outcome) ≡ true → Act l journal (generations k) (generationsDecision l journal k)
   unfolding generationsDecision ageing
@@ -145,7 +146,7 @@ module _ (l : Ledger) (journal : List ℕ) where
       let age = ageIn (jobAt (versionOf l) journal (l .booked)) (l .order) (l .arrivals) k in
       behind (generations k) (bookedGate l journal k) _ e
       (λ g. by-cases (λ b. isDone (cond b (answering age) (refusing NotHeld) .outcome) ≡ true → Act l journal (generations k)
-      (cond b (answering age) (refusing NotHeld))) (isHeld (l .settings) (l .vaults) k) (λ c d. ages k age) (λ c d. absurd (true≢false (sym d))))
+      (cond b (answering age) (refusing NotHeld))) (isHeld (l .settings) (l .vaults) k) (λ c d. ages k (booked-entered l journal k g .1)) (λ c d. absurd (true≢false (sym d))))
 
   reads : (q : Request) (o : Outcome) → isDone o ≡ true → ((value : ℕ) → Act l journal q (answering value))
       → Act l journal q (record { outcome = o; change = Nothing })

@@ -4,7 +4,7 @@ use mathlib.Core.Bool.{Bool, _&&_, cond, false, not, true, true≢false}
 use mathlib.Core.List.{List, [], _∷_}
 use mathlib.Core.Logic.{_≢_, _⊎_, inl, inr, ⊎-elim}
 use mathlib.Core.Path.{_∙_, _≡_, ap, refl, subst, sym}
-use Prim.Native.Nat.{_<_, ℕ}
+use Prim.Native.Nat.{_<_, _≤_, ℕ}
 use native.Mathlib.Numerals.{add-one}
 use native.Mathlib.Omega.{arith}
 use lib.Count.{ones}
@@ -24,7 +24,9 @@ use Rattle.codec.specs.Codec.{placeOf}
 use Rattle.sets.specs.Bits.{withMember}
 use Rattle.job_sets.proofs.Jobs.{job-without-same}
 use Rattle.job_sets.specs.Jobs.{jobCount, jobHas}
-use Rattle.journal.specs.Journal.{insideOf}
+use Rattle.journal.specs.Journal.{insideOf, jobAt}
+use Rattle.generations.specs.Generations.{ageIn}
+use Rattle.record.specs.declared.Job.{Job}
 use Rattle.quota.specs.Quota.{historyPlace, isClient, remembered}
 use Rattle.snapshot.proofs.Visits.{begins-anew, goes-on, sees-held, sees-only, sees-still}
 use Rattle.vaults.specs.Vaults.{holding, newVault, signing, unsigning}
@@ -40,8 +42,9 @@ use Rattle.ledger.proofs.Changes.{releasedBy, seenNext, signedBy, slot-
 use Rattle.ledger.proofs.Changes.{held as heldBy}
 use Rattle.ledger.proofs.Demand3.{kept}
 use Rattle.ledger.proofs.Effects.{hold-acked, hold-held, release-signed, sign-recorded, sign-signed}
+use Rattle.ledger.proofs.Holders.{status-means}
 use Rattle.ledger.proofs.Invariant.{Inv, in-vaults, in-votes, is-job, is-vault}
-use Rattle.ledger.proofs.Lending.{grown-bytes, kept-bytes, records-length}
+use Rattle.ledger.proofs.Lending.{grown-bytes, jobs-read, kept-bytes, records-length}
 use Rattle.ledger.proofs.Parts.{joins, joins-same, joins-turned, only-arrived, only-counted, only-held, only-on, only-signed, only-visited}
 use Rattle.ledger.proofs.Parts.{only-booked, only-voted, same-refl}
 use Rattle.ledger.proofs.Places.{examined-length, proposed}
@@ -49,11 +52,12 @@ use Rattle.ledger.proofs.Quota.{apart, place-below}
 use Rattle.ledger.proofs.Views.{arrives, heldAt, signedAt, voted-grown, votedAt}
 use Rattle.ledger.specs.Decisions.{historyWith, snapshotting}
 use Rattle.ledger.specs.Demand2.{ByClientPreflight, ByCommit, ByFaultyVote, ByPreflight, ByRelease, BySnapshot, Leaves, Numbered}
-use Rattle.ledger.specs.Meaning.{KnownAt, Proposed, failed, full, insane, known, new}
+use Rattle.ledger.specs.Demand3.{bookedJob}
+use Rattle.ledger.specs.Meaning.{KnownAt, Proposed, Status, failed, full, insane, known, new}
 use Rattle.ledger.specs.Parts.{Arrival, Joins, Only, hasHeld, hasSigned, hasVoted, histories, held, order, signed, votesOn}
 use Rattle.ledger.specs.Parts.{votes as votesPart}
 use Rattle.ledger.specs.Register.{Register, feed, feedCommit, isAdmissible, isDone, stopped, taking}
-use Rattle.ledger.specs.State.{applied, arrived, booking, counted, historyAt, vaultAt, versionOf, visited, voted, votesIn, withVault}
+use Rattle.ledger.specs.State.{applied, arrived, booking, counted, historyAt, vaultAt, versionOf, visited, voted, votesAt, votesIn, withVault}
 use Rattle.ledger.specs.Steps.{journalAfter, journalWith, proposeDecision}
 use Rattle.ledger.specs.Worlds.{Event, Request, World, after, clientPreflight, commit, dependencies, equivocating, faultyVote, generations, jobIn, leftBy, lend, overlay, preflight, propose, release, replyTo, show, snapshot, stepOf, vaultIn}
 use Rattle.ledger.specs.declared.Decision.{Decision}
@@ -314,7 +318,8 @@ module _ {w : World} {r : Register} (i : Inv w r) where
       }
 
   -- ---- each way of a step that is answered 0, by the ledger that it leaves
-  module _ (acknowledged : (v k : ℕ) → hasHeld w v k ≡ true → hasVoted w Acknowledgements v k ≡ true) (journal : List ℕ) where
+  module _ (acknowledged : (v k : ℕ) → hasHeld w v k ≡ true → hasVoted w Acknowledgements v k ≡ true) (journal : List ℕ)
+      (read : placeOf (versionOf l) (l .booked) ≤ length journal → jobAt (versionOf l) journal (l .booked) ≡ bookedJob w) where
     abbrev ledgerLeft : Request → Decision → Ledger
     ledgerLeft q d = applied l (d .change) (vaultIn q) (jobIn q)
 
@@ -330,8 +335,10 @@ module _ {w : World} {r : Register} (i : Inv w r) where
     leave q d (releases v k rival h s) value e j = by-release v k value (h .vault) s e
     leave q d (asks-again v k client h c s) value e j = by-client-again v k client value (h .vault) c s e
     leave q d (asks v k client h c s) value e j = by-client v k client value (h .vault) (h .known .below) c s e
-    leave q d (shows k x) value e j = refl
-    leave q d (ages k x) value e j = refl
+    leave q d (shows k) value e j =
+        record { same = refl; value = subst (Status (l .settings) (votesAt l k)) (sym (answered _ value e)) (status-means (l .settings) (votesAt l k)) }
+    leave q d (ages k h) value e j =
+        record { same = refl; value = answered _ value e ∙ ap (λ (job : ℕ → Job). ageIn job (l .order) (l .arrivals) k) (read (h .inside)) }
     leave q d (depends v k x) value e j = refl
     leave q d (names x) value e j = refl
 
@@ -347,8 +354,8 @@ module _ {w : World} {r : Register} (i : Inv w r) where
     unbooked q d (releases v k rival h s) = refl
     unbooked q d (asks-again v k client h c s) = refl
     unbooked q d (asks v k client h c s) = refl
-    unbooked q d (shows k x) = refl
-    unbooked q d (ages k x) = refl
+    unbooked q d (shows k) = refl
+    unbooked q d (ages k h) = refl
     unbooked q d (depends v k x) = refl
     unbooked q d (names x) = refl
 
@@ -360,6 +367,10 @@ module _ {w : World} {r : Register} (i : Inv w r) where
     abbrev worldLeft : Ledger → List ℕ → World
     worldLeft l′ js = record { ledger = l′; booked = take (placeOf (versionOf l) (l′ .booked)) (overlay js (w .booked)) }
 
+    -- behind check 4 the booked jobs are read as they are
+    read : placeOf (versionOf l) (l .booked) ≤ length journal → jobAt (versionOf l) journal (l .booked) ≡ bookedJob w
+    read h = jobs-read (versionOf l) (l .booked) size (w .booked) beyond (i .shape .records) h
+
     -- where nothing is booked the booked bytes stay
     settled : (l′ : Ledger) → l′ .booked ≡ l .booked → worldLeft l′ journal ≡ withLedger w l′
     settled l′ e =
@@ -368,13 +379,13 @@ module _ {w : World} {r : Register} (i : Inv w r) where
         ∙ kept-bytes size (w .booked) beyond)
 
     abbrev Left : Request → Decision → Type 0
-    Left q d = (value : ℕ) → d .outcome ≡ Done value → Inv (worldLeft (ledgerLeft acknowledged journal q d) journal) (feed r q true)
-        → Leaves w (worldLeft (ledgerLeft acknowledged journal q d) journal) q value
+    Left q d = (value : ℕ) → d .outcome ≡ Done value → Inv (worldLeft (ledgerLeft acknowledged journal read q d) journal) (feed r q true)
+        → Leaves w (worldLeft (ledgerLeft acknowledged journal read q d) journal) q value
 
     acted : (q : Request) (d : Decision) → Act l journal q d → Left q d
     acted q d a value e j =
-        let s = settled _ (unbooked acknowledged journal q d a) in
-        subst (λ (x : World). Leaves w x q value) (sym s) (leave acknowledged journal q d a value e (subst (λ (x : World). Inv x (feed r q true)) s j))
+        let s = settled _ (unbooked acknowledged journal read q d a) in
+        subst (λ (x : World). Leaves w x q value) (sym s) (leave acknowledged journal read q d a value e (subst (λ (x : World). Inv x (feed r q true)) s j))
 
     -- ---- proposals
     numbered : (bytes : List ℕ) (k : ℕ) → KnownAt l journal bytes k → Numbered w bytes k

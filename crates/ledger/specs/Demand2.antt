@@ -15,11 +15,12 @@ use Rattle.federation.specs.Federation.{Lawful}
 use Rattle.quota.specs.Quota.{remembered}
 use Rattle.vaults.specs.declared.Column.{Column}
 use Rattle.vaults.specs.declared.Column.the-variants.{Acknowledgements, Signatures}
-use Rattle.ledger.specs.Demand3.{Correct, bookedJob, recordsIn}
+use Rattle.ledger.specs.Demand3.{Correct, ageAt, bookedJob, recordsIn}
 use Rattle.ledger.specs.Graph.{Algorithm1, Algorithm2}
+use Rattle.ledger.specs.Meaning.{Status}
 use Rattle.ledger.specs.Parts.{Arrival, Goes, Joins, Only, hasHeld, hasSigned, hasVoted, held, histories, order, records, round, signed, votes, votesOn}
 use Rattle.ledger.specs.Register.{isDone}
-use Rattle.ledger.specs.State.{arrived, historyAt, signersOf, vaultAt, versionOf}
+use Rattle.ledger.specs.State.{arrived, historyAt, signersOf, vaultAt, versionOf, votesAt}
 use Rattle.ledger.specs.Worlds.{Event, Request, World, after, afterAll, clientPreflight, commit, dependencies, equivocating, faultyVote, generations}
 use Rattle.ledger.specs.Worlds.{lend, preflight, propose, release, replyTo, show, snapshot, start}
 
@@ -130,14 +131,24 @@ module _ (w w′ : World) where
     pub again : hasSigned w v k ≡ true → Only (histories ∷ []) w w′
     pub value : answer ≡ votesOn w′ Signatures k
 
-  -- kind by kind; what only reads leaves all as it was
+  -- kind 6: "0 open, 1 certified, 2 finished"
+  pub record ByShow (k answer : ℕ) : Type 0 where
+    pub same : w′ ≡ w
+    pub value : Status (w .ledger .settings) (votesAt (w .ledger) k) answer
+
+  -- kind 8: the generations of the job, which Demand3.antt says by its creators
+  pub record ByGenerations (k answer : ℕ) : Type 0 where
+    pub same : w′ ≡ w
+    pub value : answer ≡ ageAt w k
+
+  -- kind by kind. Kinds 11 and 13 leave all as it was too; what they list has pages of its own, Dependencies.antt and Equivocators.antt
   abbrev pub Leaves : Request → ℕ → Type 0
   Leaves (propose bytes) value = Repeats bytes value ⊎ Appends bytes value
   Leaves (preflight v k) value = ByPreflight v k value
   Leaves (commit v k signers) value = ByCommit v k value
   Leaves (faultyVote column v k) value = ByFaultyVote column v k value
-  Leaves (show k) value = w′ ≡ w
-  Leaves (generations k) value = w′ ≡ w
+  Leaves (show k) value = ByShow k value
+  Leaves (generations k) value = ByGenerations k value
   Leaves snapshot value = BySnapshot value
   Leaves (release v k rival) value = ByRelease v k value
   Leaves (dependencies v k) value = w′ ≡ w
