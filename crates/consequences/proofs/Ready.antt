@@ -27,7 +27,7 @@ use Rattle.federation.specs.Federation.{Lawful, thresholdOf}
 use Rattle.federation.specs.declared.Settings.{Settings}
 use Rattle.consequences.proofs.Acceptance.{Acknowledged, Leaves, Unopposed, acknowledged-on, algorithm-lasts, leaves, more, signed-lasts}
 use Rattle.ledger.proofs.Changes.{changes, shape-sane}
-use Rattle.ledger.proofs.Demand2.{obeys}
+use Rattle.ledger.proofs.Obeys.{booked-valid, obeys}
 use Rattle.ledger.proofs.Demand3.{along, first, kept, same-settings, settings-along}
 use Rattle.ledger.proofs.Gates.{done-gate, entered, reflect-sane}
 use Rattle.ledger.proofs.Growth.{grow, grows}
@@ -218,7 +218,7 @@ module _ (s j : ℕ) where
   signed-done w r e v f m a =
       asked-done w e (commit v j s) (a .request)
       (obeys (f .inv) (e .size) (e .beyond) v j (in-place (f .inv) e j v (f .booked) (f .correct v m) (a .whole)) .commits s .complete
-      (record { signed = f .recorded; enough = f .enough }))
+      (record { signature = record { signed = f .recorded; enough = f .enough }; valid = booked-valid (f .inv) j (f .booked) }))
 
 -- ---- what acceptance says
 module _ {w : World} {r : Register} (i : Inv w r) (j v : ℕ) (a : Accepts w j v) where

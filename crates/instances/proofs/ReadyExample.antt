@@ -138,7 +138,7 @@ of-seven P a b c (suc (suc zero)) m = c
 of-seven P a b c (suc (suc (suc v))) m =
     absurd (true≢false (sym m ∙ (has-suc 7 (suc (suc v)) ∙ (has-suc 3 (suc v) ∙ (has-suc 1 v ∙ has-none v)))))
 
-lawful : Lawful (record { n = 4; b = 1; faulty = 8; version = 1 })
+pub lawful : Lawful (record { n = 4; b = 1; faulty = 8; version = 1 })
 unfolding isKnown isFederation isLawfulUpTo ones onesIn
 lawful = reflect-lawful _ .sound refl
 

@@ -26,9 +26,9 @@ use Rattle.ledger.proofs.Gates.{enters}
 use Rattle.ledger.proofs.Paper.{admission-signs, signs-admission}
 use Rattle.queries.specs.Admission.{admission}
 use Rattle.federation.specs.Federation.{thresholdOf}
-use Rattle.ledger.specs.Graph.{Algorithm1}
+use Rattle.ledger.specs.Graph.{Algorithm1, Certificate}
 use Rattle.journal.specs.Journal.{jobAt}
-use Rattle.ledger.specs.Meaning.{Certificate, Entered}
+use Rattle.ledger.specs.Meaning.{Entered}
 use Rattle.ledger.specs.Register.{isDone, passes}
 use Rattle.ledger.specs.State.{acknowledgersOf, signersOf, vaultAt, versionOf, votesIn}
 use Rattle.ledger.specs.Decisions.{admissionAt, answering, certificate, committing, consent, consenting, gated, preflighting, receiving, voting}

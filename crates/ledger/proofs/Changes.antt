@@ -414,7 +414,7 @@ module _ (w : World) (sh : Shape (w .ledger) (w .booked)) (size : ℕ) (beyond :
 
   -- ---- propose
   -- a record inside the journal is a booked one
-  slot-tabled : (k : ℕ) → k < insideOf (versionOf l) journal (l .booked) → slotAt (versionOf l) journal k ≡ getD (tableOf w) k []
+  pub slot-tabled : (k : ℕ) → k < insideOf (versionOf l) journal (l .booked) → slotAt (versionOf l) journal k ≡ getD (tableOf w) k []
   unfolding insideOf
   slot-tabled k h =
       let before = place-before (versionOf l) k (l .booked) (omega arith) in
@@ -427,7 +427,7 @@ module _ (w : World) (sh : Shape (w .ledger) (w .booked)) (size : ℕ) (beyond :
       subst (λ (x : List ℕ). In x (tableOf w)) (sym (slot-tabled k (h .first .below)) ∙ h .first .has)
       (in-getD (tableOf w) [] k (omega (arith, h .first .below, records-length (versionOf l) (l .booked) bs)))
 
-  unknown : (bytes : List ℕ) → NewAt l journal bytes → In bytes (tableOf w) → ⊥
+  pub unknown : (bytes : List ℕ) → NewAt l journal bytes → In bytes (tableOf w) → ⊥
   unfolding insideOf
   unknown bytes h m =
       let q = getD-in (tableOf w) [] bytes m in

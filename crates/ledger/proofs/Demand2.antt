@@ -1,85 +1,32 @@
--- Demand 2: the invariant of demand 3 gives what the laws on Algorithms 1 and 2 ask for. The counts are in their bounds, the lent journal
--- is read as the booked records, and each of those passed checks 6 to 9 when it was booked.
+-- Demand 2, put together along a list of steps: the invariant of demand 3 holds wherever it has led, and so does that a vault has acknowledged what it holds.
 use mathlib.Core.Bool.{Bool, false, true}
-use mathlib.Core.List.{List, []}
-use mathlib.Core.Logic.{inl, inr, ⊎-elim}
-use mathlib.Core.Path.{_∙_, _≡_, ap, refl, subst, sym}
-use Prim.Native.Nat.{ℕ}
-use native.Mathlib.Omega.{arith}
-use lib.ListN.{getD}
-use Rattle.base.proofs.Members.{in-getD}
-use Rattle.base.specs.Reflect.{Reflects}
-use Rattle.checks.specs.Checks.{checkOf}
-use Rattle.outcome.specs.declared.Verdict.the-variants.{Pass}
-use Rattle.record.specs.declared.Job.{Job}
-use Rattle.job_sets.specs.Jobs.{jobHas, jobWithout}
-use Rattle.journal.specs.Journal.{jobAt}
-use Rattle.ledger.proofs.Account.{examined-checked}
-use Rattle.ledger.proofs.Algorithms.{algorithm-signs, certificate-valid, commits, signed-again, signs-algorithm}
-use Rattle.ledger.proofs.Changes.{shape-sane}
+use mathlib.Core.Path.{_≡_, refl, sym}
 use Rattle.ledger.proofs.Demand3.{along, first}
-use Rattle.ledger.proofs.Invariant.{Inv, table-length}
-use Rattle.ledger.proofs.Lending.{jobs-read}
-use Rattle.ledger.specs.Demand2.{Demand2, InPlace, Obeys, Signs, accepts}
-use Rattle.ledger.specs.Demand3.{bookedJob}
-use Rattle.ledger.specs.Graph.{Algorithm1}
-use Rattle.ledger.specs.Meaning.{Certificate, Entered}
-use Rattle.ledger.specs.Register.{Register, isDone, newRegister, tabled}
-use Rattle.ledger.specs.State.{signersOf, vaultAt, versionOf}
-use Rattle.ledger.specs.Worlds.{World, lend, preflight, start}
-use Rattle.ledger.specs.declared.Decision.{Decision}
-use Rattle.ledger.specs.declared.Ledger.{Ledger}
+use Rattle.ledger.proofs.Invariant.{Inv}
+use Rattle.ledger.proofs.Leaves.{leaves}
+use Rattle.ledger.proofs.Obeys.{obeys}
+use Rattle.ledger.proofs.OnlyThen.{Acknowledges, acknowledges-along, only-then}
+use Rattle.ledger.proofs.Views.{heldAt, votedAt}
+use Rattle.ledger.specs.Demand2.{Demand2, Rules}
+use Rattle.ledger.specs.Register.{Register, newRegister}
+use Rattle.ledger.specs.Worlds.{World, start}
 
-module _ {w : World} {r : Register} (i : Inv w r) (size : ℕ) (beyond : List ℕ) (v k : ℕ) (p : InPlace w size beyond v k) where
-  abbrev l : Ledger
-  l = w .ledger
+both-ways : (a b : Bool) → (a ≡ true → b ≡ true) → (b ≡ true → a ≡ true) → a ≡ b
+both-ways true b f g = sym (f refl)
+both-ways false true f g = g refl
+both-ways false false f g = refl
 
-  abbrev journal : List ℕ
-  journal = lend (w .booked) size beyond
-
-  entered : Entered l journal v k false
-  entered = record {
-    sane = shape-sane (i .shape);
-    vault = p .correct .below;
-    role = p .correct .sound;
-    known = record { inside = p .whole; below = p .booked };
-  }
-
-  jobs : jobAt (versionOf l) journal (l .booked) ≡ bookedJob w
-  jobs = jobs-read (versionOf l) (l .booked) size (w .booked) beyond (i .shape .records) (p .whole)
-
-  -- a booked record passed checks 6 to 9
-  checked : checkOf (jobAt (versionOf l) journal (l .booked) k) ≡ Pass
-  checked =
-      ap (λ (job : ℕ → Job). checkOf (job k)) (jobs ∙ ap tabled (sym (i .table)))
-      ∙ examined-checked (r .version) (getD (r .table) k []) (i .fit _ (in-getD (r .table) [] k (omega (arith, p .booked, table-length i))))
-
-  -- Algorithm 1 over the jobs of a book
-  abbrev Over : (ℕ → Job) → Type 0
-  Over job = Algorithm1 job (l .booked) (vaultAt l v .held) (jobWithout (vaultAt l v .signed) k) (job k)
-
-  done-when : (d : Decision) → isDone (d .outcome) ≡ true → (e : Decision) → e ≡ d → isDone (e .outcome) ≡ true
-  done-when d h e q = ap (λ (x : Decision). isDone (x .outcome)) q ∙ h
-
-  accepted : (b : Bool) → jobHas (vaultAt l v .signed) k ≡ b → accepts w size beyond (preflight v k) ≡ true → Signs w v k
-  accepted true s e = inl s
-  accepted false s e = inr (subst Over jobs (signs-algorithm l journal v k entered checked s e))
-
-  again : jobHas (vaultAt l v .signed) k ≡ true → accepts w size beyond (preflight v k) ≡ true
-  again s = done-when _ refl _ (signed-again l journal v k entered s)
-
-  allowed : (b : Bool) → jobHas (vaultAt l v .signed) k ≡ b → Over (bookedJob w) → accepts w size beyond (preflight v k) ≡ true
-  allowed true s a = again s
-  allowed false s a = done-when _ refl _ (algorithm-signs l journal v k entered s (subst Over (sym jobs) a))
-
-  pub obeys : Obeys w size beyond v k
-  obeys = record {
-    signs = record { sound = accepted _ refl; complete = ⊎-elim again (allowed _ refl) };
-    commits = λ signers.
-        subst (λ (b : Bool). Reflects b (Certificate (l .settings) (signersOf l k) signers)) (sym (commits l journal v k entered signers))
-        (certificate-valid (l .settings) (signersOf l k) signers);
-  }
+pub rules : {w : World} {r : Register} → Inv w r → Acknowledges w → Rules w
+unfolding heldAt votedAt
+rules i a = record {
+  when = obeys i;
+  leaves = leaves i a;
+  only-then = λ e v k c. only-then i v k c e;
+  acknowledged = λ v k c. both-ways _ _ (i .safe .honest v k c) (a v k);
+}
 
 pub demand2 : Demand2
-demand2 n b faulty version lawful es size beyond v k p =
-    obeys (along es (start n b faulty version) (newRegister version) (first n b faulty version lawful)) size beyond v k p
+demand2 n b faulty version lawful es =
+    let i = first n b faulty version lawful in
+    rules (along es (start n b faulty version) (newRegister version) i)
+    (acknowledges-along es (start n b faulty version) (newRegister version) i (λ v k t. absurd (i .held-taken v k t)))

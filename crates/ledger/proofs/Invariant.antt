@@ -133,14 +133,17 @@ module _ {w : World} {r : Register} (i : Inv w r) where
   abbrev job : ℕ → Job
   job = tabled (r .table)
 
-  in-vaults : (v : ℕ) → v < l .settings .n → v < length (l .vaults)
+  pub in-vaults : (v : ℕ) → v < l .settings .n → v < length (l .vaults)
   in-vaults v h = omega (arith, i .shape .vaults, i .shape .lawful .vaults)
 
-  is-vault : (v : ℕ) → v < l .settings .n → v < 16
+  pub is-vault : (v : ℕ) → v < l .settings .n → v < 16
   is-vault v h = omega (arith, i .shape .lawful .vaults)
 
-  is-job : (k : ℕ) → k < l .booked → k < 128
+  pub is-job : (k : ℕ) → k < l .booked → k < 128
   is-job k h = omega (arith, i .shape .room)
+
+  pub in-votes : (k : ℕ) → k < l .booked → k < length (l .votes)
+  in-votes k h = omega (arith, i .shape .room, i .shape .votes)
 
   pub tally : Tally (l .settings) (recordedAt l) (signersOf l)
   unfolding votedAt

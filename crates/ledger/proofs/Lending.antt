@@ -99,7 +99,7 @@ module _ (version : ℕ) where
     pub slot-read : (k : ℕ) → k < n → slotAt version (lend bs size xs) k ≡ getD (recordsIn version n bs) k []
     slot-read k l = let p = place-before version k n l in slot-agrees k size bs xs (omega (arith, e, p)) (omega (arith, h, p)) ∙ sym (records-at n k bs l)
 
-    record-read : (k : ℕ) → recordAt version (lend bs size xs) n k ≡ getD (recordsIn version n bs) k []
+    pub record-read : (k : ℕ) → recordAt version (lend bs size xs) n k ≡ getD (recordsIn version n bs) k []
     unfolding recordAt
     record-read k =
         by-cases (λ b. cond b (slotAt version (lend bs size xs) k) [] ≡ getD (recordsIn version n bs) k []) (isBooked version (lend bs size xs) n k)

@@ -1,4 +1,5 @@
 pub mod Account
+pub mod Acts
 pub mod Algorithms
 pub mod Changes
 pub mod Counted
@@ -14,12 +15,17 @@ pub mod Gates
 pub mod Growth
 pub mod Holders
 pub mod Invariant
+pub mod Leaves
 pub mod Lending
+pub mod Links
 pub mod Meaning
 pub mod Missing
 pub mod NoQuota
+pub mod Obeys
 pub mod OneAnswer
+pub mod OnlyThen
 pub mod Paper
+pub mod Parts
 pub mod Places
 pub mod Quota
 pub mod Refusals

@@ -197,12 +197,12 @@ record Kept (v c : ℕ) (w : World) (past : List Ask) : Type 0 where
   ruled : Ruled past
 
 -- other clients and other vaults have other places
-apart : (u d v c : ℕ) → u < 16 → v < 16 → d < 8 → c < 8 → (u ≢ v) ⊎ (d ≢ c) → historyPlace v c ≢ historyPlace u d
+pub apart : (u d v c : ℕ) → u < 16 → v < 16 → d < 8 → c < 8 → (u ≢ v) ⊎ (d ≢ c) → historyPlace v c ≢ historyPlace u d
 unfolding historyPlace
 apart u d v c hu hv hd hc (inl n) e = n (omega (arith, e))
 apart u d v c hu hv hd hc (inr n) e = n (omega (arith, e))
 
-place-below : (v c : ℕ) → historyPlace v c < 128
+pub place-below : (v c : ℕ) → historyPlace v c < 128
 unfolding historyPlace
 place-below v c = omega arith
 

@@ -13,17 +13,20 @@ use Rattle.conflicts.specs.Conflicts.{conflicting}
 use Rattle.conflicts.specs.Tapes.{inputTapes}
 use Rattle.federation.specs.Federation.{Lawful}
 use Rattle.federation.specs.declared.Settings.{Settings}
+use Rattle.outcome.specs.declared.Outcome.{Outcome}
+use Rattle.outcome.specs.declared.Outcome.the-variants.{Done, Refused}
 use Rattle.outcome.specs.declared.Verdict.{Verdict}
 use Rattle.outcome.specs.declared.Verdict.the-variants.{Fail, Pass}
 use Rattle.record.specs.declared.Entry.{Entry}
 use Rattle.job_sets.specs.Jobs.{jobHas, jobWithout}
 use Rattle.ledger.proofs.Changes.{Change, appends, changes, counts, grants, holds, idle, nothing, releasedBy, releases, sees, signs, votes}
-use Rattle.ledger.proofs.Demand2.{obeys}
+use Rattle.ledger.proofs.Demand2.{demand2}
 use Rattle.ledger.proofs.Demand3.{along, first, kept, same-settings, settings-along}
 use Rattle.ledger.proofs.Effects.{hold-signed, release-held, release-signed, sign-signed}
 use Rattle.ledger.proofs.Gates.{done-gate, entered}
 use Rattle.ledger.proofs.Growth.{grow, grows}
 use Rattle.ledger.proofs.Invariant.{Inv, clear}
+use Rattle.ledger.proofs.Obeys.{obeys}
 use Rattle.ledger.proofs.Rivals.{apart-peaceful, listed, rival-sym}
 use Rattle.ledger.proofs.Safety.{Clear}
 use Rattle.ledger.proofs.Views.{heldAt, recordedAt, signedAt, votedAt}
@@ -31,11 +34,11 @@ use Rattle.ledger.specs.Decisions.{gated, releasing, supersession}
 use Rattle.ledger.specs.Demand2.{accepts}
 use Rattle.ledger.specs.Demand3.{Correct, bookedJob}
 use Rattle.ledger.specs.Graph.{Algorithm1}
-use Rattle.ledger.specs.Growth.{Grows, OnlySigned, ReleaseTakes, Released, ReleasedForGood, SignedStays}
+use Rattle.ledger.specs.Growth.{AfterRelease, Grows, OnlySigned, ReleaseTakes, Released, ReleasedForGood, SignedStays}
 use Rattle.ledger.specs.Register.{Register, feed, feedAll, isDone, log, newRegister, tabled}
 use Rattle.ledger.specs.State.{applied, booking, counted, newLedger, vaultAt, versionOf, visited, voted, withVault}
 use Rattle.ledger.specs.Steps.{carried, preflightDecision, releaseDecision, releaseOf, vaultGate}
-use Rattle.ledger.specs.Worlds.{Event, Request, World, after, afterAll, lend, preflight, replyTo, start}
+use Rattle.ledger.specs.Worlds.{Event, Request, World, after, afterAll, lend, preflight, release, replyTo, start}
 use Rattle.ledger.specs.declared.Decision.{Decision}
 use Rattle.ledger.specs.declared.Ledger.{Ledger}
 
@@ -161,6 +164,28 @@ released-for-good n b faulty version lawful es fs v k c x =
     let j = along fs w r i in
     let still = released-now j v k d′ (grows fs w r i .signatures v k (x .recorded)) (unsigned-along fs w r i v k d (x .recorded) (x .unsigned)) in
     (still, turned-back z (feedAll r (log w fs)) j v k d′ still)
+
+-- ---- a release that is answered 0: the job is unsigned there, and its signature is recorded as it was
+done-value : (o : Outcome) → isDone o ≡ true → (value : ℕ) × (o ≡ Done value)
+done-value (Done value) e = (value, refl)
+done-value (Refused why) e = absurd (true≢false (sym e))
+
+pub after-release : AfterRelease
+unfolding releaseDecision signedAt votedAt
+after-release n b faulty version lawful es size beyond v k rival done =
+    let w = afterAll (start n b faulty version) es in
+    let r = feedAll (newRegister version) (log (start n b faulty version) es) in
+    let i = along es (start n b faulty version) (newRegister version) (first n b faulty version lawful) in
+    let e : Event = record { request = release v k rival; size = size; beyond = beyond } in
+    let h = entered (w .ledger) (lend (w .booked) size beyond) v k false (done-gate (vaultGate (w .ledger) (lend (w .booked) size beyond) v k false) _ done) in
+    let o = done-value (replyTo w e .outcome) done in
+    let left = demand2 n b faulty version lawful es .leaves e (o .0) (o .1) in
+    let change = changes w (i .shape) e in
+    released-now (kept w r i e) v k
+    (subst (λ (s : Settings). Correct s v) (sym (same-settings w (e .request) (isDone (replyTo w e .outcome)) (after w e) change))
+    (record { below = h .vault; sound = h .role }))
+    (grow w (i .shape) (e .request) (isDone (replyTo w e .outcome)) (after w e) change .signatures v k (i .safe .backed v k (left .was)))
+    (left .unsigned .gone)
 
 -- ---- a release takes one job from one signed set, and nothing else
 module _ (l : Ledger) (v k : ℕ) where

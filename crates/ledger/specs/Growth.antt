@@ -13,7 +13,7 @@ use Rattle.ledger.specs.Demand2.{accepts}
 use Rattle.ledger.specs.Demand3.{Correct, bookedJob}
 use Rattle.ledger.specs.State.{acknowledgersOf, signersOf, vaultAt}
 use Rattle.ledger.specs.Steps.{releaseOf}
-use Rattle.ledger.specs.Worlds.{Event, World, afterAll, preflight, start}
+use Rattle.ledger.specs.Worlds.{Event, World, after, afterAll, preflight, release, start}
 use Rattle.ledger.specs.declared.Ledger.{Ledger}
 
 -- the vault signed the job and released it: its signature is recorded, and it holds a rival, which it never signed
@@ -50,6 +50,13 @@ ReleasedForGood =
     → Correct (record { n = n; b = b; faulty = faulty; version = version }) v → Released (afterAll (start n b faulty version) es) v k
     → Released (afterAll (afterAll (start n b faulty version) es) fs) v k
     × ((size : ℕ) (beyond : List ℕ) → accepts (afterAll (afterAll (start n b faulty version) es) fs) size beyond (preflight v k) ≡ false)
+
+-- a release that is answered 0 leaves its job released
+abbrev pub AfterRelease : Type 0
+AfterRelease =
+    (n b faulty version : ℕ) → Lawful (record { n = n; b = b; faulty = faulty; version = version }) → (es : List Event) (size : ℕ) (beyond : List ℕ)
+    (v k rival : ℕ) → let w = afterAll (start n b faulty version) es in accepts w size beyond (release v k rival) ≡ true
+    → Released (after w (record { request = release v k rival; size = size; beyond = beyond })) v k
 
 -- "takes the job from the signed set", and changes nothing else: no recorded vote, no count, no held set, no order
 pub record OnlySigned (l l′ : Ledger) (v k : ℕ) : Type 0 where

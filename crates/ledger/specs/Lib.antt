@@ -9,7 +9,9 @@ pub mod Given
 pub mod Graph
 pub mod Growth
 pub mod Holders
+pub mod Links
 pub mod Meaning
+pub mod Parts
 pub mod Quota
 pub mod Refused
 pub mod Register

@@ -4,22 +4,11 @@ use mathlib.Core.List.{List}
 use mathlib.Core.Logic.{_≢_, _⊎_}
 use mathlib.Core.Path.{_≡_}
 use Prim.Native.Nat.{_+_, _<_, _≤_, ℕ}
-use lib.Count.{ones}
 use lib.ListN.{length}
 use Rattle.base.specs.Search.{Every, Least}
 use Rattle.outcome.specs.declared.Outcome.the-variants.{Done}
 use Rattle.outcome.specs.declared.Refusal.{Refusal}
-use Rattle.outcome.specs.declared.Refusal.the-variants.{
-  Full,
-  InputReserved,
-  NotBooked,
-  NotCreated,
-  NotSignedHere,
-  NotSuperseded,
-  OutputReserved,
-  Retired,
-  Settings as BadSettings,
-}
+use Rattle.outcome.specs.declared.Refusal.the-variants.{Full, InputReserved, NotBooked, NotCreated, NotSignedHere, NotSuperseded, OutputReserved, Retired, Settings as BadSettings}
 use Rattle.outcome.specs.declared.Verdict.{Verdict}
 use Rattle.outcome.specs.declared.Verdict.the-variants.{Fail, Pass}
 use Rattle.checks.specs.Checks.{examined}
@@ -124,11 +113,6 @@ pub data Status (s : Settings) (votes : Votes) : ℕ → Type 0 where
   uncertified : (Quorum s (votes .acknowledgements) → ⊥) → (Quorum s (votes .signatures) → ⊥) → Status s votes 0
   certified : (Quorum s (votes .acknowledgements) → ⊥) → Quorum s (votes .signatures) → Status s votes 1
   finished : Quorum s (votes .acknowledgements) → Status s votes 2
-
--- ---- checks 15 and 16, by vaults: each named signer has signed, and they are at least n − b. Algorithm 2's "valid threshold signature".
-pub record Certificate (s : Settings) (recorded signers : ℕ) : Type 0 where
-  pub signed : (v : ℕ) → hasBit signers v ≡ true → hasBit recorded v ≡ true
-  pub enough : thresholdOf s ≤ ones signers
 
 -- ---- kind 10, by jobs: the vault holds the other, which is a rival. "Two different jobs are rivals if they share an input label or an output label."
 pub record Supersedes (state : Vault) (version : ℕ) (journal : List ℕ) (booked job rival : ℕ) : Type 0 where
