@@ -30,8 +30,8 @@ fn said_by(turned: Turned, written: usize) -> Turned
     let p = turned.progress;
     let progress = at_front(p, written);
     let outcome = turned.outcome;
-    let members = turned.members;
     let named = turned.named;
+    let members = turned.members;
     Turned {
         progress,
         outcome,
