@@ -47,7 +47,7 @@ struct Programs<'a> {
 
 fn compare(programs: &Programs, count: u64, first: u64) -> Result<(), String> {
     let whole = reference::whole_run();
-    room::check(&whole, reference::whole_text().as_bytes())?;
+    room::every(&whole, reference::whole_text().as_bytes())?;
 
     near_each_edge(programs)?;
 
@@ -83,6 +83,7 @@ fn near_each_edge(programs: &Programs) -> Result<(), String> {
         if out.text(&edge.file)? != edge.text.as_bytes() {
             return Err(wrong("the proved library"));
         }
+        room::edge(&edge.file, edge.text.as_bytes())?;
         if process::text(programs.custody, &edge.file)? != edge.text.as_bytes() {
             return Err(wrong("the proved program"));
         }

@@ -1,24 +1,28 @@
-//! The proved library with too little room for its text.
-
-use reference::run::LONGEST_TEXT;
+//! The proved library with too little room for its text, with just enough, and with more.
 
 const UNTOUCHED: u8 = 0xA5;
 
-/// What is written must be the text's beginning, and nothing behind the room
-/// may be touched; with room for one more text the whole must be there.
-pub fn check(input: &[u8], expected: &[u8]) -> Result<(), String> {
-    let enough = expected.len() + LONGEST_TEXT;
-    for room in 0..=enough {
-        let mut out = vec![UNTOUCHED; enough + 1];
-        let length = proved::call(input, &mut out[..room]);
-        let written = length.min(room);
-        let right = length <= expected.len()
-            && (room < enough || length == expected.len())
-            && out[..written] == expected[..written]
-            && out[room..].iter().all(|byte| *byte == UNTOUCHED);
-        if !right {
-            return Err(format!("with room for {room} bytes the library is wrong"));
-        }
+/// With any room up to two bytes more than the text takes.
+pub fn every(input: &[u8], expected: &[u8]) -> Result<(), String> {
+    (0..=expected.len() + 2).try_for_each(|room| check(input, expected, room))
+}
+
+/// With a byte too few and with just enough.
+pub fn edge(input: &[u8], expected: &[u8]) -> Result<(), String> {
+    (expected.len() - 1..=expected.len()).try_for_each(|room| check(input, expected, room))
+}
+
+/// The answer must be the length of the whole text. Where there is room for it, it must stand at the front, and nothing behind it may be touched;
+/// where there is none, nothing at all.
+fn check(input: &[u8], expected: &[u8], room: usize) -> Result<(), String> {
+    let mut out = vec![UNTOUCHED; room + expected.len()];
+    let length = proved::call(input, &mut out[..room]);
+    let written = if room < expected.len() { 0 } else { expected.len() };
+    let right = length == expected.len()
+        && out[..written] == expected[..written]
+        && out[written..].iter().all(|byte| *byte == UNTOUCHED);
+    if !right {
+        return Err(format!("with room for {room} bytes the library is wrong"));
     }
     Ok(())
 }

@@ -1,14 +1,11 @@
 //! The proved programs, called in this process.
 
-use reference::run::{LONGEST_LINE, LONGEST_TEXT};
+use reference::run::LONGEST_TEXT;
 use reference::settings::LONGEST_FILE;
 
-/// The vaults that a step of one byte lists: at most b, 5, of two digits and the end.
-const NAMED: usize = 15;
-
-/// Room for any text, since no step has less than a byte and one that lists up to four jobs has three, and for the one text more without
-/// which the program writes no further.
-pub const ROOM: usize = LONGEST_FILE * (LONGEST_LINE + NAMED) + LONGEST_TEXT;
+/// Room for the longest text of a step for each byte of the longest file, and for one more: in this the library knows beforehand that any text
+/// fits, and carries the run out once. Only what is written of it is ever touched.
+pub const ROOM: usize = (LONGEST_FILE + 1) * LONGEST_TEXT;
 
 /// Room for any release list: of 128 jobs with four inputs each, and the line with their number.
 pub const LIST: usize = 128 * 4 * 25 + 5;
@@ -18,7 +15,7 @@ extern "C" {
     fn custody_run(input: *const u8, input_len: usize, out: *mut u8, out_len: usize) -> usize;
 }
 
-/// Writes the text of a run file, as much as there is room for, and answers its length.
+/// Answers the length of a run file's text, and writes it if there is room for the whole; else nothing.
 pub fn call(input: &[u8], out: &mut [u8]) -> usize {
     // SAFETY: both pointers are of slices that live through the call, and the lengths given are theirs.
     unsafe { custody_run(input.as_ptr(), input.len(), out.as_mut_ptr(), out.len()) }

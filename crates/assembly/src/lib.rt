@@ -2,16 +2,20 @@
 mod places;
 
 ghost use mathlib.Core.Path.{_≡_};
-ghost use Prim.Native.Nat.{_*_, _+_, _<_, _≤_};
-ghost use lib.ListN.{drop, length, take};
-ghost use Rattle.assembly.specs.Assembles.{Assembles, Judged, ending, fileRoom};
+ghost use Prim.Native.Nat.{_<_, _≤_};
+ghost use lib.ListN.{drop, length};
+ghost use Rattle.assembly.specs.Assembles.{Assembles, Judged, ending, lineRoom};
 ghost use Rattle.lines.specs.LineTo.{LineTo};
 ghost use Rattle.notation.specs.Files.{assembled, lineRead, longestText};
-ghost use Rattle.words.specs.Room.{longestRow, rowRoom};
+ghost use Rattle.runfile.specs.Run.{longest};
+ghost use Rattle.words.specs.Room.{rowRoom};
 use parsing::Parsed;
 
-// A buffer of this size takes the longest file and the longest line.
-pub const OUT: usize = 66259;
+// A buffer of this size takes the longest file.
+pub const OUT: usize = 65536;
+
+// And one of this size the bytes of any line.
+const LINE: usize = 723;
 
 // One byte more than the longest text that is taken, to see that there are too many.
 pub const TEXT: usize = 2097153;
@@ -30,35 +34,28 @@ pub struct Made {
     pub end: usize,
 }
 
-// A line after the file's first bytes: the header where there are none.
-fn line_read(text: &[u8], at: usize, buffer: &mut [u8], out: &mut [u8], end: usize) -> Parsed
-    requires { ⌜ (at ≤ length (now text)) × (rowRoom ≤ length (now buffer)) × (end + 4 * longestRow + 3 ≤ length (now out)) ⌝ }
-    ensures { λ r. ⌜ LineTo (lineRead (take end (now (out .entry))) (drop at (now (text .entry)))) (now (text .entry)) end (now (out .entry))
-        (now (out .exit)) r ⌝ }
+// A line after the bytes that were made of those before it: the header where there are none. What it says goes to the front of `bytes`.
+fn line_read(text: &[u8], at: usize, buffer: &mut [u8], bytes: &mut [u8], made: &[u8]) -> Parsed
+    requires { ⌜ (at ≤ length (now text)) × (rowRoom ≤ length (now buffer)) × (lineRoom ≤ length (now bytes)) ⌝ }
+    ensures { λ r. ⌜ LineTo (lineRead (now (made .entry)) (drop at (now (text .entry)))) (now (text .entry)) 0 (now (bytes .entry))
+        (now (bytes .exit)) r ⌝ }
 {
-    if end == 0 {
-        return lines::header_read(text, at, out);
+    if made.len() == 0 {
+        return lines::header_read(text, at, bytes);
     }
-    lines::step_read(
-        fields::word_at(parts::front(out, end), 3),
-        text,
-        at,
-        buffer,
-        out,
-        end,
-    )
+    lines::step_read(fields::word_at(made, 3), text, at, buffer, bytes, 0)
 }
 
-// Why a line that was read can't be taken: it is wrong, something follows on it, or the file would be too long.
-fn judge(text: &[u8], p: Parsed) -> u8
-    requires { ⌜ p .next ≤ length (now text) ⌝ }
-    ensures { λ r. ⌜ Judged (now (text .entry)) p r ⌝ }
+// Why a line that was read can't be taken: it is wrong, something follows on it, or the file, which ends at `end` before it, would be too long.
+fn judge(text: &[u8], p: Parsed, end: usize) -> u8
+    requires { ⌜ (p .next ≤ length (now text)) × (end ≤ longest) ⌝ }
+    ensures { λ r. ⌜ Judged (now (text .entry)) p end r ⌝ }
 {
     if p.reason != 0 {
         return p.reason;
     }
     if places::is_over(text, places::skip_blanks(text, p.next)) {
-        if p.end > 65536 {
+        if p.end > OUT - end {
             return 13;
         }
         return 0;
@@ -82,10 +79,10 @@ fn finish(line: u64, end: usize) -> Made
     verdict(0, line, end)
 }
 
-// Line by line. `buffer` has room for a row, and `out` for a line more than the longest file.
-fn make(text: &[u8], buffer: &mut [u8], out: &mut [u8]) -> Made
-    requires { ⌜ (rowRoom ≤ length (now buffer)) × (fileRoom ≤ length (now out)) ⌝ }
-    ensures { λ r. ⌜ Assembles (assembled (now (text .entry))) (now (out .exit)) r ⌝ }
+// Line by line. `buffer` has room for a row, and `bytes` for a line; `out` gets those that are taken, and nothing else.
+fn make(text: &[u8], buffer: &mut [u8], bytes: &mut [u8], out: &mut [u8]) -> Made
+    requires { ⌜ (rowRoom ≤ length (now buffer)) × (lineRoom ≤ length (now bytes)) × (longest ≤ length (now out)) ⌝ }
+    ensures { λ r. ⌜ Assembles (assembled (now (text .entry))) (now (out .entry)) (now (out .exit)) r ⌝ }
 {
     let mut left = text.len();
     let mut at = 0;
@@ -102,12 +99,12 @@ fn make(text: &[u8], buffer: &mut [u8], out: &mut [u8]) -> Made
             line += 1;
             continue;
         }
-        let p = line_read(text, start, buffer, out, end);
-        let why = judge(text, p);
+        let p = line_read(text, start, buffer, bytes, parts::front(out, end));
+        let why = judge(text, p, end);
         if why != 0 {
             return verdict(why, line, end);
         }
-        end = p.end;
+        end = words::put(out, end, parts::front(bytes, p.end));
         at = places::after_line(text, p.next);
         line += 1;
     }
@@ -115,10 +112,11 @@ fn make(text: &[u8], buffer: &mut [u8], out: &mut [u8]) -> Made
 }
 
 // The run file that a text says stands at the front of `out` afterwards; or the lines before the first that is wrong, whose number is handed
-// back, and why.
+// back, and why. What is behind stays as it was.
 pub fn assemble(text: &[u8], out: &mut [u8; OUT]) -> Made
-    ensures { λ r. ⌜ Assembles (assembled (now (text .entry))) (now (out .exit)) r × (length (now (out .exit)) ≡ fileRoom) ⌝ }
+    ensures { λ r. ⌜ Assembles (assembled (now (text .entry))) (now (out .entry)) (now (out .exit)) r × (length (now (out .exit)) ≡ longest) ⌝ }
 {
     let mut buffer = [0u8; words::ROOM];
-    make(text, &mut buffer, out)
+    let mut bytes = [0u8; LINE];
+    make(text, &mut buffer, &mut bytes, out)
 }

@@ -2,8 +2,9 @@
 use libc::STDIN_FILENO;
 use libc::STDOUT_FILENO;
 
-fn print(out: &[u8], written: usize) {
-    io::write_all(STDOUT_FILENO, parts::front(out, written));
+// Whether it was written; where it was not, nothing more is.
+fn print(out: &[u8], written: usize) -> bool {
+    io::write_all(STDOUT_FILENO, parts::front(out, written))
 }
 
 fn carry_out(input: &[u8]) {
@@ -26,7 +27,10 @@ fn carry_out(input: &[u8]) {
             input,
             &mut out,
         );
-        print(&out, progress.written);
+        if print(&out, progress.written) {
+            continue;
+        }
+        return;
     }
 }
 

@@ -2,19 +2,12 @@
 use libc::STDIN_FILENO;
 use libc::STDOUT_FILENO;
 
-// One byte more than the longest file, to see that there are too many.
-const INPUT: usize = 65537;
-
-fn input_buffer() -> [u8; INPUT] {
-    [0; INPUT]
-}
-
 fn text_buffer() -> [u8; disassembly::TEXT] {
     [0; disassembly::TEXT]
 }
 
 fn main() {
-    let mut input = input_buffer();
+    let mut input = header::input_buffer();
     let n = io::read_full(STDIN_FILENO, &mut input);
     let mut out = text_buffer();
     let end = disassembly::disassemble(&input[..n], &mut out);

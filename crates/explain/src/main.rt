@@ -7,8 +7,9 @@ use ledger::Ledger;
 use libc::STDIN_FILENO;
 use libc::STDOUT_FILENO;
 
-fn print(out: &[u8], written: usize) {
-    io::write_all(STDOUT_FILENO, parts::front(out, written));
+// Whether it was written; where it was not, nothing more is.
+fn print(out: &[u8], written: usize) -> bool {
+    io::write_all(STDOUT_FILENO, parts::front(out, written))
 }
 
 fn print_sheet(ledger: Ledger, out: &mut [u8])
@@ -17,8 +18,11 @@ fn print_sheet(ledger: Ledger, out: &mut [u8])
     let mut job = 0;
     while job < ledger.booked {
         let n = sheet::job_line(ledger, job, out);
-        print(out, n);
-        job += 1;
+        if print(out, n) {
+            job += 1;
+            continue;
+        }
+        return;
     }
 }
 
@@ -45,7 +49,10 @@ fn carry_out(input: &[u8]) {
         );
         progress = t.progress;
         named = t.named;
-        print(&out, progress.written);
+        if print(&out, progress.written) {
+            continue;
+        }
+        return;
     }
     print_sheet(progress.ledger, &mut out);
 }

@@ -78,24 +78,30 @@ module _ (input journal numbers₀ sets₀ records₀ memo₀ line line′ journ
       ∙ ap (λ (x : Outcome). textBy input (p .pos) (turn input r) x (t .members)) answered
       ∙ ap (textBy input (p .pos) (turn input r) (replyOf (r .ledger) (r .journal) (commandOf input r) .outcome)) listed
 
-  counted : t .progress .count ≡ p .count + 1
-  unfolding turn
-  counted = ap (λ (x : Run). x .count) next
-
   pub told-once : (before after : List ℕ) (u : Turned) (w : ℕ) → stepRoom ≤ length before
       → Put before 0 (textBy input (p .pos) (runOf (t .progress) journal′) (t .outcome) (t .members)) after w → w ≤ stepLong → u ≡ saidBy t w
       → Told input p journal before u journal′ numbers sets records memo after
   told-once before after u w room x few is =
+      let text : Put before 0 (nextText input r) after w = rw explains at x in
       rw is (record {
+        next = next;
+        answered = answered;
+        listed = listed;
+        text = text;
         said = record {
           part = nextText input r;
           cut =
               step-left input r (omega (arith, g .steps, here)) here
               ∙ ap (λ (y : Run). nextText input r ++ explainedFrom input y) (sym next);
-          put = rw explains at x;
+          put = text;
           fits = omega (arith, few, room);
         };
         going = going-front w (once .going);
         right = once .right;
-        onward = counted;
       })
+
+-- a step is one more
+pub one-more : {input : List ℕ} {p : Progress} {q : Turned} {journal before journal′ numbers sets records memo after : List ℕ}
+    → Told input p journal before q journal′ numbers sets records memo after → q .progress .count ≡ p .count + 1
+unfolding turn
+one-more a = ap (λ (x : Run). x .count) (a .next)

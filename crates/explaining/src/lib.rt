@@ -24,14 +24,14 @@ fn at_front(p: Progress, written: usize) -> Progress
     }
 }
 
-fn said_by(t: Turned, written: usize) -> Turned
-    ensures { λ r. ⌜ r ≡ saidBy t written ⌝ }
+fn said_by(turned: Turned, written: usize) -> Turned
+    ensures { λ r. ⌜ r ≡ saidBy turned written ⌝ }
 {
-    let p = t.progress;
+    let p = turned.progress;
     let progress = at_front(p, written);
-    let outcome = t.outcome;
-    let members = t.members;
-    let named = t.named;
+    let outcome = turned.outcome;
+    let named = turned.named;
+    let members = turned.members;
     Turned {
         progress,
         outcome,

@@ -1,37 +1,71 @@
 // The run and its release list for programs in C or Rust to link: what the comparisons with the Rust reference call in process.
-ghost use Prim.Native.Nat.{_≤_};
+ghost use Prim.Native.Nat.{_*_, _+_, _≤_};
+ghost use lib.ListN.{length};
+ghost use Rattle.exported.specs.Fits.{Enough, Fits, Roomy, Written, mostBytes};
 ghost use Rattle.release_file.specs.Releases.{releasesText};
-ghost use Rattle.progress.specs.Pieces.{Filled};
+ghost use Rattle.runfile.specs.Run.{runText};
 ghost use Rattle.digits.specs.Digits.{Put};
+ghost use Rattle.text.specs.Text.{longestText};
 
-// The first piece of the text, which is the whole of it in a buffer that has room for the longest text of one step more.
-#[no_mangle]
-pub extern "C" fn custody_run(input: &[u8], out: &mut [u8]) -> usize
-    ensures { λ r. ⌜ Filled (now (input .entry)) (now (out .entry)) (now (out .exit)) r ⌝ }
+// Where the text as a whole fits, a piece of it goes behind those before it; else nothing is written.
+fn append(fits: bool, out: &mut [u8], at: usize, piece: &[u8]) -> usize
+    requires { ⌜ Roomy fits (at + length (now piece)) (now out) × (at + length (now piece) ≤ mostBytes) ⌝ }
+    ensures { λ r. ⌜ Written fits (now (out .entry)) at (now (piece .entry)) (now (out .exit)) r ⌝ }
 {
-    if out.len() < text::LONGEST {
-        return 0;
+    if fits {
+        return words::put(out, at, piece);
     }
-    let start = run::start(input, out);
-    if start.pos < input.len() {
-        let mut memo = [0u8; journal::CAPACITY];
-        let mut journal = [0u8; run::JOURNAL];
-        let mut numbers = [0u16; index::NUMBERS];
-        let mut sets = [0u64; index::SETS];
-        let mut records = [0u16; index::RECORDS];
-        let end = run::advance(
-            start,
+    at + piece.len()
+}
+
+// The run in pieces, which are written or only counted.
+fn carry_out(input: &[u8], out: &mut [u8], fits: bool) -> usize
+    requires { ⌜ Enough fits (now input) (now out) ⌝ }
+    ensures { λ r. ⌜ Written fits (now (out .entry)) 0 (runText (now (input .entry))) (now (out .exit)) r
+        × (r ≤ longestText * (length (now (input .entry)) + 1)) ⌝ }
+{
+    let mut memo = [0u8; journal::CAPACITY];
+    let mut journal = [0u8; run::JOURNAL];
+    let mut numbers = [0u16; index::NUMBERS];
+    let mut sets = [0u64; index::SETS];
+    let mut records = [0u16; index::RECORDS];
+    let mut piece = [0u8; run::PIECE];
+    let mut progress = run::start(input, &mut piece);
+    if progress.pos >= input.len() {
+        return append(fits, out, 0, parts::front(&piece, progress.written));
+    }
+    let mut at = 0;
+    while progress.pos < input.len() {
+        progress = run::advance(
+            progress,
             &mut memo,
             &mut journal,
             &mut numbers,
             &mut sets,
             &mut records,
             input,
-            out,
+            &mut piece,
         );
-        return end.written;
+        at = append(fits, out, at, parts::front(&piece, progress.written));
     }
-    start.written
+    at
+}
+
+// The length of the text, which stands at the front of `out` afterwards if there is room for all of it; else nothing is written. In a buffer with room for
+// the longest text of a step for each byte of the input, and of one more, any text fits, and the run is carried out once; in a smaller one it is
+// carried out first to see how long its text is.
+#[no_mangle]
+pub extern "C" fn custody_run(input: &[u8], out: &mut [u8]) -> usize
+    ensures { λ r. ⌜ Fits (runText (now (input .entry))) (now (out .entry)) (now (out .exit)) r ⌝ }
+{
+    if out.len() / text::LONGEST > input.len() {
+        return carry_out(input, out, true);
+    }
+    let needed = carry_out(input, out, false);
+    if needed <= out.len() {
+        return carry_out(input, out, true);
+    }
+    needed
 }
 
 // The release list, in a buffer that has room for the longest.

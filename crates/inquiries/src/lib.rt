@@ -2,20 +2,22 @@
 mod indexed;
 
 ghost use mathlib.Core.Path.{_≡_};
-ghost use Rattle.journal.specs.Journal.{recordAt};
-ghost use Rattle.ledger.specs.State.{versionOf};
+ghost use Rattle.inquiries.specs.Shown.{shownOf};
 ghost use Rattle.ledger.specs.Steps.{dependenciesOf, equivocatorsOf, generationsOf, showOf};
 use ledger::Ledger;
 use ledger::Listing;
 use outcome::Outcome;
 use outcome::Verdict;
 
-// The job's record inside the journal, or the empty part where check 4 fails.
+// The job's record inside the journal, or the empty part where check 1 or 4 fails.
 pub fn lookup(ledger: Ledger, journal: &[u8], job: u8) -> &[u8]
-    ensures { λ r. ⌜ now r ≡ recordAt (versionOf ledger) (now (journal .entry)) (ledger .booked) job ⌝ }
+    ensures { λ r. ⌜ now r ≡ shownOf ledger (now (journal .entry)) job ⌝ }
 {
-    let settings = ledger.settings;
-    journal::lookup(settings.version, journal, ledger.booked, job as usize)
+    if books::is_sane(ledger) {
+        let settings = ledger.settings;
+        return journal::lookup(settings.version, journal, ledger.booked, job as usize);
+    }
+    &journal[..0]
 }
 
 // Kind 6: 2 finished, 1 certified, 0 open. Nothing changes.

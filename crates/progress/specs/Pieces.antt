@@ -1,15 +1,16 @@
 -- The text is printed in pieces: a run that has come so far goes on while there is room for the longest text of a step, and says how far it came.
-use mathlib.Core.Bool.{true}
+use mathlib.Core.Bool.{false, true}
 use mathlib.Core.List.{List, [], _++_, _∷_}
 use mathlib.Core.Path.{_≡_}
 use mathlib.Core.Logic.{_⊎_}
-use Prim.Native.Nat.{_+_, _<_, _≤_, ℕ}
+use Prim.Native.Nat.{_*_, _+_, _<_, _≤_, ℕ}
 use lib.ListN.{length, replicate, take}
 use Rattle.journal.specs.Journal.{capacity}
 use Rattle.index.specs.Places.{numbersSize, setsSize}
 use Rattle.index.specs.Records.{recordsSize}
 use Rattle.digits.specs.Digits.{Put}
 use Rattle.text.specs.Text.{longestText}
+use Rattle.ledger.specs.State.{newLedger}
 use Rattle.ledger.specs.declared.Ledger.{Ledger}
 use Rattle.runfile.specs.Run.{Run, begins, headerSize, journalSize, lastFrom, longest, opens, runText, textFrom}
 use Rattle.progress.specs.declared.Progress.{Progress}
@@ -39,13 +40,19 @@ pub record Piece (text before after : List ℕ) (written : ℕ) (rest : List ℕ
 abbrev pub blank : ℕ → List ℕ
 blank n = replicate n 0
 
--- a run starts on tables of zeros and says nothing yet; where check 1 turns the input back, that is its whole text and nothing is left to read
+-- what check 1 turns back: a ledger of no vaults, and nothing is left to read
+abbrev pub turnedBack : List ℕ → Run
+turnedBack input = runAt (newLedger 0 0 0 0) (length input) 0 (blank journalSize)
+
+-- a run starts on tables of zeros and says nothing yet; where check 1 turns the input back, that is its whole text
 pub record Started (input before after : List ℕ) (p : Progress) : Type 0 where
   pub piece : Piece (runText input) before after (p .written) (textFrom input (runOf p (blank journalSize)))
   pub passed : p .pos < length input → opens input ≡ true
   pub going : opens input ≡ true → Going input p (blank journalSize) (blank numbersSize) (blank setsSize) (blank recordsSize) (blank capacity)
-  pub silent : p .pos < length input → p .written ≡ 0
+  pub silent : opens input ≡ true → p .written ≡ 0
   pub first : opens input ≡ true → runOf p (blank journalSize) ≡ begins input
+  pub back : opens input ≡ false → runOf p (blank journalSize) ≡ turnedBack input
+  pub short : p .written ≤ longestText
 
 pub record Advanced (input : List ℕ) (p : Progress) (journal before : List ℕ) (q : Progress)
     (journal′ numbers′ sets′ records′ memo′ after : List ℕ) : Type 0 where
@@ -55,6 +62,8 @@ pub record Advanced (input : List ℕ) (p : Progress) (journal before : List ℕ
   -- it stops only at the end or where the longest text of a step may not fit, so it goes on in any buffer that takes one
   pub filled : (length input ≤ q .pos) ⊎ (length before < q .written + longestText)
   pub onward : p .pos < length input → longestText ≤ length before → p .pos < q .pos
+  -- no step has a text that is longer than the longest, and each reads on
+  pub short : q .written + longestText * p .pos ≤ longestText * q .pos
 
 -- ---- pieces one after another
 -- a piece: the buffer before and after, how much of it is printed, and the run that is left
@@ -78,9 +87,3 @@ printed (p ∷ ps) = take (p .written) (p .after) ++ printed ps
 abbrev pub Whole : Type 0
 Whole = (input : List ℕ) (p : Printed) (ps : List Printed) → Piece (runText input) (p .before) (p .after) (p .written) (textFrom input (p .left))
     → Pieces input (p .left) ps → printed (p ∷ ps) ≡ runText input
-
--- one buffer has the whole text, or a piece of it after which the longest text of a step may not fit
-pub record Filled (input before after : List ℕ) (written : ℕ) : Type 0 where
-  pub rest : List ℕ
-  pub piece : Piece (runText input) before after written rest
-  pub filled : (rest ≡ []) ⊎ (length before < written + longestText)

@@ -51,6 +51,7 @@ module _ {input journal journal′ numbers′ sets′ records′ memo′ before 
         filled = filled;
         onward = λ more room. ⊎-elim (λ (x : length input ≤ q .progress .pos). omega arith)
             (λ (x : length before < q .progress .written + longestText). omega (arith, k .went)) filled;
+        short = omega (arith, k .went);
       }
 
   -- it was carried on as far as there is room

@@ -8,4 +8,4 @@ ruleset by = (judgements, needs)
 pub judge-spec : {M : Type 1} → statement M
 judge-spec =
     tie.close
-    (tie.spec (λ c. search by) (λ c κs. search by) (λ c κs. search by) (λ c. search by) (λ c. search by) (λ c. search by))
+    (tie.spec (λ c. search by) (λ c κs. search by) (λ c κs. search by) (λ c. search by) (λ c. search by) (λ c. search by) (λ c. search by))

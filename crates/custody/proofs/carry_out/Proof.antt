@@ -55,4 +55,4 @@ carry-out-spec =
     tie.close
     (tie.spec Inv-loop μ-loop (λ c. search by) (λ c κs. search by) (λ c. search by) (λ c κs. search by) loop-holds (λ c. search by) (λ c. search by)
     (λ c. search by) (λ c. search by) (λ c. search by) (λ c. search by) (λ c κs. search by) (λ c. search by) (λ c κs. search by) (λ c. search by)
-    (λ c. search by) (λ c. search by))
+    (λ c. search by) (λ c. search by) (λ c. search by))

@@ -4,6 +4,7 @@ use mathlib.Core.Path.{_≡_}
 use Prim.Native.Nat.{_-_, _<_, ℕ}
 use native.Mathlib.Omega.{arith}
 use lib.ListN.{length}
+use Rattle.explaining.proofs.Telling.{one-more}
 use Rattle.explaining.specs.Told.{Told}
 use Rattle.going.proofs.Naming.{nothing-known}
 use Rattle.progress.specs.Pieces.{Going}
@@ -36,7 +37,7 @@ counts-on : {input : List ℕ} {p : Progress} {q : Turned} {named : Remembered} 
     {journal before journal′ numbers sets records memo after : List ℕ} → Turn input p named memo₀ journal numbers₀ sets₀ records₀ out₀
     → Told input p journal before q journal′ numbers sets records memo after → p .pos < length input
     → length input - q .progress .count < length input - p .count
-counts-on t a more = omega (arith, a .onward, t .going more .steps, more)
+counts-on t a more = omega (arith, one-more a, t .going more .steps, more)
 
 ruleset by = (to-next, counts-on, needs)
 
@@ -70,4 +71,4 @@ carry-out-spec =
     tie.close
     (tie.spec Inv-loop μ-loop (λ c. search by) (λ c κs. search by) (λ c κs. search by) loop-holds (λ c. search by) (λ c. search by) (λ c. search by)
     (λ c. search by) (λ c. search by) (λ c. search by) next-requires (λ c. search by) (λ c κs. search by) (λ c. search by) (λ c. search by)
-    (λ c. search by) (λ c κs. search by) (λ c. search by))
+    (λ c. search by) (λ c. search by) (λ c κs. search by) (λ c. search by))

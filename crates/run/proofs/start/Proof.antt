@@ -13,7 +13,8 @@ use Rattle.base.proofs.Reflect.{by-cases}
 use mathlib.Core.List.{List}
 use mathlib.Core.Path.{_≡_}
 use Prim.Native.Nat.{ℕ}
-use lib.ListN.{getD}
+use denote.Ref.{now}
+use lib.ListN.{getD, length}
 use Rattle.federation.specs.declared.Settings.{Settings}
 use Rattle.journal.specs.Journal.{capacity}
 use Rattle.index.specs.Places.{numbersSize, setsSize}
@@ -25,14 +26,18 @@ use Rattle.ledger.specs.declared.Reply.{Reply}
 use Rattle.runfile.specs.Run.{begins, headerSize, journalSize, opened, textFrom, versionIn}
 use Rattle.runfile.specs.Steps.{wordAt}
 use Rattle.progress.specs.Kept.{Kept}
-use Rattle.progress.specs.Pieces.{blank, runAt}
+use Rattle.progress.specs.Pieces.{blank, runAt, turnedBack}
 
--- the new ledger has the header's settings
+-- the new ledger has the settings that were given, lawful or not
+new-ledger : (n b faulty version : ℕ) → newOf n b faulty version .ledger ≡ newLedger n b faulty version
+unfolding newOf
+new-ledger n b faulty version =
+    by-cases (λ t. newOf n b faulty version .ledger ≡ newLedger n b faulty version) (isLawful (newLedger n b faulty version .settings)) (λ t. simp t) (λ t. simp t)
+
+-- which are the header's
 began : (input : List ℕ) (s : Settings) → s ≡ opened input .settings → (r : Reply) → r ≡ newOf (s .n) (s .b) (s .faulty) (s .version) → r .ledger ≡ opened input
-unfolding opened newOf newLedger
-began input s e r q =
-    by-cases (λ b. r .ledger ≡ opened input) (isLawful (record { n = s .n; b = s .b; faulty = s .faulty; version = s .version }))
-    (λ t. ap (λ (x : Reply). x .ledger) q ∙ simp t (rw e)) (λ t. ap (λ (x : Reply). x .ledger) q ∙ simp t (rw e))
+unfolding opened newLedger
+began input s e r q = ap (λ (x : Reply). x .ledger) q ∙ new-ledger (s .n) (s .b) (s .faulty) (s .version) ∙ rw e
 
 begins-at : (input : List ℕ) (l : Ledger) → l ≡ opened input → runAt l headerSize 0 (blank journalSize) ≡ begins input
 begins-at input l e = rw e
@@ -41,6 +46,10 @@ kept-begun : (input : List ℕ) (l : Ledger) → l ≡ opened input → isLawful
     → Kept l (blank journalSize) (blank numbersSize) (blank setsSize) (blank recordsSize) (blank capacity)
 unfolding opened newLedger
 kept-begun input l e h = rw e (kept-new (getD input 5 0) (getD input 6 0) (wordAt input 7) (versionIn input) h)
+
+-- or those of no vaults, where check 1 turns it back
+back-at : (input : List ℕ) (r : Reply) → r ≡ newOf 0 0 0 0 → runAt (r .ledger) (length input) 0 (blank journalSize) ≡ turnedBack input
+back-at input r e = ap (λ (l : Ledger). runAt l (length input) 0 (blank journalSize)) (ap (λ (x : Reply). x .ledger) e ∙ new-ledger 0 0 0 0)
 
 returns : tie.Need-returns
 returns c =
@@ -53,6 +62,8 @@ returns c =
       going = λ l. record { few = h .few; steps = omega arith; inside = h .headed; kept = kept-begun _ _ e (h .lawful) };
       silent = λ l. refl;
       first = λ l. begins-at _ _ e;
+      back = λ no. absurd (true≢false (sym o ∙ no));
+      short = omega arith;
     }
 
 returns-2 : tie.Need-returns-2
@@ -65,8 +76,10 @@ returns-2 c =
       piece = piece-more (nothing-yet refl) text (w .write-line .ensures .0) (omega arith);
       passed = λ l. absurd (lt-irrefl _ l);
       going = λ o. absurd (true≢false (sym o ∙ no));
-      silent = λ l. absurd (lt-irrefl _ l);
+      silent = λ o. absurd (true≢false (sym o ∙ no));
       first = λ o. absurd (true≢false (sym o ∙ no));
+      back = λ l. back-at (now (shut .before .before .before .before .args .input)) _ (c .before .new2 .ensures);
+      short = omega (arith, w .write-line .ensures .1);
     }
 
 pub start-spec : {M : Type 1} → statement M
