@@ -78,7 +78,7 @@ use Rattle.ledger.specs.declared.Change.{Change}
 use Rattle.ledger.specs.declared.Change.the-variants.{Book, Count, Grant, Hold, Nothing, Record, Release, See, Sign}
 use Rattle.ledger.specs.declared.Decision.{Decision}
 use Rattle.ledger.specs.declared.Ledger.{Ledger}
-use Rattle.vaults.specs.Vaults.{holding, unsigning, vaultPreflight}
+use Rattle.vaults.specs.Vaults.{holding, vaultPreflight}
 use Rattle.vaults.specs.declared.Column.the-variants.{Acknowledgements}
 use Rattle.vaults.specs.declared.Consent.{Consent}
 use Rattle.vaults.specs.declared.Consent.the-variants.{Already, Denied, Fresh}
@@ -151,9 +151,8 @@ module _ (l : Ledger) (journal : List ℕ) where
       (consents (answer .consent) (answer .vault) (signersOf l k) v)
   plain (commit v k signers) e =
       behind (vaultGate l journal v k false) (committing (l .settings) (vaultAt l v) (votesAt l k) v k signers)
-      (behind (certificate (l .settings) (votesAt l k .signatures) signers) (receiving (vaultAt l v) (votesAt l k .acknowledgements) v k)
-      (received (vaultAt l v) (votesAt l k .acknowledgements) v k))
-  plain (faultyVote c v k) e = behind (vaultGate l journal v k true) (voting (votesIn l c k) v (Record c)) tt
+      (behind (certificate (l .settings) (votesAt l k .signatures) signers) _ (received (vaultAt l v) _ v k))
+  plain (faultyVote c v k) e = behind (vaultGate l journal v k true) _ tt
   plain (show k) e = behind (bookedGate l journal k) (answering (statusOf (l .settings) (votesAt l k))) tt
   plain (generations k) e =
       let age = ageIn (jobAt (versionOf l) journal (l .booked)) (l .order) (l .arrivals) k in
@@ -161,8 +160,7 @@ module _ (l : Ledger) (journal : List ℕ) where
   plain snapshot e = behind (saneGate l) (snapshotting (l .settings) (l .next) (l .seen) (vaultAt l (l .next) .held)) tt
   plain (release v k rival) e =
       behind (vaultGate l journal v k false) (releasing (vaultAt l v) (versionOf l) journal (l .booked) (signersOf l k) k rival)
-      (behind (supersession (vaultAt l v) (versionOf l) journal (l .booked) k rival)
-      (record { outcome = Done (ones (signersOf l k)); change = Release (unsigning (vaultAt l v) k) }) tt)
+      (behind (supersession (vaultAt l v) (versionOf l) journal (l .booked) k rival) _ tt)
   plain (dependencies v k) e = tt
   plain equivocating e = tt
   plain (clientPreflight v k client) e = absurd (true≢false e)

@@ -42,7 +42,7 @@ use Rattle.codec.specs.Codec.{jobOf, recordSize}
 use Rattle.checks.specs.Meaning.{repeated, unsupported}
 use Rattle.record.specs.declared.Job.{Job}
 use Rattle.quota.specs.Quota.{isClient, isSpent}
-use Rattle.sets.specs.Bits.{hasBit, subsetOf, withMember}
+use Rattle.sets.specs.Bits.{hasBit, subsetOf}
 use Rattle.job_sets.specs.Jobs.{jobCount, jobHas, noJobs}
 use Rattle.job_sets.specs.declared.job_set.JobSet.{JobSet}
 use Rattle.queries.specs.Admission.{admission, consumedAt, notCreatedAt, remadeAt}
@@ -230,8 +230,8 @@ module _ (l : Ledger) (journal : List ℕ) (sane : isSane l ≡ true) where
       by : (b : Bool) (d : Verdict) → NotOne d
           → let answer : Signing = cond b (record { consent = Already; vault = state }) (consented d state k) in
           Fine (consenting (answer .consent) (answer .vault) signers v .outcome)
-      by true d n = done (ones signers)
-      by false Pass n = done (ones (withMember 16 signers v))
+      by true d n = done _
+      by false Pass n = done _
       by false (Fail why) n = refuses why n
 
   consents-counted : (state : Vault) (d : Verdict) (client history signers v k : ℕ) → NotOne d
@@ -242,13 +242,13 @@ module _ (l : Ledger) (journal : List ℕ) (sane : isSane l ≡ true) where
       by : (b : Bool) (d : Verdict) → NotOne d
           → let answer : Signing = cond b (record { consent = Already; vault = state }) (consented d state k) in
           Fine (counting (answer .consent) (answer .vault) client history signers v .outcome)
-      by true d n = done (ones signers)
-      by false Pass n = done (ones (withMember 16 signers v))
+      by true d n = done _
+      by false Pass n = done _
       by false (Fail why) n = refuses why n
 
   receives : (state : Vault) (acknowledgers v k : ℕ) → Fine (receiving state acknowledgers v k .outcome)
   unfolding receiving
-  receives state acknowledgers v k = either (jobHas (state .held) k) _ _ (done (ones acknowledgers)) (done (ones (withMember 16 acknowledgers v)))
+  receives state acknowledgers v k = either (jobHas (state .held) k) _ _ (done _) (done _)
 
   ages : (b : Bool) (age : ℕ) → Fine (ageing b age .outcome)
   unfolding ageing
