@@ -2,8 +2,7 @@
 mod indexed;
 
 ghost use mathlib.Core.Path.{_≡_};
-ghost use Rattle.inquiries.specs.Shown.{shownOf};
-ghost use Rattle.ledger.specs.Steps.{dependenciesOf, equivocatorsOf, generationsOf, showOf};
+ghost use Rattle.ledger.specs.Steps.{dependenciesOf, equivocatorsOf, generationsOf, showOf, shownOf};
 use ledger::Ledger;
 use ledger::Listing;
 use outcome::Outcome;

@@ -1,18 +1,23 @@
 -- By unfolding: both sides are the same decision carried out. What only reads carries no change, whether it passes its checks or not.
 use mathlib.Core.Bool.{Bool, cond, false, true}
-use mathlib.Core.List.{List}
-use mathlib.Core.Path.{_≡_, refl}
+use mathlib.Core.List.{List, []}
+use mathlib.Core.Path.{_≡_, refl, subst, sym}
 use Prim.Native.Nat.{ℕ}
+use lib.ListN.{getD}
 use Rattle.base.proofs.Reflect.{by-cases}
 use Rattle.federation.specs.Federation.{isLawful}
 use Rattle.outcome.specs.declared.Outcome.{Outcome}
 use Rattle.outcome.specs.declared.Refusal.the-variants.{NotHeld}
 use Rattle.outcome.specs.declared.Verdict.{Verdict}
 use Rattle.outcome.specs.declared.Verdict.the-variants.{Fail, Pass}
+use Rattle.journal.specs.Journal.{recordAt}
+use Rattle.ledger.proofs.Changes.{shape-sane}
 use Rattle.ledger.proofs.Demand3.{along, first}
+use Rattle.ledger.proofs.Gates.{reflect-sane}
 use Rattle.ledger.proofs.Lending.{record-read}
 use Rattle.ledger.specs.Decisions.{ageing, answering, gated, refusing}
 use Rattle.ledger.specs.Links.{Chained, Linked, Links, Lookups, reading}
+use Rattle.ledger.specs.Demand3.{recordsIn}
 use Rattle.ledger.specs.Register.{newRegister}
 use Rattle.ledger.specs.State.{applied, newLedger, versionOf}
 use Rattle.ledger.specs.Steps.{
@@ -30,9 +35,10 @@ use Rattle.ledger.specs.Steps.{
   proposeOf,
   releaseOf,
   showDecision,
+  shownOf,
   snapshotOf,
 }
-use Rattle.ledger.specs.Worlds.{after, afterAll, start}
+use Rattle.ledger.specs.Worlds.{after, afterAll, lend, start}
 use Rattle.ledger.specs.declared.Ledger.{Ledger}
 
 answered : (l : Ledger) (g : Verdict) (value v k : ℕ) → carried l (gated g (answering value)) v k ≡ reading l (gated g (answering value) .outcome)
@@ -79,10 +85,13 @@ chained = record {
 
 -- where check 4 passes, the booked records are read as they are
 lookups : Lookups
+unfolding shownOf
 lookups n b faulty version lawful es size beyond k h =
     let w = afterAll (start n b faulty version) es in
     let i = along es (start n b faulty version) (newRegister version) (first n b faulty version lawful) in
-    record-read (versionOf (w .ledger)) (w .ledger .booked) size (w .booked) beyond (i .shape .records) h k
+    subst (λ (sane : Bool). cond sane (recordAt (versionOf (w .ledger)) (lend (w .booked) size beyond) (w .ledger .booked) k) []
+    ≡ getD (recordsIn (versionOf (w .ledger)) (w .ledger .booked) (w .booked)) k []) (sym (reflect-sane (w .ledger) .complete (shape-sane (i .shape))))
+    (record-read (versionOf (w .ledger)) (w .ledger .booked) size (w .booked) beyond (i .shape .records) h k)
 
 pub links : Links
 links = record { linked = linked; chained = chained; lookups = lookups }

@@ -6,13 +6,12 @@ use Prim.Native.Nat.{_≤_, ℕ}
 use lib.ListN.{getD, length}
 use Rattle.codec.specs.Codec.{placeOf}
 use Rattle.federation.specs.Federation.{Lawful}
-use Rattle.journal.specs.Journal.{recordAt}
 use Rattle.outcome.specs.declared.Outcome.{Outcome}
 use Rattle.vaults.specs.declared.Column.{Column}
 use Rattle.ledger.specs.Demand3.{recordsIn}
 use Rattle.ledger.specs.State.{versionOf}
 use Rattle.ledger.specs.Steps.{clientPreflightOf, commitOf, dependenciesOf, equivocatorsOf, faultyVoteOf, generationsOf, journalAfter, newOf, preflightOf}
-use Rattle.ledger.specs.Steps.{proposeOf, releaseOf, showOf, snapshotOf}
+use Rattle.ledger.specs.Steps.{proposeOf, releaseOf, showOf, shownOf, snapshotOf}
 use Rattle.ledger.specs.Worlds.{
   Event,
   World,
@@ -80,7 +79,7 @@ Lookups =
     (n b faulty version : ℕ) → Lawful (record { n = n; b = b; faulty = faulty; version = version }) → (es : List Event) (size : ℕ) (beyond : List ℕ) (k : ℕ)
     → let w = afterAll (start n b faulty version) es in
     placeOf (versionOf (w .ledger)) (w .ledger .booked) ≤ length (lend (w .booked) size beyond)
-    → recordAt (versionOf (w .ledger)) (lend (w .booked) size beyond) (w .ledger .booked) k
+    → shownOf (w .ledger) (lend (w .booked) size beyond) k
     ≡ getD (recordsIn (versionOf (w .ledger)) (w .ledger .booked) (w .booked)) k []
 
 pub record Links : Type 0 where

@@ -1,7 +1,7 @@
 -- The steps. Each is a row of checks, in the order that document 01 gives for its kind, a decision where they pass, and what it changes
 -- applied. A state that no run can reach is turned back with 1, settings wrong, before every other check.
 use mathlib.Core.Bool.{Bool, true, false, cond, Bool·beq}
-use mathlib.Core.List.{List}
+use mathlib.Core.List.{List, []}
 use Prim.Native.Nat.{ℕ}
 use lib.Dec.{ltb}
 use Rattle.outcome.specs.declared.Outcome.{Outcome}
@@ -13,7 +13,7 @@ use Rattle.outcome.specs.declared.Refusal.the-variants.{Settings as BadSettings
 use Rattle.sets.specs.Bits.{hasBit}
 use Rattle.federation.specs.Federation.{isLawful, thresholdOf}
 use Rattle.federation.specs.declared.Settings.{Settings}
-use Rattle.journal.specs.Journal.{isBooked, isWhole, jobAt, putAt}
+use Rattle.journal.specs.Journal.{isBooked, isWhole, jobAt, putAt, recordAt}
 use Rattle.generations.specs.Generations.{ageIn}
 use Rattle.ledger.specs.declared.Change.{Change}
 use Rattle.ledger.specs.declared.Change.the-variants.{Book, Count, Grant, Hold, Nothing, Record, Release, See, Sign}
@@ -193,3 +193,7 @@ showOf l journal job = showDecision l journal job .outcome
 
 abbrev pub generationsOf : Ledger → List ℕ → ℕ → Outcome
 generationsOf l journal job = generationsDecision l journal job .outcome
+
+-- a record shown, of any ledger: "where check 4 fails, the part shown is empty"; and where check 1 does, which comes before every other check
+unfoldable pub shownOf : Ledger → List ℕ → ℕ → List ℕ
+shownOf l journal job = cond (isSane l) (recordAt (versionOf l) journal (l .booked) job) []

@@ -1,7 +1,7 @@
 -- Where check 1 passes, the journal's own `lookup`, at the ledger's count of booked records, shows what `recordAt` says; else the part is empty.
 use mathlib.Core.Path.{_∙_, sym}
 use borrow.Author.Needs.{needs}
-use Rattle.inquiries.specs.Shown.{shownOf}
+use Rattle.ledger.specs.Steps.{shownOf}
 use Rattle.inquiries.proofs.lookup.Statement.{statement}
 use Rattle.inquiries.proofs.lookup.Tie as tie
 
