@@ -1,5 +1,5 @@
--- Each row of the house table is one computed test of `supports`: at M8, at the five columns of L, and at the number that is no medium. Every label names one of
--- these by its last two characters, so the test speaks of all labels.
+-- Each row of the house table is one computed test of `supports`: at M8, at the five columns of L, and at the number that is no medium. Every label names one
+-- of these by its last two characters, so the test speaks of all labels.
 use mathlib.Core.Bool.{Bool, _&&_, _||_, cond, false, not, true, true≢false}
 use mathlib.Core.List.{List}
 use mathlib.Core.Path.{_∙_, _≡_, ap, ap₂, refl, subst, sym}

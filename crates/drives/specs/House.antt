@@ -1,5 +1,5 @@
--- The house table ("Records") with M8 (M-100), as a claim: what `supports`, by which check 8 asks, says of every drive and every label. A row has the media that
--- the drive reads and those that it writes, each by the last two characters of a label.
+-- The house table ("Records") with M8 (M-100), as a claim: what `supports`, by which check 8 asks, says of every drive and every label. A row has the media
+-- that the drive reads and those that it writes, each by the last two characters of a label.
 use mathlib.Core.Bool.{Bool, false, true}
 use mathlib.Core.List.{List, [], _∷_}
 use mathlib.Core.Path.{_≡_}

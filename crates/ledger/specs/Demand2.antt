@@ -98,6 +98,16 @@ module _ (w w′ : World) where
     pub only : Only (votes column ∷ []) w w′
     pub value : answer ≡ votesOn w′ column k
 
+  -- kind 6: "0 open, 1 certified, 2 finished"
+  pub record ByShow (k answer : ℕ) : Type 0 where
+    pub same : w′ ≡ w
+    pub value : Status (w .ledger .settings) (votesAt (w .ledger) k) answer
+
+  -- kind 8: the generations of the job, which Demand3.antt says by its creators
+  pub record ByGenerations (k answer : ℕ) : Type 0 where
+    pub same : w′ ≡ w
+    pub value : answer ≡ ageAt w k
+
   -- kind 9 (M-101): "visits the next vault, beginning at 0, and sees the jobs held there; a step that comes to a faulty vault adds no job"
   pub record BySnapshot (answer : ℕ) : Type 0 where
     pub kept : (k : ℕ) → w .ledger .next ≢ 0 → jobHas (w .ledger .seen) k ≡ true → jobHas (w′ .ledger .seen) k ≡ true
@@ -130,16 +140,6 @@ module _ (w w′ : World) where
     pub only : Only (signed ∷ votes Signatures ∷ histories ∷ []) w w′
     pub again : hasSigned w v k ≡ true → Only (histories ∷ []) w w′
     pub value : answer ≡ votesOn w′ Signatures k
-
-  -- kind 6: "0 open, 1 certified, 2 finished"
-  pub record ByShow (k answer : ℕ) : Type 0 where
-    pub same : w′ ≡ w
-    pub value : Status (w .ledger .settings) (votesAt (w .ledger) k) answer
-
-  -- kind 8: the generations of the job, which Demand3.antt says by its creators
-  pub record ByGenerations (k answer : ℕ) : Type 0 where
-    pub same : w′ ≡ w
-    pub value : answer ≡ ageAt w k
 
   -- kind by kind. Kinds 11 and 13 leave all as it was too; what they list has pages of its own, Dependencies.antt and Equivocators.antt
   abbrev pub Leaves : Request → ℕ → Type 0

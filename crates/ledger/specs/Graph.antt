@@ -1,5 +1,5 @@
--- A vault's jobs as the paper's local graph (paper 2.2 and 2.3): who created a tape and who consumed a label. Over it Algorithms 1 and 2, line by line: what
--- stands in quotation marks is the paper's; document 01's mends and our readings are marked.
+-- A vault's jobs as the paper's local graph (paper 2.2 and 2.3): who created a tape and who consumed a label. Over it Algorithms 1 and 2, line by line. What
+-- stands in quotation marks is the paper's, and behind the word mend document 01's; where the paper leaves something open, a reading says how it is taken.
 use mathlib.Core.Bool.{true}
 use mathlib.Core.Logic.{_⊎_}
 use mathlib.Core.Path.{_≡_}
@@ -77,8 +77,8 @@ module _ (job : ℕ → Job) (booked : ℕ) where
     pub unmarked : (x : ℕ) → In x (labels (inputTapes j)) → Consumer others x → ⊥
     pub unmade : (x : ℕ) → In x (labels (outputTapes j)) → Maker held x ⊎ Maker others x → ⊥
 
--- "a single short signature that verifies iff |S| ≥ τ", with τ = n − b. Mend: there is no cryptography, so it is the set S of those who are said to have
--- signed, and each of them must have: checks 15 and 16
+-- "a single short signature that verifies iff |S| ≥ τ", "τ = q = n − b". Mend: "a signature is a fact kept by the engine", so what is carried is the set S itself,
+-- and each of it must have signed. Checks 15 and 16.
 pub record Certificate (s : Settings) (recorded signers : ℕ) : Type 0 where
   pub signed : (v : ℕ) → hasBit signers v ≡ true → hasBit recorded v ≡ true
   pub enough : thresholdOf s ≤ ones signers

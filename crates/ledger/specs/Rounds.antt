@@ -1,5 +1,6 @@
 -- A round of the snapshot (document 02, "Stock-take while jobs go on"): each vault is visited once, and other steps may come between. "At the end of a round
--- the jobs seen include all that sound vaults held when it began, and none that no sound vault holds when it ends."
+-- the jobs seen include all that sound vaults held when it began, and none that no sound vault holds when it ends." And of every visit: "The value is the number
+-- of different jobs seen in this round."
 use mathlib.Core.Bool.{Bool, cond, false, true}
 use mathlib.Core.List.{List, [], _++_, _∷_}
 use mathlib.Core.Logic.{_↔_}
@@ -57,20 +58,23 @@ Rounds =
     → Counted (afterAll (start n b faulty version) es) (afterAll (afterAll (start n b faulty version) es) rs)
     (replyTo (afterAll (afterAll (start n b faulty version) es) (r .before)) (r .last) .outcome)
 
--- ---- every visit: "The value is the number of different jobs seen in this round."
+-- ---- every visit
 
--- The job is seen in the round of the list's last visit: at some visit of that round the visited vault was correct and held it. "visits the next vault, beginning at
--- 0 .. After the last vault the following such step begins anew": a visit with so many before it comes to the remainder by n, and those after it are of its
--- round as long as they have not come past the last vault.
+-- "visits the next vault, beginning at 0 .. After the last vault the following such step begins anew": the vault to which the next visit comes
+abbrev pub turnAfter : World → List Event → ℕ
+turnAfter w es = visits es % w .ledger .settings .n
+
+-- the job is seen in the round of the list's last visit: at some visit of that round, the visited vault was correct and held it
 pub record SeenAlong (w : World) (es : List Event) (k : ℕ) : Type 0 where
   pub before : List Event
   pub visit : Event
   pub later : List Event
   pub split : es ≡ before ++ (visit ∷ later)
   pub visits-here : visit .request ≡ snapshot
-  pub this-round : visits before % w .ledger .settings .n + visits later < w .ledger .settings .n
+  -- the visits after it have not come past the last vault
+  pub this-round : turnAfter w before + visits later < w .ledger .settings .n
   -- "sees the jobs held there; a step that comes to a faulty vault adds no job"
-  pub held : HeldBy (afterAll w before .ledger) k (visits before % w .ledger .settings .n)
+  pub held : HeldBy (afterAll w before .ledger) k (turnAfter w before)
 
 -- so many different jobs are seen
 pub record CountOf (Seen : ℕ → Type 0) (value : ℕ) : Type 0 where

@@ -1,4 +1,5 @@
--- A run of a load prints a line for each of its steps, since none of them lists anything; and none says 2, since each is read, and no check of a step has that number.
+-- A run of a load prints a line for each of its steps, since none of them lists anything; and none says 2, since each is read, and no check of a step has
+-- that number.
 use mathlib.Core.Bool.{Bool, Bool·beq, cond, false, true, true≢false}
 use mathlib.Core.List.{List, [], _++_, _∷_, append-nil, map}
 use mathlib.Core.Logic.{⊎-elim}

@@ -1,5 +1,5 @@
--- Wherever a list of steps has led check 1 passes, and where the journal holds all booked records check 4 does; then the jobs that are read of it are the booked
--- ones, whatever stands behind them.
+-- Wherever a list of steps has led check 1 passes, and where the journal holds all booked records check 4 does; then the jobs that are read of it are the
+-- booked ones, whatever stands behind them.
 use mathlib.Core.List.{List}
 use mathlib.Core.Path.{_∙_, _≡_, ap, ap₂, refl, subst}
 use Prim.Native.Nat.{_<_, _≤_, ℕ}
