@@ -17,7 +17,11 @@ pub fn edge(input: &[u8], expected: &[u8]) -> Result<(), String> {
 fn check(input: &[u8], expected: &[u8], room: usize) -> Result<(), String> {
     let mut out = vec![UNTOUCHED; room + expected.len()];
     let length = proved::call(input, &mut out[..room]);
-    let written = if room < expected.len() { 0 } else { expected.len() };
+    let written = if room < expected.len() {
+        0
+    } else {
+        expected.len()
+    };
     let right = length == expected.len()
         && out[..written] == expected[..written]
         && out[written..].iter().all(|byte| *byte == UNTOUCHED);

@@ -1,21 +1,46 @@
 // Reads a script from standard input and carries it out on ledgers, as a program does that uses the library; its cases are steps of a run file's
 // text, and some more for what a run file can't say. Each is printed with the two figures of its answer behind it, and the numbers that it
 // lists. Documents 01 and 02 decide what they must be; `stdout` holds them.
+mod case_lines;
+
 ghost use Prim.Native.Nat.{_≤_};
 use ledger::Ledger;
 use ledger::Listing;
 use ledger::Reply;
 use libc::STDIN_FILENO;
+use libc::STDOUT_FILENO;
+use outcome::Outcome;
 use scripts::ROOM;
 use vaults::Column;
 
 // Room for 128 records of either version.
 const JOURNAL: usize = 13312;
 
+pub(crate) fn print(words: &[u8]) {
+    io::write_all(STDOUT_FILENO, words);
+}
+
+fn print_figure(x: u64) {
+    print(b" ");
+    io::print_decimal(STDOUT_FILENO, x);
+}
+
+// The two figures of an answer.
+fn print_figures(outcome: Outcome) {
+    print_figure(outcome.number() as u64);
+    print_figure(outcome.value() as u64);
+}
+
+// These, and the end of the line.
+fn print_answer(outcome: Outcome) {
+    print_figures(outcome);
+    print(b"\n");
+}
+
 // The figures of a step, and the ledger that it left.
 fn report(reply: Reply) -> Ledger {
     let outcome = reply.outcome;
-    scripts::print_answer(outcome);
+    print_answer(outcome);
     reply.ledger
 }
 
@@ -23,20 +48,20 @@ fn report(reply: Reply) -> Ledger {
 fn list(listing: Listing) {
     let outcome = listing.outcome;
     let members = listing.members;
-    scripts::print_figures(outcome);
+    print_figures(outcome);
     for k in 0..128 {
         if members.has(k) {
-            scripts::print_figure(k as u64);
+            print_figure(k as u64);
         }
     }
-    scripts::print(b"\n");
+    print(b"\n");
 }
 
 // How long a record is, and the frames of its first output.
 fn show_record(bytes: &[u8]) {
-    scripts::print_figure(bytes.len() as u64);
-    scripts::print_figure(codec::entry_of(bytes, 4).frames as u64);
-    scripts::print(b"\n");
+    print_figure(bytes.len() as u64);
+    print_figure(codec::entry_of(bytes, 4).frames as u64);
+    print(b"\n");
 }
 
 // A step that changes nothing, by its kind; kind 15 is the program's own, a record shown. A draw needs no ledger, and is none of these.
@@ -44,13 +69,13 @@ fn ask(ledger: Ledger, journal: &[u8], kind: u8, body: &[u8]) {
     let vault = fields::byte_at(body, 0);
     let job = fields::byte_at(body, 1);
     match kind {
-        6 => scripts::print_answer(operations::show(ledger, journal, vault)),
-        8 => scripts::print_answer(operations::generations(ledger, journal, vault)),
+        6 => print_answer(operations::show(ledger, journal, vault)),
+        8 => print_answer(operations::generations(ledger, journal, vault)),
         11 => list(operations::dependencies(ledger, journal, vault, job)),
         13 => list(operations::equivocating(ledger, journal)),
         15 => show_record(operations::lookup(ledger, journal, vault)),
         0 => {}
-        _ => scripts::print(b" ?\n"),
+        _ => print(b" ?\n"),
     }
 }
 

@@ -4,9 +4,31 @@
 ghost use Prim.Native.Nat.{_≤_};
 ghost use lib.ListN.{length};
 use libc::STDIN_FILENO;
+use libc::STDOUT_FILENO;
 use outcome::Outcome;
 use outcome::Verdict;
 use scripts::ROOM;
+
+fn print(words: &[u8]) {
+    io::write_all(STDOUT_FILENO, words);
+}
+
+fn print_figure(x: u64) {
+    print(b" ");
+    io::print_decimal(STDOUT_FILENO, x);
+}
+
+// The two figures of an answer.
+fn print_figures(outcome: Outcome) {
+    print_figure(outcome.number() as u64);
+    print_figure(outcome.value() as u64);
+}
+
+// These, and the end of the line.
+fn print_answer(outcome: Outcome) {
+    print_figures(outcome);
+    print(b"\n");
+}
 
 // The answer of checks 6 to 9: that of a step with the value 0 where all pass.
 fn examine(version: u16, bytes: &[u8]) -> Outcome {
@@ -25,25 +47,25 @@ fn move_by(bytes: &mut [u8; ROOM], at: usize, step: u8) {
 
 // One up, one down, and as it was.
 fn move_byte(version: u16, bytes: &mut [u8; ROOM], end: usize, at: usize) {
-    scripts::print(b" up");
+    print(b" up");
     move_by(bytes, at, 1);
-    scripts::print_figures(examine(version, scripts::body(bytes, end)));
-    scripts::print(b" down");
+    print_figures(examine(version, scripts::body(bytes, end)));
+    print(b" down");
     move_by(bytes, at, 254);
-    scripts::print_answer(examine(version, scripts::body(bytes, end)));
+    print_answer(examine(version, scripts::body(bytes, end)));
     move_by(bytes, at, 1);
 }
 
 fn sweep(version: u16, bytes: &mut [u8; ROOM], end: usize) {
     for k in 1..end {
-        scripts::print(b"byte");
-        scripts::print_figure((k - 1) as u64);
+        print(b"byte");
+        print_figure((k - 1) as u64);
         move_byte(version, bytes, end, k);
     }
 }
 
 fn answer(version: u16, bytes: &mut [u8; ROOM], end: usize, swept: u8) {
-    scripts::print_answer(examine(version, scripts::body(bytes, end)));
+    print_answer(examine(version, scripts::body(bytes, end)));
     if swept == 0 {
         sweep(version, bytes, end);
     }
@@ -58,10 +80,10 @@ fn carry_case(text: &[u8], at: usize)
     let version = (said.value % 65536) as u16;
     let cut = scripts::prefix(b"cut $: ", text, said.next, 0);
     let p = scripts::read_step(version, text, cut.next, &mut bytes);
-    scripts::print(scripts::part(text, at, p.next));
-    scripts::print(b" =>");
+    print(scripts::part(text, at, p.next));
+    print(b" =>");
     if p.reason != 0 {
-        scripts::print(b" ?\n");
+        print(b" ?\n");
         return;
     }
     answer(
@@ -72,13 +94,24 @@ fn carry_case(text: &[u8], at: usize)
     );
 }
 
+fn carry_line(text: &[u8], at: usize, next: usize)
+    requires { ⌜ at ≤ length (now text) ⌝ }
+{
+    if scripts::is_comment(text, at) {
+        return;
+    }
+    if scripts::is_shown(text, at) {
+        print(scripts::part(text, at, next));
+        return;
+    }
+    carry_case(text, at);
+}
+
 fn carry_out(text: &[u8]) {
     let mut at = 0;
     while at < text.len() {
         let next = scripts::after_line(text, at);
-        if scripts::is_case(text, at, next) {
-            carry_case(text, at);
-        }
+        carry_line(text, at, next);
         at = next;
     }
 }

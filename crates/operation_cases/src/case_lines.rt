@@ -1,15 +1,16 @@
-// The lines of the script of `operation_cases`: a case is a step of a run file's text or one of the program's own, and something may stand before it.
+// The lines of the script: a case is a step of a run file's text or one of the program's own, and something may stand before it.
 ghost use Prim.Native.Nat.{_≤_};
 ghost use lib.ListN.{length};
+use crate::print;
 use parsing::Parsed;
 use scripts::ROOM;
 
 // A case as it was read: the kind of its step, 0 where there is none to carry out; how many bytes of the journal are lent; and where its
 // body ends.
-pub struct Case {
-    pub kind: u8,
-    pub lent: usize,
-    pub end: usize,
+pub(crate) struct Case {
+    pub(crate) kind: u8,
+    pub(crate) lent: usize,
+    pub(crate) end: usize,
 }
 
 const NONE: Case = Case {
@@ -65,10 +66,10 @@ fn read_case(version: u16, text: &[u8], at: usize, bytes: &mut [u8; ROOM]) -> Ca
     let lent = scripts::prefix(b"lent $: ", text, at, 65535);
     let cut = scripts::prefix(b"cut $: ", text, lent.next, 0);
     let p = read(version, text, cut.next, bytes);
-    scripts::print(scripts::part(text, at, p.next));
-    scripts::print(b" =>");
+    print(scripts::part(text, at, p.next));
+    print(b" =>");
     if p.reason != 0 {
-        scripts::print(b" ?\n");
+        print(b" ?\n");
         return NONE;
     }
     Case {
@@ -79,11 +80,21 @@ fn read_case(version: u16, text: &[u8], at: usize, bytes: &mut [u8; ROOM]) -> Ca
 }
 
 // A line, which may be a case.
-pub fn read_line(version: u16, text: &[u8], at: usize, next: usize, bytes: &mut [u8; ROOM]) -> Case
+pub(crate) fn read_line(
+    version: u16,
+    text: &[u8],
+    at: usize,
+    next: usize,
+    bytes: &mut [u8; ROOM],
+) -> Case
     requires { ⌜ at ≤ length (now text) ⌝ }
 {
-    if scripts::is_case(text, at, next) {
-        return read_case(version, text, at, bytes);
+    if scripts::is_comment(text, at) {
+        return NONE;
     }
-    NONE
+    if scripts::is_shown(text, at) {
+        print(scripts::part(text, at, next));
+        return NONE;
+    }
+    read_case(version, text, at, bytes)
 }
