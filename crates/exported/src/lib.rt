@@ -18,22 +18,23 @@ fn append(fits: bool, out: &mut [u8], at: usize, piece: &[u8]) -> usize
     at + piece.len()
 }
 
-// The run in pieces, which are written or only counted.
+// The run in pieces, which are written or only counted. A file that is turned back, or has no step, needs no tables.
 fn carry_out(input: &[u8], out: &mut [u8], fits: bool) -> usize
     requires { ⌜ Enough fits (now input) (now out) ⌝ }
     ensures { λ r. ⌜ Written fits (now (out .entry)) 0 (runText (now (input .entry))) (now (out .exit)) r
         × (r ≤ longestText * (length (now (input .entry)) + 1)) ⌝ }
 {
+    let mut line = [0u8; text::LONGEST];
+    let mut progress = run::start(input, &mut line);
+    if progress.pos >= input.len() {
+        return append(fits, out, 0, parts::front(&line, progress.written));
+    }
     let mut memo = [0u8; journal::CAPACITY];
     let mut journal = [0u8; run::JOURNAL];
     let mut numbers = [0u16; index::NUMBERS];
     let mut sets = [0u64; index::SETS];
     let mut records = [0u16; index::RECORDS];
     let mut piece = [0u8; run::PIECE];
-    let mut progress = run::start(input, &mut piece);
-    if progress.pos >= input.len() {
-        return append(fits, out, 0, parts::front(&piece, progress.written));
-    }
     let mut at = 0;
     while progress.pos < input.len() {
         progress = run::advance(
