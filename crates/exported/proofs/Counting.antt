@@ -4,7 +4,7 @@ use mathlib.Core.List.{List, [], _++_, _∷_, append-assoc, append-nil}
 use mathlib.Core.Logic.{⊎-elim}
 use mathlib.Core.Path.{_∙_, _≡_, ap, refl, sym}
 use Prim.Native.Nat.{_*_, _+_, _-_, _<_, _≤_, ℕ}
-use native.Mathlib.Nat.{zero-add}
+use native.Mathlib.Nat.{eq-or-lt-of-le, zero-add}
 use native.Mathlib.Omega.{arith}
 use lib.ListN.{length, length-append, take}
 use lib.Seq.{length-sets}
@@ -19,7 +19,7 @@ use Rattle.progress.specs.declared.Progress.{Progress}
 use Rattle.runfile.proofs.Turns.{none-left}
 use Rattle.runfile.specs.Run.{journalSize, runText, textFrom}
 use Rattle.text.specs.Text.{longestText}
-use Rattle.exported.specs.Fits.{Enough, Fits, Roomy, Written, mostBytes}
+use Rattle.exported.specs.Fits.{Fits, Roomy, Written, mostBytes}
 
 -- ---- a piece
 pub counted-here : {fits : Bool} {before text : List ℕ} {at r : ℕ} → fits ≡ false → r ≡ at + length text → Written fits before at text before r
@@ -50,13 +50,12 @@ piece-is s p e = e ∙ made (p .fits) (p .put)
 -- ---- how far the run has come
 pub record Counting (input : List ℕ) (fits : Bool) (before : List ℕ) (p : Progress) (memo journal numbers sets records out : List ℕ) (at : ℕ) : Type 0 where
   pub going : p .pos < length input → Going input p journal numbers sets records memo
-  pub inside : p .pos ≤ length input
   pub done : List ℕ
   pub cut : runText input ≡ done ++ textFrom input (runOf p journal)
   pub written : Written fits before 0 done out at
   pub most : at ≤ longestText * (p .pos + 1)
 
-module _ (input : List ℕ) (fits : Bool) (out piece piece′ : List ℕ) (p : Progress) (enough : Enough fits input out) (a : Started input piece piece′ p)
+module _ (input : List ℕ) (fits : Bool) (out piece piece′ : List ℕ) (p : Progress) (enough : Roomy fits (length (runText input)) out) (a : Started input piece piece′ p)
     (s : List ℕ) (e : s ≡ take (p .written) piece′) where
   size-start : length s ≡ p .written
   size-start = ap length (piece-is s (a .piece) e) ∙ sym (a .piece .put .moved ∙ zero-add _)
@@ -67,22 +66,16 @@ module _ (input : List ℕ) (fits : Bool) (out piece piece′ : List ℕ) (p : P
       ∙ ap (λ (k : ℕ). k + length (textFrom input (runOf p (blank journalSize)))) (ap length (sym (piece-is s (a .piece) e)))
 
   pub room-start : Roomy fits (0 + length s) out × (0 + length s ≤ mostBytes)
-  room-start = (
-    record {
-      room = λ t. ⊎-elim (λ (h : length (runText input) ≤ length out). omega (arith, whole-start))
-          (λ (h : longestText * (length input + 1) ≤ length out). omega (arith, size-start, a .short)) (enough .enough t);
-    },
-    omega (arith, size-start, a .short),
-  )
+  room-start = (record { room = λ t. omega (arith, whole-start, enough .room t) }, omega (arith, size-start, a .short))
 
   -- nothing is left to read: check 1 has turned it back, or it has no step
   pub counted-start : length input ≤ p .pos → (out′ : List ℕ) (r : ℕ) → Written fits out 0 s out′ r
-      → Written fits out 0 (runText input) out′ r × (r ≤ longestText * (length input + 1))
+      → Written fits out 0 (runText input) out′ r
   counted-start h out′ r w =
       let t : runText input ≡ s =
       a .piece .cut ∙ ap (λ (t : List ℕ). a .piece .piece ++ t) (none-left input (runOf p (blank journalSize)) h) ∙ append-nil (a .piece .piece)
       ∙ sym (piece-is s (a .piece) e) in
-      (rw t w, omega (arith, w .moved, size-start, a .short))
+      rw t w
 
 -- something is left, and nothing said yet
 none-said : {text before after rest : List ℕ} {w : ℕ} (p : Piece text before after w rest) → w ≡ 0 → text ≡ rest
@@ -92,11 +85,17 @@ none-said {text} {before} {after} {rest} {w} p z = none (p .piece) (p .cut) (p .
     none [] e m = e
     none (x ∷ piece) e m = absurd (omega (arith, z, m))
 
+none-put : {text before after rest : List ℕ} {w : ℕ} (p : Piece text before after w rest) → w ≡ 0 → after ≡ before
+none-put {text} {before} {after} {rest} {w} p z = none (p .piece) (p .put)
+  where
+    none : (piece : List ℕ) → Put before 0 piece after w → after ≡ before
+    none [] e = e .wrote
+    none (x ∷ piece) e = absurd (omega (arith, z, e .moved))
+
 pub count-begun : (input : List ℕ) (fits : Bool) (out piece piece′ : List ℕ) (p : Progress) → Started input piece piece′ p → p .pos < length input
     → Counting input fits out p (blank capacity) (blank journalSize) (blank numbersSize) (blank setsSize) (blank recordsSize) out 0
 count-begun input fits out piece piece′ p a more = record {
   going = λ l. a .going (a .passed more);
-  inside = omega arith;
   done = [];
   cut = none-said (a .piece) (a .silent (a .passed more));
   written = record { moved = refl; wrote = λ t. refl; kept = λ f. refl };
@@ -104,7 +103,7 @@ count-begun input fits out piece piece′ p a more = record {
 }
 
 module _ {input : List ℕ} {fits : Bool} {before : List ℕ} {p : Progress} {memo journal numbers sets records out : List ℕ} {at : ℕ}
-    (enough : Enough fits input before) (c : Counting input fits before p memo journal numbers sets records out at)
+    (enough : Roomy fits (length (runText input)) before) (c : Counting input fits before p memo journal numbers sets records out at)
     {piece journal′ numbers′ sets′ records′ memo′ piece′ : List ℕ} {q : Progress}
     (a : Advanced input p journal piece q journal′ numbers′ sets′ records′ memo′ piece′) (s : List ℕ) (e : s ≡ take (q .written) piece′) where
   size-on : length s ≡ q .written
@@ -121,11 +120,7 @@ module _ {input : List ℕ} {fits : Bool} {before : List ℕ} {p : Progress} {me
 
   pub room-on : Roomy fits (at + length s) out × (at + length s ≤ mostBytes)
   room-on = (
-    record {
-      room = λ t. ⊎-elim (λ (h : length (runText input) ≤ length before). omega (arith, whole-on, c .written .moved, as-long (c .written)))
-          (λ (h : longestText * (length input + 1) ≤ length before).
-          omega (arith, size-on, c .most, a .short, a .going .inside, as-long (c .written))) (enough .enough t);
-    },
+    record { room = λ t. omega (arith, whole-on, c .written .moved, as-long (c .written), enough .room t) },
     omega (arith, size-on, c .most, a .short, a .going .inside, a .going .few),
   )
 
@@ -133,7 +128,6 @@ module _ {input : List ℕ} {fits : Bool} {before : List ℕ} {p : Progress} {me
       → Counting input fits before q memo′ journal′ numbers′ sets′ records′ out′ r
   count-on out′ r w = record {
     going = λ more. a .going;
-    inside = a .going .inside;
     done = c .done ++ s;
     cut = cut-on;
     written = then-written (c .written) w;
@@ -143,18 +137,37 @@ module _ {input : List ℕ} {fits : Bool} {before : List ℕ} {p : Progress} {me
 -- nothing is left to read
 pub all-counted : {input : List ℕ} {fits : Bool} {before : List ℕ} {p : Progress} {memo journal numbers sets records out : List ℕ} {at : ℕ}
     → Counting input fits before p memo journal numbers sets records out at → length input ≤ p .pos
-    → Written fits before 0 (runText input) out at × (at ≤ longestText * (length input + 1))
+    → Written fits before 0 (runText input) out at
 all-counted {input} {fits} {before} {p} {memo} {journal} {numbers} {sets} {records} {out} {at} c h =
     let e : runText input ≡ c .done = c .cut ∙ ap (λ (t : List ℕ). c .done ++ t) (none-left input (runOf p journal) h) ∙ append-nil (c .done) in
-    (rw e (c .written), omega (arith, c .most, c .inside))
+    rw e (c .written)
 
 -- ---- whole or not at all
-module _ {text before after : List ℕ} {r : ℕ} where
-  pub fits-at-once : Written true before 0 text after r → r ≤ length before → Fits text before after r
-  fits-at-once w h =
-      let n : r ≡ length text = w .moved ∙ zero-add (length text) in
-      record { needed = n; whole = λ l. w .wrote refl; nothing = λ l. absurd (omega arith) }
+module _ (input before between : List ℕ) (p : Progress) (s : Started input before between p) where
+  put-fits : {piece text after : List ℕ} {r : ℕ} → Put before 0 piece after r → r ≤ length before → text ≡ piece ++ [] → Fits text before after r
+  put-fits {piece} w h e =
+      let t = e ∙ append-nil piece in
+      rw t (record { needed = w .moved ∙ zero-add (length piece); whole = λ l. w .wrote; nothing = λ l. absurd (omega (arith, w .moved)) })
 
+  pub at-once-start : length input ≤ p .pos → Fits (runText input) before between (p .written)
+  at-once-start h =
+      put-fits (s .piece .put) (s .piece .fits)
+      (s .piece .cut ∙ ap (λ (t : List ℕ). s .piece .piece ++ t) (none-left input (runOf p (blank journalSize)) h))
+
+  -- with so much room a run ends, and does not only stop
+  pub at-once-on : longestText * (length input + 1) ≤ length before → p .pos < length input → (q : Progress) (journal numbers sets records memo after : List ℕ)
+      → Advanced input p (blank journalSize) between q journal numbers sets records memo after → Fits (runText input) before after (q .written)
+  at-once-on room more q journal numbers sets records memo after a =
+      let z = s .silent (s .passed more) in
+      let same : between ≡ before = none-put (s .piece) z in
+      let ends : length input ≤ q .pos =
+      ⊎-elim (λ (h : length input ≤ q .pos). h)
+      (λ (h : length between < q .written + longestText). ⊎-elim (λ (e : q .pos ≡ length input). omega arith)
+      (λ (l : q .pos < length input). absurd (omega (arith, h, ap length same, a .short, room, l))) (eq-or-lt-of-le (a .going .inside))) (a .filled) in
+      put-fits (rw same at (a .piece .put)) (omega (arith, a .piece .fits, ap length same))
+      (none-said (s .piece) z ∙ a .piece .cut ∙ ap (λ (t : List ℕ). a .piece .piece ++ t) (none-left input (runOf q journal) ends))
+
+module _ {text before after : List ℕ} {r : ℕ} where
   pub fits-counted : {between : List ℕ} {k : ℕ} → Written false before 0 text between k → k ≤ length before → Written true between 0 text after r → Fits text before after r
   fits-counted c h w =
       let n : r ≡ length text = w .moved ∙ zero-add (length text) in

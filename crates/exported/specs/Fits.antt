@@ -1,12 +1,11 @@
 -- A text that a caller gets whole or not at all.
 use mathlib.Core.Bool.{Bool, false, true}
 use mathlib.Core.List.{List}
-use mathlib.Core.Logic.{_⊎_}
 use mathlib.Core.Path.{_≡_}
 use Prim.Native.Nat.{_*_, _+_, _<_, _≤_, ℕ}
 use lib.ListN.{length}
 use lib.Seq.{sets}
-use Rattle.runfile.specs.Run.{longest, runText}
+use Rattle.runfile.specs.Run.{longest}
 use Rattle.text.specs.Text.{longestText}
 
 -- the answer is the length of the whole text, which stands at the front of a buffer with room for it; a shorter one is as it was
@@ -24,10 +23,6 @@ pub record Written (fits : Bool) (before : List ℕ) (at : ℕ) (text after : Li
 
 pub record Roomy (fits : Bool) (end : ℕ) (out : List ℕ) : Type 0 where
   pub room : fits ≡ true → end ≤ length out
-
--- room for the text of this input, or for that of any input of its length
-pub record Enough (fits : Bool) (input out : List ℕ) : Type 0 where
-  pub enough : fits ≡ true → (length (runText input) ≤ length out) ⊎ (longestText * (length input + 1) ≤ length out)
 
 -- no text of a run has more bytes
 abbrev pub mostBytes : ℕ

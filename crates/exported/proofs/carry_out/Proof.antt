@@ -38,11 +38,11 @@ reads-on a more size = omega (arith, a .onward more (omega arith))
 ruleset by = (to-advance, as-long, needs)
 
 abbrev Inv-loop : tie.InvT-loop
-Inv-loop input out₀ fits memo₀ journal₀ numbers₀ sets₀ records₀ piece₀ progress₀ at₀ out memo journal numbers sets records piece progress at =
+Inv-loop input out₀ fits progress₀ memo₀ journal₀ numbers₀ sets₀ records₀ piece₀ at₀ out progress memo journal numbers sets records piece at =
     Turn input fits out₀ progress memo journal numbers sets records piece out at
 
 abbrev μ-loop : tie.MeasureT-loop
-μ-loop input out₀ fits memo₀ journal₀ numbers₀ sets₀ records₀ piece₀ progress₀ at₀ out memo journal numbers sets records piece progress at =
+μ-loop input out₀ fits progress₀ memo₀ journal₀ numbers₀ sets₀ records₀ piece₀ at₀ out progress memo journal numbers sets records piece at =
     length input - progress .pos
 
 append-requires : tie.Need-append-requires Inv-loop μ-loop
