@@ -70,12 +70,13 @@ use Rattle.ledger.specs.Steps.{
   vaultGate,
 }
 use Rattle.ledger.specs.Worlds.{Event, World, after, afterAll, commit, faultyVote, lend, outcomes, overlay, preflight, propose, release, replyTo, start}
-use Rattle.instances.proofs.Example.{accession, blank, first-tape, lending}
+use Rattle.instances.proofs.Example.{lending}
 use Rattle.instances.proofs.ReadyExample.{lawful}
+use Rattle.instances.specs.Records.{accession, accessionBy, first-tape}
 
 -- the same tape, by drive 6
 abbrev pub rival : List ℕ
-rival = (0 ∷ 6 ∷ 0 ∷ 1 ∷ []) ++ blank ++ blank ++ blank ++ blank ++ first-tape ++ blank ++ blank ++ blank
+rival = accessionBy 6 first-tape
 
 -- job 0 is signed at vault 0, and job 1, its rival, by the other three; the certificate 14 names them
 abbrev pub past : List Event
