@@ -55,7 +55,8 @@ pub record Counting (input : List ℕ) (fits : Bool) (before : List ℕ) (p : Pr
   pub written : Written fits before 0 done out at
   pub most : at ≤ longestText * (p .pos + 1)
 
-module _ (input : List ℕ) (fits : Bool) (out piece piece′ : List ℕ) (p : Progress) (enough : Roomy fits (length (runText input)) out) (a : Started input piece piece′ p)
+module _ (input : List ℕ) (fits : Bool) (out piece piece′ : List ℕ) (p : Progress) (enough : Roomy fits (length (runText input)) out)
+    (a : Started input piece piece′ p)
     (s : List ℕ) (e : s ≡ take (p .written) piece′) where
   size-start : length s ≡ p .written
   size-start = ap length (piece-is s (a .piece) e) ∙ sym (a .piece .put .moved ∙ zero-add _)
@@ -168,7 +169,8 @@ module _ (input before between : List ℕ) (p : Progress) (s : Started input bef
       (none-said (s .piece) z ∙ a .piece .cut ∙ ap (λ (t : List ℕ). a .piece .piece ++ t) (none-left input (runOf q journal) ends))
 
 module _ {text before after : List ℕ} {r : ℕ} where
-  pub fits-counted : {between : List ℕ} {k : ℕ} → Written false before 0 text between k → k ≤ length before → Written true between 0 text after r → Fits text before after r
+  pub fits-counted : {between : List ℕ} {k : ℕ} → Written false before 0 text between k → k ≤ length before → Written true between 0 text after r
+      → Fits text before after r
   fits-counted c h w =
       let n : r ≡ length text = w .moved ∙ zero-add (length text) in
       record {

@@ -1,5 +1,6 @@
--- A job that is released: in document 01's federation, n 4, b 1 and vault 3 faulty, two records accession VAA001L5, by drives 7 and 6. Vault 0 signs the first, the
--- others the second, which comes to vault 0 with their signatures; there it lets the first go, and its signature stays counted. Computed from the real bytes.
+-- A job that is released: in document 01's federation, n 4, b 1 and vault 3 faulty, two records accession VAA001L5, by drives 7 and 6. Vault 0 signs the
+-- first, the others the second, which comes to vault 0 with their signatures; there it lets the first go, and its signature stays counted. Computed from the
+-- real bytes.
 use mathlib.Core.List.{List, [], _++_, _∷_}
 use mathlib.Core.Path.{_≡_, ap, refl}
 use Prim.Native.Nat.{ℕ}
@@ -99,14 +100,14 @@ pub answers :
     (outcomes (start 4 1 8 1) (past ++ (lending (release 0 0 1) ∷ lending (release 0 0 1) ∷ lending (preflight 0 0) ∷ []))
     ≡ Done 0 ∷ Done 1 ∷ Done 1 ∷ Done 1 ∷ Done 2 ∷ Done 3 ∷ Refused NotSuperseded ∷ Done 1 ∷ Done 1 ∷ Refused NotSignedHere ∷ Refused (OutputReserved 4) ∷ [])
     × (replyTo world (lending (release 0 0 1)) .outcome ≡ Done 1)
-unfolding sameList anyBelow allBelow firstBelow sumFrom hasBit withBit withMember withoutBit subsetOf jobHas jobWith jobWithout inputsFormed countsFormed isFilled
-    isBlank entryFormed trimmedFormed wellFormed hasLabelOf repeatedAt isWritten unsupportedAt balanced checkOf examined recordSize saysTrimmed placeOf wholeIn leAt
-    entryAt entriesAt jobOf isLabelAt labelIn isTapeAt makesTape sharesAt sharesIn conflicting isDrive supports labelOf framesOf isUsed usedFrames isBetween charAt
-    isAlphanumeric mediumOf isLabel makesAt madeBy listsAt listedBy notCreatedAt consumedAt madeBefore remadeAt admission isKnown isFederation isLawfulUpTo
-    thresholdOf isAt slotAt isBooked recordAt jobAt insideOf equalAt equalIn hasRoom putAt votesIn hasArrived isSane newLedger booking voted withVault enqueued
-    arriving applied gateOf saneGate vaultGate placing settling proposal proposeDecision journalAfter consent preflighting preflightDecision certificate receiving
-    committing commitDecision faultyVoteDecision supersededAt supersession releasing releaseDecision signing holding unsigning admissionAt vaultPreflight lend
-    overlay after start ones onesIn
+unfolding sameList anyBelow allBelow firstBelow sumFrom hasBit withBit withMember withoutBit subsetOf jobHas jobWith jobWithout inputsFormed countsFormed
+    isFilled isBlank entryFormed trimmedFormed wellFormed hasLabelOf repeatedAt isWritten unsupportedAt balanced checkOf examined recordSize saysTrimmed
+    placeOf wholeIn leAt entryAt entriesAt jobOf isLabelAt labelIn isTapeAt makesTape sharesAt sharesIn conflicting isDrive supports labelOf framesOf isUsed
+    usedFrames isBetween charAt isAlphanumeric mediumOf isLabel makesAt madeBy listsAt listedBy notCreatedAt consumedAt madeBefore remadeAt admission isKnown
+    isFederation isLawfulUpTo thresholdOf isAt slotAt isBooked recordAt jobAt insideOf equalAt equalIn hasRoom putAt votesIn hasArrived isSane newLedger
+    booking voted withVault enqueued arriving applied gateOf saneGate vaultGate placing settling proposal proposeDecision journalAfter consent preflighting
+    preflightDecision certificate receiving committing commitDecision faultyVoteDecision supersededAt supersession releasing releaseDecision signing holding
+    unsigning admissionAt vaultPreflight lend overlay after start ones onesIn
 answers = (refl, refl)
 
 -- what demand 2 says of a release that is answered 0 is said of this one: job 0 is unsigned at vault 0, and its one signature is recorded as it was

@@ -19,12 +19,16 @@ use Rattle.vaults.specs.declared.Column.{Column}
 use Rattle.vaults.specs.declared.Consent.the-variants.{Already}
 use Rattle.vaults.specs.declared.Signing.{Signing}
 use Rattle.ledger.proofs.Gates.{booked-entered, entered, passed-rest, passed-test}
-use Rattle.ledger.specs.Decisions.{admissionAt, ageing, answering, certificate, clientPreflighting, committing, consent, consenting, countedConsent, counting, gated, historyWith, preflighting, receiving, refusing, releasing, snapshotting, statusOf, supersession, voting, withinQuota}
+use Rattle.ledger.specs.Decisions.{admissionAt, ageing, answering, certificate, clientPreflighting, committing, consent, consenting, countedConsent}
+use Rattle.ledger.specs.Decisions.{counting, gated, historyWith, preflighting, receiving, refusing, releasing, snapshotting, statusOf, supersession}
+use Rattle.ledger.specs.Decisions.{voting, withinQuota}
 use Rattle.ledger.specs.Holders.{isHeld}
 use Rattle.ledger.specs.Meaning.{Entered}
 use Rattle.ledger.specs.Register.{isDone}
 use Rattle.ledger.specs.State.{acknowledgersOf, historyAt, signersOf, vaultAt, versionOf, votesAt, votesIn}
-use Rattle.ledger.specs.Steps.{bookedGate, clientPreflightDecision, commitDecision, dependenciesDecision, dependenciesOf, equivocatorsDecision, equivocatorsOf, faultyVoteDecision, generationsDecision, preflightDecision, releaseDecision, saneGate, showDecision, snapshotDecision, vaultGate}
+use Rattle.ledger.specs.Steps.{bookedGate, clientPreflightDecision, commitDecision, dependenciesDecision, dependenciesOf, equivocatorsDecision}
+use Rattle.ledger.specs.Steps.{equivocatorsOf, faultyVoteDecision, generationsDecision, preflightDecision, releaseDecision, saneGate, showDecision}
+use Rattle.ledger.specs.Steps.{snapshotDecision, vaultGate}
 use Rattle.ledger.specs.Worlds.{Request, clientPreflight, commit, dependencies, equivocating, faultyVote, generations, preflight, release, show, snapshot}
 use Rattle.ledger.specs.declared.Change.the-variants.{Count, Grant, Hold, Nothing, Record, Release, Sign}
 use Rattle.ledger.specs.declared.Decision.{Decision}
@@ -146,7 +150,8 @@ module _ (l : Ledger) (journal : List ℕ) where
       let age = ageIn (jobAt (versionOf l) journal (l .booked)) (l .order) (l .arrivals) k in
       behind (generations k) (bookedGate l journal k) _ e
       (λ g. by-cases (λ b. isDone (cond b (answering age) (refusing NotHeld) .outcome) ≡ true → Act l journal (generations k)
-      (cond b (answering age) (refusing NotHeld))) (isHeld (l .settings) (l .vaults) k) (λ c d. ages k (booked-entered l journal k g .1)) (λ c d. absurd (true≢false (sym d))))
+      (cond b (answering age) (refusing NotHeld))) (isHeld (l .settings) (l .vaults) k) (λ c d. ages k (booked-entered l journal k g .1))
+      (λ c d. absurd (true≢false (sym d))))
 
   reads : (q : Request) (o : Outcome) → isDone o ≡ true → ((value : ℕ) → Act l journal q (answering value))
       → Act l journal q (record { outcome = o; change = Nothing })

@@ -1,6 +1,6 @@
--- Each kind's row, read off its tests in the order in which the definitions make them: a test that fails is its claim, and one that passes is its claim's denial.
--- Behind check 4 the lent journal is read as the booked records, and the history of a client is the requests that a list of steps shows. At the end, that a
--- refused step changes nothing.
+-- Each kind's row, read off its tests in the order in which the definitions make them: a test that fails is its claim, and one that passes is its claim's
+-- denial. Behind check 4 the lent journal is read as the booked records, and the history of a client is the requests that a list of steps shows. At the end,
+-- that a refused step changes nothing.
 use mathlib.Core.Bool.{Bool, Bool·beq, _&&_, cond, false, not, true, true≢false}
 use mathlib.Core.List.{List, []}
 use mathlib.Core.Logic.{_⊎_, inl, inr, ⊎-elim}
@@ -12,7 +12,8 @@ use lib.Dec.{eqb, leb, ltb}
 use lib.ListN.{getD, length, take}
 use lib.Seq.{getD-set-same}
 use borrow.Author.Tests.{eqb-false, eqb-true, leb-false, leb-true, ltb-false, ltb-true}
-use Rattle.base.proofs.Reflect.{by-cases, by-test, decided, not-false-true, not-true-false, reflect-and, reflect-false, reflect-le, reflect-lt, reflect-true, refuted}
+use Rattle.base.proofs.Reflect.{by-cases, by-test, decided, not-false-true, not-true-false, reflect-and, reflect-false, reflect-le, reflect-lt}
+use Rattle.base.proofs.Reflect.{reflect-true, refuted}
 use Rattle.base.proofs.Search.{reflect-any}
 use Rattle.base.specs.Reflect.{Reflects}
 use Rattle.base.specs.Search.{Every, Some, anyBelow}
@@ -65,8 +66,12 @@ use Rattle.ledger.proofs.Places.{proposed}
 use Rattle.ledger.proofs.Quota.{quota}
 use Rattle.ledger.proofs.Unchanged.{unchanged}
 use Rattle.ledger.proofs.Views.{arrives}
-use Rattle.ledger.specs.Decisions.{admissionAt, ageing, answering, certificate, clientPreflighting, committing, consent, consenting, countedConsent, counting, gated, gatedListing, historyWith, ifAdmitted, listing, preflighting, receiving, receivingAll, refusing, releasing, requiring, snapshotting, supersession, supplying, voting, withinQuota}
-use Rattle.ledger.specs.Demand1.{Admitted, Gives, AtCorrect, BookFull, CertifiedNow, CutShort, Demand1, EqualAt, FinishedNow, First, FirstAmong, GenerationsOf, Inside, MalformedRecord, NamedVaults, NoRivalHeld, NotBelow, RefusedUnchanged, CheckRow, SetWorks, SignedHere, SmallestSize, Unbooked, Unsigned, Value, Where, order}
+use Rattle.ledger.specs.Decisions.{admissionAt, ageing, answering, certificate, clientPreflighting, committing, consent, consenting, countedConsent}
+use Rattle.ledger.specs.Decisions.{counting, gated, gatedListing, historyWith, ifAdmitted, listing, preflighting, receiving, receivingAll, refusing}
+use Rattle.ledger.specs.Decisions.{releasing, requiring, snapshotting, supersession, supplying, voting, withinQuota}
+use Rattle.ledger.specs.Demand1.{Admitted, Gives, AtCorrect, BookFull, CertifiedNow, CutShort, Demand1, EqualAt, FinishedNow, First, FirstAmong}
+use Rattle.ledger.specs.Demand1.{GenerationsOf, Inside, MalformedRecord, NamedVaults, NoRivalHeld, NotBelow, RefusedUnchanged, CheckRow, SetWorks}
+use Rattle.ledger.specs.Demand1.{SignedHere, SmallestSize, Unbooked, Unsigned, Value, Where, order}
 use Rattle.ledger.specs.Demand2.{InPlace, accepts}
 use Rattle.ledger.specs.Demand3.{ByCreators, Held, ageAt, bookedJob}
 use Rattle.ledger.specs.Holders.{heldSomewhere, isHeld}
@@ -79,11 +84,14 @@ use Rattle.ledger.specs.Meaning.{Status, Supersedes, Supersession, certi
 use Rattle.ledger.specs.Quota.{asked, counts, isOver, signedIn}
 use Rattle.ledger.specs.Refused.{isCounted, refusedLedger}
 use Rattle.ledger.specs.Register.{Register, isDone, newRegister}
-use Rattle.ledger.specs.State.{acknowledgersOf, applied, arrived, arriving, counted, historyAt, isSane, signersOf, vaultAt, versionOf, visited, voted, votesAt, votesIn, withVault}
+use Rattle.ledger.specs.State.{acknowledgersOf, applied, arrived, arriving, counted, historyAt, isSane, signersOf, vaultAt, versionOf, visited, voted}
+use Rattle.ledger.specs.State.{votesAt, votesIn, withVault}
 use Rattle.ledger.specs.Steps.{bookedGate, clientPreflightDecision, commitDecision, dependenciesDecision, dependenciesOf, equivocatorsDecision}
-use Rattle.ledger.specs.Steps.{equivocatorsOf, faultyVoteDecision, gateOf, generationsDecision, preflightDecision, proposeDecision, releaseDecision, saneGate}
+use Rattle.ledger.specs.Steps.{equivocatorsOf, faultyVoteDecision, gateOf, generationsDecision, preflightDecision, proposeDecision, releaseDecision}
+use Rattle.ledger.specs.Steps.{saneGate}
 use Rattle.ledger.specs.Steps.{showDecision, snapshotDecision, vaultGate}
-use Rattle.ledger.specs.Worlds.{Event, Request, World, after, afterAll, clientPreflight, commit, dependencies, equivocating, faultyVote, generations, leftBy, lent, overlay, preflight, propose, release, replyTo, show, snapshot, start, stepOf}
+use Rattle.ledger.specs.Worlds.{Event, Request, World, after, afterAll, clientPreflight, commit, dependencies, equivocating, faultyVote, generations}
+use Rattle.ledger.specs.Worlds.{leftBy, lent, overlay, preflight, propose, release, replyTo, show, snapshot, start, stepOf}
 use Rattle.ledger.specs.declared.Change.the-variants.{Hold, Nothing, Record, Release}
 use Rattle.ledger.specs.declared.Decision.{Decision}
 use Rattle.ledger.specs.declared.History.{History}
@@ -250,7 +258,8 @@ module _ {w : World} {r : Register} (i : Inv w r) (e : Event) where
   abbrev AdmissionAt : ℕ → ℕ → (ℕ → Job) → Verdict → Type 0
   AdmissionAt v k job d = Admission job (l .booked) (vaultAt l v .held) (jobWithout (vaultAt l v .signed) k) (job k) d
 
-  answered : (v k : ℕ) → Booked (versionOf l) journal (l .booked) k → AdmissionAt v k (bookedJob w) (admissionAt (vaultAt l v) (versionOf l) journal (l .booked) k)
+  answered : (v k : ℕ) → Booked (versionOf l) journal (l .booked) k → AdmissionAt v k (bookedJob w)
+      (admissionAt (vaultAt l v) (versionOf l) journal (l .booked) k)
   unfolding admissionAt
   answered v k b =
       subst (λ (job : ℕ → Job). AdmissionAt v k job (admissionAt (vaultAt l v) (versionOf l) journal (l .booked) k)) (jobs (b .inside))
@@ -310,7 +319,8 @@ module _ {w : World} {r : Register} (i : Inv w r) (e : Event) where
   -- ---- kind 3
   unsigned? : (k signers : ℕ) → Reflects (not (subsetOf signers (signersOf l k))) (Unsigned signers (signersOf l k))
   unsigned? k signers = record {
-    sound = λ t. by (anyBelow signers (λ u. hasBit signers u && not (hasBit (signersOf l k) u))) refl (reflect-false (subsetOf signers (signersOf l k)) .sound t);
+    sound = λ t. by (anyBelow signers (λ u. hasBit signers u && not (hasBit (signersOf l k) u))) refl
+        (reflect-false (subsetOf signers (signersOf l k)) .sound t);
     complete = λ u. ap not (not-true-false (subsetOf signers (signersOf l k))
         (λ s. clash (subset-has signers (signersOf l k) (u .vault) s (u .named)) (u .missing)));
   }
@@ -483,7 +493,8 @@ module _ {w : World} {r : Register} (i : Inv w r) (e : Event) where
               record {
                 vaults = vaults;
                 fits = fits;
-                each = subst (λ (job : ℕ → Job). (v : ℕ) → Reflects (jobHas vaults v) ((v < l .settings .n) × Equivocates (l .settings) (signersOf l) job (l .booked) v))
+                each = subst (λ (job : ℕ → Job). (v : ℕ) → Reflects (jobHas vaults v)
+                    ((v < l .settings .n) × Equivocates (l .settings) (signersOf l) job (l .booked) v))
                     (jobs h) each;
                 is = refl;
               },
@@ -531,12 +542,14 @@ module _ {w : World} {r : Register} (i : Inv w r) (e : Event) where
   abbrev Placed : List ℕ → CheckRow
   Placed bytes = FirstAmong (l .booked) (EqualAt w e bytes) 0 (First (BookFull w e) 10 (Value (l .booked)))
 
-  propose-row : (bytes : List ℕ) → Checked bytes (Placed bytes) (numberOf (proposeDecision l journal bytes .outcome)) (valueOf (proposeDecision l journal bytes .outcome))
+  propose-row : (bytes : List ℕ) → Checked bytes (Placed bytes) (numberOf (proposeDecision l journal bytes .outcome))
+      (valueOf (proposeDecision l journal bytes .outcome))
   propose-row bytes = by (proposeDecision l journal bytes) (proposed l journal bytes)
     where
       passed : (number value : ℕ) → examined (versionOf l) bytes ≡ Pass → Placed bytes number value → Checked bytes (Placed bytes) number value
       passed number value p next =
-          subst (λ (d : Verdict). Checked bytes (Placed bytes) (numberOr number d) (valueOr value d)) p (checked-row bytes (Placed bytes) number value (λ _. next))
+          subst (λ (d : Verdict). Checked bytes (Placed bytes) (numberOr number d) (valueOr value d)) p
+          (checked-row bytes (Placed bytes) number value (λ _. next))
 
       by : (d : Decision) → Proposed l journal bytes d → Checked bytes (Placed bytes) (numberOf (d .outcome)) (valueOf (d .outcome))
       by d (insane n) = absurd (n (shape-sane (i .shape)))
@@ -557,7 +570,10 @@ module _ {w : World} {r : Register} (i : Inv w r) (e : Event) where
       ))
       by d (full h) = passed 10 0 (h .passes) (inr (
         no-equal bytes (h .unknown),
-        inl (⊎-elim inl (λ (p : length journal < placeOf (versionOf l) (l .booked) + recordSize (versionOf l)). inr (λ q. omega (arith, p, q))) (h .full), (refl, refl)),
+        inl (
+          ⊎-elim inl (λ (p : length journal < placeOf (versionOf l) (l .booked) + recordSize (versionOf l)). inr (λ q. omega (arith, p, q))) (h .full),
+          (refl, refl),
+        ),
       ))
 
   -- ---- kind 11
@@ -585,7 +601,8 @@ module _ {w : World} {r : Register} (i : Inv w r) (e : Event) where
       subst (λ (o : Outcome). AtCorrect w e v k (First (NoSet v k) 21 (Gives (SmallestSize w e v k))) (numberOf o) (valueOf o))
       (gate-listing (vaultGate l journal v k false))
       (gate-row v k false (First (NoSet v k) 21 (Gives (SmallestSize w e v k))) (record { outcome = found .outcome; change = Nothing })
-      (λ h. by (jobHas (vaultAt l v .signed) k) (admissionAt (receivingAll (vaultAt l v) suppliers) (versionOf l) journal (l .booked) k) suppliers (subst (Smallest w (e .size) (e .beyond) v k) (ap (λ (g : Verdict). gatedListing g found)
+      (λ h. by (jobHas (vaultAt l v .signed) k) (admissionAt (receivingAll (vaultAt l v) suppliers) (versionOf l) journal (l .booked) k) suppliers
+      (subst (Smallest w (e .size) (e .beyond) v k) (ap (λ (g : Verdict). gatedListing g found)
       (enters l journal v k false h)) (smallest i (e .size) (e .beyond) v k (in-place h)))))
     where
       suppliers : JobSet

@@ -1,6 +1,6 @@
 -- The value of every visit. After any list the vault whose turn it is is the number of visits by remainder, and the jobs seen are those that the correct vaults
--- visited in this round held when they were visited: a visit adds what its vault holds, the first of a round forgets the rest, and no other step touches either.
--- So the count that a visit answers is the number of these jobs.
+-- visited in this round held when they were visited: a visit adds what its vault holds, the first of a round forgets the rest, and no other step touches
+-- either. So the count that a visit answers is the number of these jobs.
 use mathlib.Core.Bool.{Bool, cond, false, true, true≢false}
 use mathlib.Core.List.{List, [], _++_, _∷_, append-assoc, append-nil}
 use mathlib.Core.Logic.{_↔_, ⊎-elim}

@@ -59,7 +59,8 @@ use Rattle.ledger.specs.Parts.{votes as votesPart}
 use Rattle.ledger.specs.Register.{Register, feed, feedCommit, isAdmissible, isDone, stopped, taking}
 use Rattle.ledger.specs.State.{applied, arrived, booking, counted, historyAt, vaultAt, versionOf, visited, voted, votesAt, votesIn, withVault}
 use Rattle.ledger.specs.Steps.{journalAfter, journalWith, proposeDecision}
-use Rattle.ledger.specs.Worlds.{Event, Request, World, after, clientPreflight, commit, dependencies, equivocating, faultyVote, generations, jobIn, leftBy, lend, overlay, preflight, propose, release, replyTo, show, snapshot, stepOf, vaultIn}
+use Rattle.ledger.specs.Worlds.{Event, Request, World, after, clientPreflight, commit, dependencies, equivocating, faultyVote, generations, jobIn}
+use Rattle.ledger.specs.Worlds.{leftBy, lend, overlay, preflight, propose, release, replyTo, show, snapshot, stepOf, vaultIn}
 use Rattle.ledger.specs.declared.Decision.{Decision}
 use Rattle.ledger.specs.declared.History.{History}
 use Rattle.ledger.specs.declared.Ledger.{Ledger}

@@ -1,5 +1,5 @@
--- When a preflight and a commit are answered 0: the invariant of demand 3 gives what the laws on Algorithms 1 and 2 ask for. The counts are in their bounds, the lent journal
--- is read as the booked records, and each of those passed checks 6 to 9 when it was booked.
+-- When a preflight and a commit are answered 0: the invariant of demand 3 gives what the laws on Algorithms 1 and 2 ask for. The counts are in their bounds,
+-- the lent journal is read as the booked records, and each of those passed checks 6 to 9 when it was booked.
 use mathlib.Core.Bool.{Bool, false, true}
 use mathlib.Core.List.{List, []}
 use mathlib.Core.Logic.{inl, inr, ⊎-elim}

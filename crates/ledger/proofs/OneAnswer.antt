@@ -18,7 +18,8 @@ use Rattle.vaults.specs.declared.Column.the-variants.{Acknowledgements, Signatu
 use Rattle.ledger.proofs.Demand3.{along, first}
 use Rattle.ledger.proofs.Holders.{reflect-held}
 use Rattle.ledger.proofs.Invariant.{Inv}
-use Rattle.ledger.specs.Demand1.{Admitted, AtFaulty, AtCorrect, CheckRow, First, FirstAmong, GenerationsOf, Gives, NamedVaults, OneAnswer, SmallestSize, Value, Where, order}
+use Rattle.ledger.specs.Demand1.{Admitted, AtFaulty, AtCorrect, CheckRow, First, FirstAmong, GenerationsOf, Gives, NamedVaults, OneAnswer}
+use Rattle.ledger.specs.Demand1.{SmallestSize, Value, Where, order}
 use Rattle.ledger.specs.Demand3.{ByCreators, Held, OneCreator, bookedJob}
 use Rattle.ledger.specs.Register.{Register, newRegister}
 use Rattle.ledger.specs.State.{arrived}

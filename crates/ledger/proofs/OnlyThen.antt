@@ -1,5 +1,6 @@
--- "And only there": of all changes that a step can make, signing alone adds to what a correct vault has signed or to its recorded signatures, and holding alone to
--- what it holds or acknowledges. A faulty vault's vote is its own, so it is no correct vault's. Both go together, so a vault has acknowledged what it holds.
+-- "And only there": of all changes that a step can make, signing alone adds to what a correct vault has signed or to its recorded signatures, and holding
+-- alone to what it holds or acknowledges. A faulty vault's vote is its own, so it is no correct vault's. Both go together, so a vault has acknowledged what
+-- it holds.
 use mathlib.Core.Bool.{Bool, false, true, true≢false}
 use mathlib.Core.List.{List, [], _∷_}
 use mathlib.Core.Logic.{⊎-elim}
@@ -166,7 +167,8 @@ module _ {w : World} {r : Register} (i : Inv w r) where
         record {
           signers = x .signers;
           asked = x .asked;
-          allowed = obeys i (e .size) (e .beyond) v k (record { correct = c; booked = h .known .below; whole = h .known .inside }) .commits (x .signers) .sound done;
+          allowed = obeys i (e .size) (e .beyond) v k (record { correct = c; booked = h .known .below; whole = h .known .inside }) .commits
+              (x .signers) .sound done;
         }
 
     pub only-then : (e : Event) → OnlyThen w (after w e) (e .request) v k

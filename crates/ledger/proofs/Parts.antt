@@ -1,5 +1,5 @@
--- What each effect moves. A vault's new state, a vote, an arrival, a visit, a client's entry and a booked record each move one part and leave the others, so a step
--- that is made of some of them moves their parts alone; and what lasts is its parts, since each list in a ledger keeps its length.
+-- What each effect moves. A vault's new state, a vote, an arrival, a visit, a client's entry and a booked record each move one part and leave the others, so
+-- a step that is made of some of them moves their parts alone; and what lasts is its parts, since each list in a ledger keeps its length.
 use mathlib.Core.Bool.{Bool, true}
 use mathlib.Core.List.{List, [], _++_, _∷_}
 use mathlib.Core.Logic.{inl, inr, ⊎-elim}

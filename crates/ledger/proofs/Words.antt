@@ -103,7 +103,8 @@ unfolding sumFrom
 count-kept p i zero = refl
 count-kept p i (suc n) =
     let rest = count-kept p (suc i) n in
-    by-cases (λ b. length (cond b (i ∷ keepIf p (numbers (suc i) n)) (keepIf p (numbers (suc i) n))) ≡ cond b 1 0 + sumFrom (λ k. cond (p k) 1 0) (suc i) n) (p i)
+    by-cases (λ b. length (cond b (i ∷ keepIf p (numbers (suc i) n)) (keepIf p (numbers (suc i) n))) ≡ cond b 1 0 + sumFrom (λ k. cond (p k) 1 0) (suc i) n)
+    (p i)
     (λ _. omega (arith, rest)) (λ _. omega (arith, rest))
 
 -- as many members as the count says can be listed

@@ -2,8 +2,8 @@
 -- document 01's "Turned back" and "Order" and document 02's M-101, M-105, M-108, M-109 and M-113: `order` has a clause for each kind, "where this claim holds,
 -- this refusal, else ..", with both figures that are printed, up to what is answered where every check passes. Nothing in a claim searches: it says what there
 -- is. Kind 7, which asks nothing of a ledger, and refusals 1 and 2 of a run file stand in `runfile`'s page of the same name.
--- That every step ends is no theorem: a step is a function of the ledger, the journal and the request, and each function of specs/ is total, as is the code that
--- is held to it.
+-- That every step ends is no theorem: a step is a function of the ledger, the journal and the request, and each function of specs/ is total, as is the code
+-- that is held to it.
 use mathlib.Core.Bool.{false, true}
 use mathlib.Core.List.{List, []}
 use mathlib.Core.Logic.{_⊎_}
@@ -35,7 +35,8 @@ use Rattle.ledger.specs.Meaning.{ConsumedAt, NotCreatedAt, RemadeAt}
 use Rattle.ledger.specs.Quota.{asked}
 use Rattle.ledger.specs.Refused.{refusedLedger}
 use Rattle.ledger.specs.State.{acknowledgersOf, arrived, signersOf, vaultAt, versionOf}
-use Rattle.ledger.specs.Worlds.{Event, Request, World, after, afterAll, clientPreflight, commit, dependencies, equivocating, faultyVote, generations, lent, preflight, propose, release, replyTo, show, snapshot, start}
+use Rattle.ledger.specs.Worlds.{Event, Request, World, after, afterAll, clientPreflight, commit, dependencies, equivocating, faultyVote, generations}
+use Rattle.ledger.specs.Worlds.{lent, preflight, propose, release, replyTo, show, snapshot, start}
 use Rattle.ledger.specs.declared.Ledger.{Ledger}
 
 -- ---- rows
@@ -211,8 +212,8 @@ module _ (w : World) (e : Event) where
 
   -- ---- the order; `past` has a client's counted requests at a vault, the newest first
   abbrev pub order : (ℕ → ℕ → List Ask) → Request → CheckRow
-  -- "kind 1: 6 to 9, then a booked equal, then 10". 7: "a used entry's label equals an earlier used entry's". 8: "drive can't read or write it". 9: "frames don't
-  -- balance". Values: "1 the job number", of the first equal, or the next one
+  -- "kind 1: 6 to 9, then a booked equal, then 10". 7: "a used entry's label equals an earlier used entry's". 8: "drive can't read or write it". 9: "frames
+  -- don't balance". Values: "1 the job number", of the first equal, or the next one
   order past (propose bytes) =
       First (MalformedRecord bytes) 6
       (FirstAmong 8 (RepeatedAt (jobOf bytes)) 7
@@ -234,8 +235,8 @@ module _ (w : World) (e : Event) where
   order past (generations k) = First (Unbooked k) 4 (First (Held now k → ⊥) 18 (Gives (GenerationsOf k)))
   -- M-101, kind 9: "with no check but 2"; "The value is the number of different jobs seen in this round."
   order past snapshot = Value (jobCount (afterwards .seen))
-  -- M-105, kind 10: "3, 5 as for preflight, 4 for either job; then 19 if the job isn't signed there; then 20 if the other is no rival or isn't held there"; "The
-  -- value is the job's signature count."
+  -- M-105, kind 10: "3, 5 as for preflight, 4 for either job; then 19 if the job isn't signed there; then 20 if the other is no rival or isn't held there";
+  -- "The value is the job's signature count."
   order past (release v k rival) =
       AtCorrect v k
       (First (Unbooked rival) 4
@@ -243,8 +244,8 @@ module _ (w : World) (e : Event) where
       (First (NoRivalHeld v k rival) 20 (Value (signatures k)))))
   -- M-108, kind 11: "3, 5, 4 as for preflight; then 21 exactly if no set works"; "the usual line with the set's size"
   order past (dependencies v k) = AtCorrect v k (First ((jobs : JobSet) → SetWorks v k jobs → ⊥) 21 (Gives (SmallestSize v k)))
-  -- M-109, kind 12: "3, 5, 4 as for kind 2; then 22 if the desk is above 7; then a job already signed is accepted; then 23 if four of the desk's previous fifteen
-  -- requests there brought a new signature; then 11 to 14"
+  -- M-109, kind 12: "3, 5, 4 as for kind 2; then 22 if the desk is above 7; then a job already signed is accepted; then 23 if four of the desk's previous
+  -- fifteen requests there brought a new signature; then 11 to 14"
   order past (clientPreflight v k client) =
       AtCorrect v k
       (First (7 < client) 22

@@ -82,7 +82,8 @@ module _ (w w′ : World) where
     pub again : hasSigned w v k ≡ true → w′ ≡ w
     pub value : answer ≡ votesOn w′ Signatures k
 
-  -- kind 3, Algorithm 2: "append t to G_r .. durably; return ack". "3 and 5 its acknowledgements". No signed set is among what moves: a mend, "signing is kept".
+  -- kind 3, Algorithm 2: "append t to G_r .. durably; return ack". "3 and 5 its acknowledgements". No signed set is among what moves: a mend, "signing is
+  -- kept".
   pub record ByCommit (v k answer : ℕ) : Type 0 where
     pub holds : Joins (hasHeld w) (hasHeld w′) v k
     pub recorded : Joins (hasVoted w Acknowledgements) (hasVoted w′ Acknowledgements) v k

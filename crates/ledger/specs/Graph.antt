@@ -77,8 +77,8 @@ module _ (job : ℕ → Job) (booked : ℕ) where
     pub unmarked : (x : ℕ) → In x (labels (inputTapes j)) → Consumer others x → ⊥
     pub unmade : (x : ℕ) → In x (labels (outputTapes j)) → Maker held x ⊎ Maker others x → ⊥
 
--- "a single short signature that verifies iff |S| ≥ τ", "τ = q = n − b". Mend: "a signature is a fact kept by the engine", so what is carried is the set S itself,
--- and each of it must have signed. Checks 15 and 16.
+-- "a single short signature that verifies iff |S| ≥ τ", "τ = q = n − b". Mend: "a signature is a fact kept by the engine", so what is carried is the set S
+-- itself, and each of it must have signed. Checks 15 and 16.
 pub record Certificate (s : Settings) (recorded signers : ℕ) : Type 0 where
   pub signed : (v : ℕ) → hasBit signers v ≡ true → hasBit recorded v ≡ true
   pub enough : thresholdOf s ≤ ones signers

@@ -1,5 +1,6 @@
 -- What the contracts of the operations cite is what a list of steps runs. An operation's promise is an equation with one of the definitions below; so what
--- demands 1 to 3 say of lists of steps they say of the operations, called one after another, each with the ledger and the booked bytes that the one before left.
+-- demands 1 to 3 say of lists of steps they say of the operations, called one after another, each with the ledger and the booked bytes that the one before
+-- left.
 use mathlib.Core.List.{List, []}
 use mathlib.Core.Path.{_≡_}
 use Prim.Native.Nat.{_≤_, ℕ}

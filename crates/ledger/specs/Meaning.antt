@@ -8,7 +8,8 @@ use lib.ListN.{length}
 use Rattle.base.specs.Search.{Every, Least}
 use Rattle.outcome.specs.declared.Outcome.the-variants.{Done}
 use Rattle.outcome.specs.declared.Refusal.{Refusal}
-use Rattle.outcome.specs.declared.Refusal.the-variants.{Full, InputReserved, NotBooked, NotCreated, NotSignedHere, NotSuperseded, OutputReserved, Retired, Settings as BadSettings}
+use Rattle.outcome.specs.declared.Refusal.the-variants.{Full, InputReserved, NotBooked, NotCreated, NotSignedHere, NotSuperseded, OutputReserved, Retired}
+use Rattle.outcome.specs.declared.Refusal.the-variants.{Settings as BadSettings}
 use Rattle.outcome.specs.declared.Verdict.{Verdict}
 use Rattle.outcome.specs.declared.Verdict.the-variants.{Fail, Pass}
 use Rattle.checks.specs.Checks.{examined}

@@ -1,6 +1,6 @@
 -- A round of the snapshot (document 02, "Stock-take while jobs go on"): each vault is visited once, and other steps may come between. "At the end of a round
--- the jobs seen include all that sound vaults held when it began, and none that no sound vault holds when it ends." And of every visit: "The value is the number
--- of different jobs seen in this round."
+-- the jobs seen include all that sound vaults held when it began, and none that no sound vault holds when it ends." And of every visit: "The value is the
+-- number of different jobs seen in this round."
 use mathlib.Core.Bool.{Bool, cond, false, true}
 use mathlib.Core.List.{List, [], _++_, _∷_}
 use mathlib.Core.Logic.{_↔_}

@@ -35,14 +35,16 @@ use Rattle.text.proofs.Members.{nothing-listed}
 use Rattle.text.specs.Text.{lineFor, lineOf}
 use Rattle.runfile.proofs.History.{run-keeps}
 use Rattle.runfile.proofs.Turns.{opened-run}
-use Rattle.runfile.specs.Demand1.{KindRow, NextStep, NoKindFits, OfDraw, PrintedLine, Readable, Reads, RecordBytes, Refusal1, Refusal2, RunInOrder, StandsAt, kinds, rowFor, version-1, version-2, zeroOneZero}
+use Rattle.runfile.specs.Demand1.{KindRow, NextStep, NoKindFits, OfDraw, PrintedLine, Readable, Reads, RecordBytes, Refusal1, Refusal2, RunInOrder}
+use Rattle.runfile.specs.Demand1.{StandsAt, kinds, rowFor, version-1, version-2, zeroOneZero}
 use Rattle.runfile.specs.History.{Item, begun, drawn, event, events, itemOf, itemsNext, steps, told, unread}
 use Rattle.runfile.specs.Run.{Run, begins, commandOf, ended, headerSize, isHeader, longest, opened, opens, opensUpTo, runNext, textFrom, textNext}
 use Rattle.runfile.specs.Run.{textOf, textUpTo, turn}
 use Rattle.runfile.specs.Steps.{Command, bodySize, commandIn, draw, endOf, kindAt, kindOf, nextAt, replyOf, request, stepAt, unreadable, wordAt}
 use Rattle.vaults.specs.declared.Column.the-variants.{Acknowledgements, Signatures}
 use Rattle.runfile.specs.declared.Kind.{Kind}
-use Rattle.runfile.specs.declared.Kind.the-variants.{ClientPreflight, Commit, Dependencies, Draw, Equivocating, FaultyAcknowledge, FaultySign, Generations, Preflight, Propose, Release, Show, Snapshot, Unknown}
+use Rattle.runfile.specs.declared.Kind.the-variants.{ClientPreflight, Commit, Dependencies, Draw, Equivocating, FaultyAcknowledge, FaultySign}
+use Rattle.runfile.specs.declared.Kind.the-variants.{Generations, Preflight, Propose, Release, Show, Snapshot, Unknown}
 
 -- ---- refusal 1
 spelled : (input : List ℕ) → 9 ≤ length input → getD input 0 0 ≡ 86 → getD input 1 0 ≡ 76 → getD input 2 0 ≡ 84 → take 3 input ≡ 86 ∷ 76 ∷ 84 ∷ []
@@ -83,7 +85,8 @@ first-byte zero input e = absurd (omega (arith, ap length e))
 first-byte (suc n) input e = by (ended input (begins input)) e
   where
     by : (b : Bool)
-        → cond b [] (textOf (0 + 1) (opened input) (begins input .journal) (commandOf input (begins input)) ++ textNext n input (turn input (begins input))) ≡ zeroOneZero
+        → cond b [] (textOf (0 + 1) (opened input) (begins input .journal) (commandOf input (begins input)) ++ textNext n input
+        (turn input (begins input))) ≡ zeroOneZero
         → ⊥
     by true q = absurd (omega (arith, ap length q))
     by false q = absurd (omega (arith, ap (λ (t : List ℕ). getD t 0 0) q))
@@ -157,8 +160,19 @@ module _ (version recordBytes : ℕ) (sized : recordSize version ≡ recordBytes
   row-of Snapshot = inl (record { kind = _; listed = inr (inr (inr (inr (inr (inr (inr (inr (inl refl)))))))); byte = refl; size = refl })
   row-of Release = inl (record { kind = _; listed = inr (inr (inr (inr (inr (inr (inr (inr (inr (inl refl))))))))); byte = refl; size = refl })
   row-of Dependencies = inl (record { kind = _; listed = inr (inr (inr (inr (inr (inr (inr (inr (inr (inr (inl refl)))))))))); byte = refl; size = refl })
-  row-of ClientPreflight = inl (record { kind = _; listed = inr (inr (inr (inr (inr (inr (inr (inr (inr (inr (inr (inl refl))))))))))); byte = refl; size = refl })
-  row-of Equivocating = inl (record { kind = _; listed = inr (inr (inr (inr (inr (inr (inr (inr (inr (inr (inr (inr (inl refl)))))))))))); byte = refl; size = refl })
+  row-of ClientPreflight = inl (record {
+    kind = _;
+    listed = inr (inr (inr (inr (inr (inr (inr (inr (inr (inr (inr (inl refl)))))))))));
+    byte = refl;
+    size =
+        refl;
+  })
+  row-of Equivocating = inl (record {
+    kind = _;
+    listed = inr (inr (inr (inr (inr (inr (inr (inr (inr (inr (inr (inr (inl refl))))))))))));
+    byte = refl;
+    size = refl;
+  })
   row-of Unknown = inr refl
 
   module _ (input : List ℕ) (pos : ℕ) where
@@ -216,14 +230,17 @@ module _ (version recordBytes : ℕ) (sized : recordSize version ≡ recordBytes
     read kind (inl e) s =
         read-as Propose _ kind refl sized (ap (λ (n : ℕ). request (propose (take n (drop (pos + 1) input)))) sized) (omega (arith, sized)) e s
     read kind (inr (inl e)) s =
-        read-as Preflight _ kind refl refl (ap₂ (λ (v k : ℕ). request (preflight v k)) (first 2 (omega arith)) (byte 2 1 (omega arith))) (omega (arith, sized)) e s
+        read-as Preflight _ kind refl refl (ap₂ (λ (v k : ℕ). request (preflight v k)) (first 2 (omega arith)) (byte 2 1 (omega arith)))
+        (omega (arith, sized)) e s
     read kind (inr (inr (inl e))) s =
         read-as Commit _ kind refl refl (ap₂ (λ (v k : ℕ). request (commit v k (wordAt input (pos + 1 + 2)))) (first 4 (omega arith)) (byte 4 1 (omega arith))
         ∙ ap (λ (m : ℕ). request (commit (getD (body 4) 0 0) (getD (body 4) 1 0) m)) (word 4 2 (omega arith))) (omega (arith, sized)) e s
     read kind (inr (inr (inr (inl e)))) s =
-        read-as FaultySign _ kind refl refl (ap₂ (λ (v k : ℕ). request (faultyVote Signatures v k)) (first 2 (omega arith)) (byte 2 1 (omega arith))) (omega (arith, sized)) e s
+        read-as FaultySign _ kind refl refl (ap₂ (λ (v k : ℕ). request (faultyVote Signatures v k)) (first 2 (omega arith)) (byte 2 1 (omega arith)))
+        (omega (arith, sized)) e s
     read kind (inr (inr (inr (inr (inl e))))) s =
-        read-as FaultyAcknowledge _ kind refl refl (ap₂ (λ (v k : ℕ). request (faultyVote Acknowledgements v k)) (first 2 (omega arith)) (byte 2 1 (omega arith))) (omega (arith, sized)) e s
+        read-as FaultyAcknowledge _ kind refl refl
+        (ap₂ (λ (v k : ℕ). request (faultyVote Acknowledgements v k)) (first 2 (omega arith)) (byte 2 1 (omega arith))) (omega (arith, sized)) e s
     read kind (inr (inr (inr (inr (inr (inl e)))))) s =
         read-as Show _ kind refl refl (ap (λ (k : ℕ). request (show k)) (first 1 (omega arith))) (omega (arith, sized)) e s
     read kind (inr (inr (inr (inr (inr (inr (inl e))))))) s =
@@ -236,9 +253,11 @@ module _ (version recordBytes : ℕ) (sized : recordSize version ≡ recordBytes
         read-as Release _ kind refl refl (ap₂ (λ (v k : ℕ). request (release v k (getD input (pos + 1 + 2) 0))) (first 3 (omega arith)) (byte 3 1 (omega arith))
         ∙ ap (λ (m : ℕ). request (release (getD (body 3) 0 0) (getD (body 3) 1 0) m)) (byte 3 2 (omega arith))) (omega (arith, sized)) e s
     read kind (inr (inr (inr (inr (inr (inr (inr (inr (inr (inr (inl e))))))))))) s =
-        read-as Dependencies _ kind refl refl (ap₂ (λ (v k : ℕ). request (dependencies v k)) (first 2 (omega arith)) (byte 2 1 (omega arith))) (omega (arith, sized)) e s
+        read-as Dependencies _ kind refl refl (ap₂ (λ (v k : ℕ). request (dependencies v k)) (first 2 (omega arith)) (byte 2 1 (omega arith)))
+        (omega (arith, sized)) e s
     read kind (inr (inr (inr (inr (inr (inr (inr (inr (inr (inr (inr (inl e)))))))))))) s =
-        read-as ClientPreflight _ kind refl refl (ap₂ (λ (v k : ℕ). request (clientPreflight v k (getD input (pos + 1 + 2) 0))) (first 3 (omega arith)) (byte 3 1 (omega arith))
+        read-as ClientPreflight _ kind refl refl (ap₂ (λ (v k : ℕ). request (clientPreflight v k (getD input (pos + 1 + 2) 0))) (first 3 (omega arith))
+        (byte 3 1 (omega arith))
         ∙ ap (λ (m : ℕ). request (clientPreflight (getD (body 3) 0 0) (getD (body 3) 1 0) m)) (byte 3 2 (omega arith))) (omega (arith, sized)) e s
     read kind (inr (inr (inr (inr (inr (inr (inr (inr (inr (inr (inr (inr (inl e))))))))))))) s =
         read-as Equivocating _ kind refl refl (refl) (omega (arith, sized)) e s
@@ -293,7 +312,8 @@ on (suc m) input r h = by (ended input r) refl (on m input (turn input r)) h
     by true e f h = absurd (omega (arith, h, leb-true (length input) (r .pos) e))
     by false e f h =
         let o = f h in
-        let n = reads-on (versionOf (r .ledger)) (kindAt (versionOf (r .ledger)) input (r .pos)) (r .pos) (length input) (leb-false (length input) (r .pos) e) in
+        let n = reads-on (versionOf (r .ledger)) (kindAt (versionOf (r .ledger)) input (r .pos)) (r .pos) (length input)
+        (leb-false (length input) (r .pos) e) in
         record {
           count = omega (arith, o .count);
           far = omega (arith, o .far, n);
@@ -353,7 +373,8 @@ refusal-2 input readable recordBytes sized m h n =
     ap (λ (v : ℕ). kindAt v input (r .pos)) version ∙ cut-kind (wordAt input 3) recordBytes (record-bytes sized) input (r .pos) n in
     let fuel : length input - 0 ≡ m + suc (length input - (m + 1)) = omega (arith, o .far, h) in
     opened-run input (readable? input .complete readable) ∙ from-start input fuel ∙ more-text m (suc (length input - (m + 1))) input (begins input)
-    ∙ ap (λ (t : List ℕ). textNext m input (begins input) ++ t) (last-line (length input - (m + 1)) input r h k ∙ ap (λ (c : ℕ). lineOf (c + 1) 2 0) (o .count ∙ none))
+    ∙ ap (λ (t : List ℕ). textNext m input (begins input) ++ t)
+    (last-line (length input - (m + 1)) input r h k ∙ ap (λ (c : ℕ). lineOf (c + 1) 2 0) (o .count ∙ none))
   where
     none : 0 + m ≡ m
     none = omega arith

@@ -12,7 +12,8 @@ use Rattle.federation.specs.declared.Settings.{Settings}
 use Rattle.ledger.specs.Demand1.{Gives, First, CheckRow, order}
 use Rattle.ledger.specs.Quota.{asked}
 use Rattle.ledger.specs.State.{versionOf}
-use Rattle.ledger.specs.Worlds.{Event, World, afterAll, clientPreflight, commit, dependencies, equivocating, faultyVote, generations, preflight, propose, release}
+use Rattle.ledger.specs.Worlds.{Event, World, afterAll, clientPreflight, commit, dependencies, equivocating, faultyVote, generations, preflight, propose}
+use Rattle.ledger.specs.Worlds.{release}
 use Rattle.ledger.specs.Worlds.{show, snapshot}
 use Rattle.text.specs.Text.{lineOf}
 use Rattle.vaults.specs.declared.Column.the-variants.{Acknowledgements, Signatures}
@@ -142,4 +143,5 @@ pub record RunInOrder : Type 0 where
   pub next-step : (input : List ℕ) (m : ℕ) → runNext m input (begins input) .pos < length input → NextStep input m
   pub refusal-2 : (input : List ℕ) → Readable input → (recordBytes : ℕ) → RecordBytes (wordAt input 3) recordBytes → (m : ℕ)
       → let r : Run = runNext m input (begins input) in r .pos < length input → NoKindFits recordBytes input (r .pos) → Refusal2 input m
-  pub lines : (input : List ℕ) → Readable input → (before later : List Item) (item : Item) → steps input ≡ before ++ (item ∷ later) → PrintedLine input before item
+  pub lines : (input : List ℕ) → Readable input → (before later : List Item) (item : Item) → steps input ≡ before ++ (item ∷ later)
+      → PrintedLine input before item

@@ -32,7 +32,8 @@ returns-2 c =
     let loop = turn .before in
     let m = loop .loop .inv .0 in
     line-wrong m (turn .loop-test .taken) (skip .before .if1 .left) (skip .skip-blanks .result) _ (skip .skip-blanks .ensures .0)
-    (over .is-over .ensures) (read .before .before .before .before .before .if2 .left) _ (read .before .front .ensures .0) _ _ _ (read .line-read .ensures) _ (judge .judge .ensures) _ (c .before .if3 .taken) (c .verdict .ensures)
+    (over .is-over .ensures) (read .before .before .before .before .before .if2 .left) _ (read .before .front .ensures .0) _ _ _
+    (read .line-read .ensures) _ (judge .judge .ensures) _ (c .before .if3 .taken) (c .verdict .ensures)
 
 put-requires : tie.Need-put-requires Inv-loop μ-loop
 put-requires c κs =
@@ -44,11 +45,13 @@ put-requires c κs =
     let loop = turn .before in
     let m = loop .loop .inv .0 in
     line-room m (turn .loop-test .taken) (skip .before .if1 .left) (skip .skip-blanks .result) _ (skip .skip-blanks .ensures .0)
-    (over .is-over .ensures) (read .before .before .before .before .before .if2 .left) _ (read .before .front .ensures .0) _ _ _ (read .line-read .ensures) _ (judge .judge .ensures) (c .before .before .before .if3 .left) _ (c .front2 .ensures .0)
+    (over .is-over .ensures) (read .before .before .before .before .before .if2 .left) _ (read .before .front .ensures .0) _ _ _
+    (read .line-read .ensures) _ (judge .judge .ensures) (c .before .before .before .if3 .left) _ (c .front2 .ensures .0)
 
 add-line-2 : tie.Need-add-line-2 Inv-loop μ-loop
 add-line-2 c =
-    let turn = c .before .before .before .before .before .before .before .before .before .before .before .before .before .before .before .before .before .before .before .before .before .before in
+    let half = c .before .before .before .before .before .before .before .before .before .before .before in
+    let turn = half .before .before .before .before .before .before .before .before .before .before .before in
     let loop = turn .before in
     let few : loop .loop .line ≤ length (loop .before .before .before .before .before .args .text .now) =
     omega (arith, loop .loop .inv .0 .lines, turn .loop-test .taken) in
@@ -65,7 +68,9 @@ loop-again-2 c =
     let loop = turn .before in
     let m = loop .loop .inv .0 in (
       line-turn m (turn .loop-test .taken) (skip .before .if1 .left) (skip .skip-blanks .result) _ (skip .skip-blanks .ensures .0)
-          (over .is-over .ensures) (read .before .before .before .before .before .if2 .left) _ (read .before .front .ensures .0) _ _ _ (read .line-read .ensures) _ (judge .judge .ensures) (c .before .before .before .before .before .before .before .if3 .left) _ (put .before .front2 .ensures .0) _ _ _ (put .put .ensures .0) (c .after-line2 .ensures .0) (c .after-line2 .ensures .1),
+          (over .is-over .ensures) (read .before .before .before .before .before .if2 .left) _ (read .before .front .ensures .0) _ _ _
+          (read .line-read .ensures) _ (judge .judge .ensures) (c .before .before .before .before .before .before .before .if3 .left) _
+          (put .before .front2 .ensures .0) _ _ _ (put .put .ensures .0) (c .after-line2 .ensures .0) (c .after-line2 .ensures .1),
       read .line-read .kept .1 .1 .0 ∙ loop .loop .inv .1,
       read .line-read .kept .1 .1 .1 .0 ∙ loop .loop .inv .2,
       put .put .kept .0 ∙ loop .loop .inv .3,

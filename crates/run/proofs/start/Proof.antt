@@ -32,7 +32,8 @@ use Rattle.progress.specs.Pieces.{blank, runAt, turnedBack}
 new-ledger : (n b faulty version : ℕ) → newOf n b faulty version .ledger ≡ newLedger n b faulty version
 unfolding newOf
 new-ledger n b faulty version =
-    by-cases (λ t. newOf n b faulty version .ledger ≡ newLedger n b faulty version) (isLawful (newLedger n b faulty version .settings)) (λ t. simp t) (λ t. simp t)
+    by-cases (λ t. newOf n b faulty version .ledger ≡ newLedger n b faulty version) (isLawful (newLedger n b faulty version .settings)) (λ t. simp t)
+    (λ t. simp t)
 
 -- which are the header's
 began : (input : List ℕ) (s : Settings) → s ≡ opened input .settings → (r : Reply) → r ≡ newOf (s .n) (s .b) (s .faulty) (s .version) → r .ledger ≡ opened input
