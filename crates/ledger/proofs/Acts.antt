@@ -150,8 +150,8 @@ module _ (l : Ledger) (journal : List ℕ) where
       let age = ageIn (jobAt (versionOf l) journal (l .booked)) (l .order) (l .arrivals) k in
       behind (generations k) (bookedGate l journal k) _ e
       (λ g. by-cases (λ b. isDone (cond b (answering age) (refusing NotHeld) .outcome) ≡ true → Act l journal (generations k)
-      (cond b (answering age) (refusing NotHeld))) (isHeld (l .settings) (l .vaults) k) (λ c d. ages k (booked-entered l journal k g .1))
-      (λ c d. absurd (true≢false (sym d))))
+      (cond b (answering age) (refusing NotHeld))) (isHeld (l .settings) (l .vaults) k)
+      (λ c d. ages k (booked-entered l journal k g .1)) (λ c d. absurd (true≢false (sym d))))
 
   reads : (q : Request) (o : Outcome) → isDone o ≡ true → ((value : ℕ) → Act l journal q (answering value))
       → Act l journal q (record { outcome = o; change = Nothing })
