@@ -1,4 +1,6 @@
 // Operations: document 02's steps at a vault, kinds 10 and 12. Each takes any arguments and any journal, as those of `voting` do, and promises the same.
+#![tactic(auto)]
+
 mod indexed;
 
 ghost use Rattle.std.specs.Prelude.{◌≡◌};

@@ -1,4 +1,6 @@
 // The answer to a step in words.
+#![tactic(auto)]
+
 mod reasons;
 mod values;
 

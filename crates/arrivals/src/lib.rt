@@ -1,4 +1,6 @@
 // The order in which jobs arrive: in which they were first held by a correct vault.
+#![tactic(auto)]
+
 ghost use Rattle.std.specs.Prelude.{◌≡◌, ◌<◌, ◌≤◌, length};
 ghost use Rattle.generations.specs.Generations.{is_at};
 ghost use Rattle.ledger.specs.State.{arriving, has_arrived};

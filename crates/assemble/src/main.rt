@@ -1,4 +1,6 @@
 // Reads the text of a run file from standard input and writes the file; or, where a line is wrong, its number and why, and no file.
+#![tactic(auto)]
+
 use libc::{STDIN_FILENO, STDOUT_FILENO};
 
 fn print(words: &[u8]) {

@@ -1,4 +1,6 @@
 // A whole text made into a run file.
+#![tactic(auto)]
+
 mod places;
 
 ghost use Rattle.std.specs.Prelude.{◌≡◌, ◌<◌, ◌≤◌, drop, length};
@@ -27,7 +29,7 @@ pub fn text_buffer() -> [u8; TEXT]
 }
 
 // What has been made of a text: why it is wrong, if it is, and in which line, and how many bytes the file has.
-#[derive(Drop)]
+#[derive(Clone, Copy)]
 pub struct Made {
     pub reason: u8,
     pub line: u64,

@@ -1,4 +1,6 @@
 // Check 9: whether a migration's frames balance.
+#![tactic(auto)]
+
 ghost use Rattle.std.specs.Prelude.{◌≡◌, ◌≤◌, ◌<◌, ◌^◌};
 ghost use Rattle.base.specs.Search.{sum_from};
 ghost use Rattle.record.specs.Entries.{used_frames};

@@ -1,4 +1,6 @@
 // A ledger is opened here; whether a run can have led to one, and whether the journal holds its records.
+#![tactic(auto)]
+
 ghost use Rattle.std.specs.Prelude.{◌≡◌};
 ghost use Rattle.ledger.specs.State.{is_sane, new_ledger};
 ghost use Rattle.ledger.specs.Steps.{new_of, whole_gate};

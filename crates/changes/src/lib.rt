@@ -1,4 +1,6 @@
 // What a step changes, and the one place where a ledger changes.
+#![tactic(auto)]
+
 ghost use Rattle.std.specs.Prelude.{◌≡◌};
 ghost use Rattle.ledger.specs.Decisions.{is_book, is_nothing};
 ghost use Rattle.ledger.specs.Given.{Placed};

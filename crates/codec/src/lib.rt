@@ -1,4 +1,6 @@
 // The parts of a record: sizes, numbers and entries, and the definitions of the whole, which the crate `records` reads and writes.
+#![tactic(auto)]
+
 ghost use Rattle.std.specs.Prelude.{◌≡◌, ◌+◌, ◌*◌, ◌≤◌, ◌<◌, ◌^◌, length, get_or};
 ghost use Rattle.std.proofs.lemmas.List.Edits.{sets};
 ghost use Rattle.codec.specs.Codec.{le_at, le_bytes, entry_at, entry_bytes, job_of};

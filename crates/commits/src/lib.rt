@@ -1,4 +1,6 @@
 // Kind 3: a vault commits to a job that a certificate vouches for.
+#![tactic(auto)]
+
 ghost use Rattle.std.specs.Prelude.{◌≡◌};
 ghost use Rattle.ledger.specs.Decisions.{certificate, committing, gated, receiving};
 

@@ -1,4 +1,6 @@
 // When two jobs conflict.
+#![tactic(auto)]
+
 ghost use Rattle.std.specs.Prelude.{◌≡◌, ◌+◌, ◌≤◌};
 ghost use Rattle.base.specs.Search.{any_below};
 ghost use Rattle.conflicts.specs.Conflicts.{is_label_at, shares_at, conflicting};

@@ -1,11 +1,13 @@
 // Two clients (document 02's desks) whose conflicting jobs want one tape: who can force a win, and whether both could get t signatures.
+#![tactic(auto)]
+
 ghost use Rattle.std.specs.Prelude.{◌≡◌, true};
 ghost use Rattle.contest.specs.Contest.{is_lawful, prospect_of, both_of, forecast_of};
 
 use outcome::Refusal;
 
 // Who can force a win. Neither: each can stop the other. Second does not arise (`never_second`).
-#[derive(Drop)]
+#[derive(Clone, Copy)]
 pub enum Prospect {
     First,
     Second,
@@ -13,13 +15,13 @@ pub enum Prospect {
 }
 
 // `both`: whether both jobs could reach t if play went on after a win.
-#[derive(Drop)]
+#[derive(Clone, Copy)]
 pub struct Outlook {
     pub prospect: Prospect,
     pub both: bool,
 }
 
-#[derive(Drop)]
+#[derive(Clone, Copy)]
 pub enum Answer {
     Known(Outlook),
     Refused(Refusal),

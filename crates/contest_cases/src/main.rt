@@ -1,5 +1,7 @@
 // Prints a line for each contest of up to 16 vaults, and for those that are one past an edge: n, f and t, then who can force a win and whether both
 // jobs could reach t, or the refusal's number. Document 02 (M-111) decides what they must be; `stdout` holds them, and `reference` plays them out.
+#![tactic(auto)]
+
 use contest::{Answer, Outlook, Prospect};
 use libc::STDOUT_FILENO;
 

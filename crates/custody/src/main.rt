@@ -1,4 +1,6 @@
 // Reads a run file from standard input and prints its text, a piece at a time. What is read and what is printed is the library's choice.
+#![tactic(auto)]
+
 use libc::{STDIN_FILENO, STDOUT_FILENO};
 
 // Whether it was written; where it was not, nothing more is.

@@ -1,4 +1,6 @@
 // What a step decides that looks at one vault, by its kind.
+#![tactic(auto)]
+
 ghost use Rattle.std.specs.Prelude.{◌≡◌};
 ghost use Rattle.index.specs.Index.{Indexed};
 ghost use Rattle.runfile.specs.Steps.{command_in};

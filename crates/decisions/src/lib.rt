@@ -1,5 +1,7 @@
 // What a step decides, from the pieces that it names: the verdict of the checks before, a vault, the votes on a job. The ledger's
 // operations and the run share these functions, and those of the crates above for the kinds that need more.
+#![tactic(auto)]
+
 mod listings;
 
 ghost use Rattle.std.specs.Prelude.{◌≡◌};

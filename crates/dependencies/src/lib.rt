@@ -1,5 +1,7 @@
 // Kinds 8 and 11, which ask what correct vaults hold: the generations of a job that one holds, and the jobs that a vault must hold before it can
 // sign. The index is the journal's, as for a preflight.
+#![tactic(auto)]
+
 mod missing;
 
 ghost use Rattle.std.specs.Prelude.{◌&&◌, not, ◌≡◌, ◌≤◌};

@@ -1,4 +1,6 @@
 // Numbers in decimal, written where there is room for as many digits as they may have.
+#![tactic(auto)]
+
 ghost use Rattle.std.specs.Prelude.{◌∷◌, [], ◌+◌, ◌<◌, ◌≤◌, length};
 ghost use Rattle.digits.specs.Digits.{Put, decimal, two_digits};
 

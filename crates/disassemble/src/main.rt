@@ -1,4 +1,6 @@
 // Reads a run file from standard input and writes it as text, of which `assemble` makes the same file. What is printed is the library's choice.
+#![tactic(auto)]
+
 use libc::{STDIN_FILENO, STDOUT_FILENO};
 
 fn text_buffer() -> [u8; disassembly::TEXT] {

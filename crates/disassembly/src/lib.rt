@@ -1,4 +1,6 @@
 // A run file written as a text.
+#![tactic(auto)]
+
 ghost use Rattle.std.specs.Prelude.{true, ◌++◌, [], ◌∷◌, ◌≡◌, ◌*◌, ◌+◌, ◌-◌, ◌≤◌, drop, length, take};
 ghost use Rattle.disassembly.specs.Printed.{printed, text_room};
 ghost use Rattle.notation.specs.Files.{header_line, lines_from, longest_text, per_byte, sayable, whole_from};

@@ -1,4 +1,6 @@
 // The draw: how likely a random quorum fails where some vaults can't sign.
+#![tactic(auto)]
+
 mod triangle;
 
 ghost use Rattle.std.specs.Prelude.{◌≡◌, ◌<◌, ◌≤◌};

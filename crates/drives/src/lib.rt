@@ -1,4 +1,6 @@
 // The house table: which media a drive reads and writes.
+#![tactic(auto)]
+
 ghost use Rattle.std.specs.Prelude.{◌≡◌};
 ghost use Rattle.drives.specs.Drives.{supports, is_drive};
 

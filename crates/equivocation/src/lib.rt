@@ -1,5 +1,7 @@
 // Kind 13: the vaults that equivocate, document 02's two-faced ones. No pair of jobs is looked at: rivals, certified jobs and partners are sets. The index is
 // the journal's.
+#![tactic(auto)]
+
 ghost use Rattle.std.specs.Prelude.{◌≡◌, ◌≤◌, cond, leb};
 ghost use Rattle.std.specs.Int.Bits.{bit_or};
 ghost use Rattle.index.specs.Index.{IndexedEntries};
@@ -22,7 +24,7 @@ use job_sets::JobSet;
 use vaults::Votes;
 
 // The jobs that have no certified rival, and those that have at most one.
-#[derive(Drop)]
+#[derive(Clone, Copy)]
 struct Few {
     none: JobSet,
     one: JobSet,

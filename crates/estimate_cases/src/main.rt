@@ -1,5 +1,7 @@
 // Tightens a table of estimates and then every small one of two shapes, and prints a line for each: the two figures of the answer, then the ranges
 // of the eight entries. Document 02 (M-110) decides what they must be; `stdout` holds them, and `reference` finds them by trying all choices.
+#![tactic(auto)]
+
 mod cases;
 
 use libc::STDOUT_FILENO;

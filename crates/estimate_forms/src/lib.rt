@@ -1,4 +1,6 @@
 // The form of an estimate: checks 6 to 8 of the job that has the lowest counts as its frames. Check 9 is not asked of it: 25 stands in its place.
+#![tactic(auto)]
+
 ghost use Rattle.std.specs.Prelude.{◌≡◌, ◌<◌};
 ghost use Rattle.base.specs.Search.{all_below};
 ghost use Rattle.ranges.specs.Form.{lowest_job, is_bounded, without_balance, form_of};

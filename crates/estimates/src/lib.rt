@@ -1,4 +1,6 @@
 // An estimate is checked and tightened (document 02, M-110): whether some choice of counts balances, and each entry's tightest range.
+#![tactic(auto)]
+
 ghost use Rattle.std.specs.Prelude.{◌≡◌};
 ghost use Rattle.ranges.specs.Tighten.{first_failing, checks_of, tighten_of};
 

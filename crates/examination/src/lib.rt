@@ -1,4 +1,6 @@
 // Checks 7 and 8, and checks 6 to 9 in the order of document 01's table.
+#![tactic(auto)]
+
 ghost use Rattle.std.specs.Prelude.{◌≡◌};
 ghost use Rattle.base.specs.Search.{any_below, first_below};
 ghost use Rattle.checks.specs.Checks.{has_label_of, repeated_at, is_written, unsupported_at, check_of, examined};

@@ -1,5 +1,7 @@
 // Reads a run file from standard input and explains it: each step with its answer in words, then the state of each job. What is said is the
 // library's choice.
+#![tactic(auto)]
+
 ghost use Rattle.std.specs.Prelude.{◌≤◌, length};
 ghost use Rattle.telling.specs.Room.{step_room};
 

@@ -1,4 +1,6 @@
 // A run explained in pieces, a step at a time.
+#![tactic(auto)]
+
 ghost use Rattle.std.specs.Prelude.{◌≡◌, ◌<◌, ◌≤◌, length};
 ghost use Rattle.explaining.specs.Told.{Told, at_front, said_by};
 ghost use Rattle.progress.specs.Pieces.{Going};

@@ -1,4 +1,6 @@
 // The run and its release list for programs in C or Rust to link: what the comparisons with the Rust reference call in process.
+#![tactic(auto)]
+
 ghost use Rattle.std.specs.Prelude.{◌*◌, ◌+◌, ◌≤◌, length};
 ghost use Rattle.exported.specs.Fits.{Fits, Roomy, Written, most_bytes};
 ghost use Rattle.release_file.specs.Releases.{releases_text};

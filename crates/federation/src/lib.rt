@@ -1,9 +1,11 @@
 // The settings of a federation: which are lawful, and how many votes are a quorum.
+#![tactic(auto)]
+
 ghost use Rattle.std.specs.Prelude.{◌≡◌};
 ghost use Rattle.federation.specs.Federation.{latest, is_known, is_federation, is_lawful, threshold_of};
 
 // n vaults, at most b of them faulty, and which are; and the version of the records (M-102).
-#[derive(Drop)]
+#[derive(Clone, Copy)]
 pub struct Settings {
     pub n: u8,
     pub b: u8,

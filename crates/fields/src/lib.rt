@@ -1,4 +1,6 @@
 // Bytes and words of a file, and the record that stands in it.
+#![tactic(auto)]
+
 ghost use Rattle.std.specs.Prelude.{◌≡◌, ◌+◌, ◌<◌, ◌≤◌, drop, get_or, length, take};
 ghost use Rattle.codec.specs.Codec.{record_size};
 ghost use Rattle.runfile.specs.Run.{longest};

@@ -1,4 +1,6 @@
 // Check 6: whether a record is well formed.
+#![tactic(auto)]
+
 ghost use Rattle.std.specs.Prelude.{◌&&◌, ◌≡◌};
 ghost use Rattle.base.specs.Search.{all_below};
 ghost use Rattle.checks.specs.Checks.{inputs_formed, counts_formed, is_filled, is_blank, entry_formed, trimmed_formed, well_formed};

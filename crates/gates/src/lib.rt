@@ -1,4 +1,6 @@
 // What the operations share: the checks before a step, and the two ways of a step, carried out or turned back. Parts of the operations, which ask nothing.
+#![tactic(auto)]
+
 ghost use Rattle.std.specs.Prelude.{◌≡◌};
 ghost use Rattle.ledger.specs.Given.{Placed, Writable};
 ghost use Rattle.ledger.specs.Steps.{booked_gate, carried, journal_with, turned, vault_gate};

@@ -1,4 +1,6 @@
 // How many migrations lie between a job and the accessions that its tapes come from.
+#![tactic(auto)]
+
 ghost use Rattle.std.specs.Prelude.{◌≡◌, ◌+◌, ◌<◌, ◌≤◌, max, get_or, length};
 ghost use Rattle.base.specs.Search.{first_below};
 ghost use Rattle.codec.specs.Codec.{place_of, record_size};

@@ -1,5 +1,7 @@
 // The generator of test loads (docs/LOADS.md): the state advances by a multiplication and an addition modulo 2 to the 64th, and the upper 32
 // bits of the new state are drawn.
+#![tactic(auto)]
+
 ghost use Rattle.std.specs.Prelude.{◌≡◌, ◌*◌, ◌%◌, ◌^◌};
 ghost use Rattle.generator.specs.Generator.{drawn, next};
 

@@ -1,5 +1,7 @@
 // The loop of the run: step by step, its ledger beside it, so that a step that changes nothing leaves the ledger where it is. `run::advance` and `run::turn`
 // are this loop.
+#![tactic(auto)]
+
 ghost use Rattle.std.specs.Prelude.{◌≤◌};
 ghost use Rattle.progress.specs.Coming.{CarriedOn, standing};
 ghost use Rattle.progress.specs.Pieces.{Going};

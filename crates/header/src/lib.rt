@@ -1,4 +1,6 @@
 // The header of a run file, and check 1.
+#![tactic(auto)]
+
 ghost use Rattle.std.specs.Prelude.{◌≡◌, ◌+◌, length};
 ghost use Rattle.runfile.specs.Run.{is_header, longest, opened, opens};
 

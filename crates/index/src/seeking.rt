@@ -45,7 +45,7 @@ fn entry_at(version: u16, journal: &[u8], at: usize) -> Entry
 }
 
 // The numbers of a place: of its label, and of its tape.
-#[derive(Drop)]
+#[derive(Clone, Copy)]
 pub struct Pair {
     pub label: usize,
     pub tape: usize,

@@ -1,4 +1,6 @@
 // A booked job is entered in the index, entry by entry; the index of a journal is made at once.
+#![tactic(auto)]
+
 ghost use Rattle.std.specs.Prelude.{◌≡◌, ◌*◌, ◌+◌, ◌<◌, ◌≤◌, length};
 ghost use Rattle.codec.specs.Codec.{place_of};
 ghost use Rattle.journal.specs.Journal.{capacity};

@@ -1,4 +1,6 @@
 // Operations that change nothing: a record shown, kinds 6, 8, 11 and 13. Each takes any arguments and any journal, and promises its whole answer.
+#![tactic(auto)]
+
 mod indexed;
 
 ghost use Rattle.std.specs.Prelude.{◌≡◌};

@@ -6,7 +6,7 @@ use super::words;
 
 // Jobs 0 to 63 are the bits of `low`, and 64 to 127 those of `high`. No method asks anything of its arguments: a job of
 // 128 or more is in no set, and adding or removing it changes nothing.
-#[derive(Drop)]
+#[derive(Clone, Copy)]
 pub struct JobSet {
     pub low: u64,
     pub high: u64,

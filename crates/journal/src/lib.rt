@@ -1,4 +1,6 @@
 // The lent journal: its records as parts of it, what lies inside, and room for one more.
+#![tactic(auto)]
+
 ghost use Rattle.std.specs.Prelude.{◌≡◌, ◌+◌, ◌≤◌, length};
 ghost use Rattle.codec.specs.Codec.{place_of, record_size};
 ghost use Rattle.journal.specs.Journal.{is_whole, is_booked, record_at, inside_of, slot_at, equal_at, has_room, put_at};
@@ -83,5 +85,5 @@ pub fn put_at(version: u16, journal: &mut [u8], k: usize, bytes: &[u8])
 {
     let from = codec::place(version, k);
     let until = from + codec::record_size(version);
-    bytes::copy(bytes, &mut journal[from..until]);
+    journal[from..until].copy_from_slice(bytes);
 }

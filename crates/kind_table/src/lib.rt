@@ -1,4 +1,6 @@
 // The one table of kinds: how long the body of a step is, and what it names.
+#![tactic(auto)]
+
 ghost use Rattle.std.specs.Prelude.{◌≡◌};
 ghost use Rattle.runfile.specs.Steps.{is_unknown};
 ghost use Rattle.kind_table.specs.Table.{operation_of};
@@ -6,7 +8,7 @@ ghost use Rattle.kind_table.specs.Table.{operation_of};
 use runfile::Kind;
 
 // What the body of a step names: neither vault nor job, a job, a vault and a job, these and a client. Of a kind that is unknown there is no body.
-#[derive(Drop)]
+#[derive(Clone, Copy)]
 pub enum Form {
     Bare,
     OfJob,
@@ -16,7 +18,7 @@ pub enum Form {
 }
 
 // A row of the table of kinds: the operation, how long its body is, what that names, and whether it looks at all vaults.
-#[derive(Drop)]
+#[derive(Clone, Copy)]
 pub struct Operation {
     pub kind: Kind,
     pub size: usize,

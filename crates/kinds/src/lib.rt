@@ -1,4 +1,6 @@
 // The kinds of steps that look at one vault, or at one job: each is handed what it looks at. The decisions are the ledger's.
+#![tactic(auto)]
+
 mod gates;
 
 ghost use Rattle.std.specs.Prelude.{◌≡◌, ◌+◌, ◌≤◌, get_or};
@@ -16,7 +18,7 @@ use vaults::{Column, Vault, Votes};
 
 // What a step looks at that looks at one vault: its state, the votes on the job that the step names, and the history at the place that it names; of the
 // snapshot the number of the vault that is next, the jobs seen in this round, and that vault.
-#[derive(Drop)]
+#[derive(Clone, Copy)]
 pub struct View {
     pub settings: Settings,
     pub booked: usize,

@@ -1,4 +1,6 @@
 // One line of a text: which row it is read by, and the bytes of its step.
+#![tactic(auto)]
+
 mod choice;
 mod shape;
 

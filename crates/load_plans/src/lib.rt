@@ -1,4 +1,6 @@
 // What the draws of a test load choose (docs/LOADS.md): the first three its plan, the others its steps.
+#![tactic(auto)]
+
 mod plans;
 mod steps;
 

@@ -1,4 +1,6 @@
 // The forty records of a test load (docs/LOADS.md).
+#![tactic(auto)]
+
 ghost use Rattle.std.specs.Prelude.{◌≡◌, ◌<◌};
 ghost use Rattle.load.specs.Records.{accession, job_for, label_for, main_job, migration, rival_job, side_job, tape};
 

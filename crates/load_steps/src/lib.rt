@@ -1,4 +1,6 @@
 // How the steps of a load stand in a run file.
+#![tactic(auto)]
+
 ghost use Rattle.std.specs.Prelude.{◌∷◌, [], ◌≡◌, ◌+◌, ◌<◌, ◌≤◌, length};
 ghost use Rattle.codec.specs.Codec.{bytes_of, le_bytes};
 ghost use Rattle.load.specs.Records.{job_for};

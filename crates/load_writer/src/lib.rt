@@ -1,4 +1,6 @@
 // A test load from ten bytes (docs/LOADS.md), written as a run file of 200 steps.
+#![tactic(auto)]
+
 ghost use Rattle.std.specs.Prelude.{◌≡◌, ◌*◌, ◌<◌, ◌≤◌, length};
 ghost use Rattle.codec.specs.Codec.{le_at};
 ghost use Rattle.load.specs.Loads.{answer_of, is_request, load_bytes, steps_bytes};

@@ -1,4 +1,6 @@
 // Reads ten bytes from standard input, a seed, n and b, and writes their load to standard output (docs/LOADS.md).
+#![tactic(auto)]
+
 ghost use Rattle.std.specs.Prelude.{◌≤◌, length};
 
 use libc::{STDIN_FILENO, STDOUT_FILENO};

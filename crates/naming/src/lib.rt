@@ -1,4 +1,6 @@
 // The vaults that kind 13 names, found when a step asks for them and kept until what they depend on changes.
+#![tactic(auto)]
+
 ghost use Rattle.std.specs.Prelude.{◌≡◌};
 ghost use Rattle.index.specs.Index.{IndexedEntries};
 ghost use Rattle.naming.specs.Kept.{Found, Right, Still, is_naming, unknown_yet};
@@ -9,7 +11,7 @@ use runfile::Kind;
 use vaults::Votes;
 
 // The vaults that equivocate, where they are known.
-#[derive(Drop)]
+#[derive(Clone, Copy)]
 pub struct Remembered {
     pub known: bool,
     pub vaults: JobSet,

@@ -7,7 +7,7 @@ use scripts::ROOM;
 
 // A case as it was read: the kind of its step, 0 where there is none to carry out; how many bytes of the journal are lent; and where its
 // body ends.
-#[derive(Drop)]
+#[derive(Clone, Copy)]
 pub(crate) struct Case {
     pub(crate) kind: u8,
     pub(crate) lent: usize,

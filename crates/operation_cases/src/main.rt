@@ -1,6 +1,8 @@
 // Reads a script from standard input and carries it out on ledgers, as a program does that uses the library; its cases are steps of a run file's
 // text, and some more for what a run file can't say. Each is printed with the two figures of its answer behind it, and the numbers that it
 // lists. Documents 01 and 02 decide what they must be; `stdout` holds them.
+#![tactic(auto)]
+
 mod case_lines;
 
 ghost use Rattle.std.specs.Prelude.{◌≤◌};

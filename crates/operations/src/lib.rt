@@ -1,6 +1,8 @@
 // The product's operations: each kind of step on a ledger and a lent journal, and a record shown. Every operation takes any arguments and any journal; its
 // promise is one equation with a definition of ledger's specs/Steps.antt, refused steps included. Those that name no vault stand here; the others come
 // from the crates below, which a check goes through one by one.
+#![tactic(auto)]
+
 mod indexed;
 
 ghost use Rattle.std.specs.Prelude.{◌≡◌};

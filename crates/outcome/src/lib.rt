@@ -1,9 +1,11 @@
 // What a step answers, and document 01's two figures for each answer.
+#![tactic(auto)]
+
 ghost use Rattle.std.specs.Prelude.{◌≡◌};
 ghost use Rattle.outcome.specs.Figures.{number_of, value_of, refusal_number, refusal_value};
 
 // The refusals, in the order of document 01's table, then of document 02. Where they say so, a case carries the first offending entry.
-#[derive(Drop)]
+#[derive(Clone, Copy)]
 pub enum Refusal {
     // 1: header or settings wrong, or file too long
     Settings,
@@ -60,21 +62,21 @@ pub enum Refusal {
 }
 
 // Done carries the step's value.
-#[derive(Drop)]
+#[derive(Clone, Copy)]
 pub enum Outcome {
     Done(u32),
     Refused(Refusal),
 }
 
 // The answer of a row of checks.
-#[derive(Drop)]
+#[derive(Clone, Copy)]
 pub enum Verdict {
     Pass,
     Fail(Refusal),
 }
 
 // A refusal's number in document 01's table or in document 02, and the entry that it carries, else 0.
-#[derive(Drop)]
+#[derive(Clone, Copy)]
 struct Figures(u8, u8);
 
 impl Refusal {

@@ -1,4 +1,6 @@
 // A line read by a row: the bytes of its step.
+#![tactic(auto)]
+
 mod items;
 mod numbers;
 
@@ -11,7 +13,7 @@ ghost use Rattle.parsing.specs.Took.{ReadTo};
 pub use items::{is_plain, width};
 
 // What was read at a place of a text: its value and where the rest begins, or why not. The reason 0 is none.
-#[derive(Drop)]
+#[derive(Clone, Copy)]
 pub struct Token {
     pub reason: u8,
     pub value: u32,
@@ -19,7 +21,7 @@ pub struct Token {
 }
 
 // What was read by a row: why the reading stopped, if it did, where the rest of the text begins, and where the bytes end.
-#[derive(Drop)]
+#[derive(Clone, Copy)]
 pub struct Parsed {
     pub reason: u8,
     pub next: usize,

@@ -1,4 +1,6 @@
 // Parts of a buffer.
+#![tactic(auto)]
+
 ghost use Rattle.std.specs.Prelude.{◌≡◌, ◌≤◌, drop, length, take};
 
 // The first n bytes, or all where there are fewer.

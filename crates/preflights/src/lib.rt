@@ -1,4 +1,6 @@
 // Kind 2: whether a vault signs a job. The index is the journal's: the operations make it, and the run keeps it.
+#![tactic(auto)]
+
 mod clients;
 
 ghost use Rattle.std.specs.Prelude.{◌≡◌, ◌<◌};

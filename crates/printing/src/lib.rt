@@ -1,4 +1,6 @@
 // A step written by a row.
+#![tactic(auto)]
+
 mod items;
 
 ghost use Rattle.std.specs.Prelude.{◌≡◌, ◌*◌, ◌+◌, ◌<◌, ◌^◌, ◌≤◌, drop, get_or, length};

@@ -1,4 +1,6 @@
 // How far a run has come: what its steps answer, what it hands back, and how it goes on beside its ledger.
+#![tactic(auto)]
+
 ghost use Rattle.std.specs.Prelude.{◌≡◌};
 ghost use Rattle.job_sets.specs.Jobs.{no_jobs};
 ghost use Rattle.progress.specs.Coming.{Goes, cursor_at, moved_to, turned_at};
@@ -10,7 +12,7 @@ use outcome::Outcome;
 use reading::Step;
 
 // What a step answers that looks at one vault: what it changes in the ledger, and where its text ends.
-#[derive(Drop)]
+#[derive(Clone, Copy)]
 pub struct Told {
     pub change: Change,
     pub outcome: Outcome,
@@ -18,7 +20,7 @@ pub struct Told {
 }
 
 // What a step answers and lists that looks at all vaults, the vaults that equivocate, where they are known then, and where its text ends.
-#[derive(Drop)]
+#[derive(Clone, Copy)]
 pub struct Looked {
     pub outcome: Outcome,
     pub members: JobSet,
@@ -27,7 +29,7 @@ pub struct Looked {
 }
 
 // How far a run has come: its ledger, where it reads, how many steps it has carried out, and how much of the buffer it wrote last.
-#[derive(Drop)]
+#[derive(Clone, Copy)]
 pub struct Progress {
     pub ledger: Ledger,
     pub pos: usize,
@@ -36,7 +38,7 @@ pub struct Progress {
 }
 
 // A run after one step, what that answered and listed, and what is kept of kind 13.
-#[derive(Drop)]
+#[derive(Clone, Copy)]
 pub struct Turned {
     pub progress: Progress,
     pub outcome: Outcome,
@@ -46,7 +48,7 @@ pub struct Turned {
 
 // How far it has come, beside its ledger: where it reads, how many steps it has carried out and where its text ends; what the last step answered and
 // listed.
-#[derive(Drop)]
+#[derive(Clone, Copy)]
 pub struct Cursor {
     pub pos: usize,
     pub count: u32,

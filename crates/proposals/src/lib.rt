@@ -1,4 +1,6 @@
 // Kind 1: where a proposed record goes. The index is that of the booked records that lie inside: the operations make it, and the run keeps it.
+#![tactic(auto)]
+
 ghost use Rattle.std.specs.Prelude.{◌≡◌, ◌≤◌};
 ghost use Rattle.codec.specs.Codec.{job_of};
 ghost use Rattle.ledger.specs.Decisions.{placing, proposal, settling};

@@ -1,4 +1,6 @@
 // What is asked of the index: checks 11 to 14.
+#![tactic(auto)]
+
 ghost use Rattle.std.specs.Prelude.{◌≡◌, ◌+◌, ◌<◌, ◌≤◌};
 ghost use Rattle.index.specs.Index.{IndexedEntries};
 ghost use Rattle.index.specs.Places.{links_at};

@@ -1,4 +1,6 @@
 // What a step answers and lists that looks at all vaults: the generations of a job, its missing dependencies, and the vaults that equivocate.
+#![tactic(auto)]
+
 mod asking;
 
 pub use asking::look;
@@ -7,7 +9,7 @@ use naming::Remembered;
 use vaults::{Vault, Votes};
 
 // What a step looks at that looks at all vaults, and what is known of those that equivocate.
-#[derive(Drop)]
+#[derive(Clone, Copy)]
 pub struct Books {
     pub settings: Settings,
     pub booked: usize,

@@ -1,5 +1,7 @@
 // A client's quota at a vault: the last fifteen counted requests as a number, the newest in the lowest bit, set where it brought a new signature. Document 02
 // calls a client a desk.
+#![tactic(auto)]
+
 ghost use Rattle.std.specs.Prelude.{◌≡◌, ◌<◌};
 ghost use Rattle.quota.specs.Quota.{history_place, is_client, is_spent, remembered};
 

@@ -1,4 +1,6 @@
 // A step as it stands in a run file: its kind, what it names, and where the next one stands.
+#![tactic(auto)]
+
 ghost use Rattle.std.specs.Prelude.{◌≡◌, ◌<◌, ◌≤◌, length};
 ghost use Rattle.runfile.specs.Run.{longest};
 ghost use Rattle.reading.specs.Reading.{Read, formed, unread};
@@ -8,7 +10,7 @@ use runfile::Kind;
 
 // A step: its number, the vault and the job that it names, 0 where it names none, the place of the history of the client that it names, where its body starts,
 // and where the next step stands.
-#[derive(Drop)]
+#[derive(Clone, Copy)]
 pub struct Step {
     pub number: u32,
     pub kind: Kind,

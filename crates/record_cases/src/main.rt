@@ -1,6 +1,8 @@
 // Reads a script from standard input, whose cases are proposals of a run file's text, and examines their records. Each case is printed with the
 // two figures of the answer behind it; where `sweep` stands before it, then the answers with each byte one up and one down. Documents 01 and 02 decide what
 // they must be; `stdout` holds them.
+#![tactic(auto)]
+
 ghost use Rattle.std.specs.Prelude.{◌≤◌, length};
 
 use libc::{STDIN_FILENO, STDOUT_FILENO};

@@ -1,4 +1,6 @@
 // Reading a record and writing one.
+#![tactic(auto)]
+
 ghost use Rattle.std.specs.Prelude.{◌≡◌, ◌≤◌, length, take};
 ghost use Rattle.std.proofs.lemmas.List.Edits.{sets};
 ghost use Rattle.codec.specs.Codec.{job_of, front_job, body_of, fits_record, record_size, written};

@@ -1,4 +1,6 @@
 // A run file in, its release list out: the file is carried out to its end, and the tapes that are then free are listed.
+#![tactic(auto)]
+
 mod unread;
 
 ghost use Rattle.std.specs.Prelude.{◌≤◌};

@@ -1,4 +1,6 @@
 // The lines of the input tapes of all finished jobs, in the release list.
+#![tactic(auto)]
+
 ghost use Rattle.std.specs.Prelude.{◌≡◌, ◌*◌, ◌+◌, ◌<◌, ◌≤◌, leb, length};
 ghost use Rattle.std.specs.Int.Count.{ones};
 ghost use Rattle.codec.specs.Codec.{place_of};

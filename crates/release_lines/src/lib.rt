@@ -1,4 +1,6 @@
 // The lines of the input tapes of one job, in the release list.
+#![tactic(auto)]
+
 ghost use Rattle.std.specs.Prelude.{◌*◌, ◌+◌, ◌<◌, ◌≤◌, length};
 ghost use Rattle.codec.specs.Codec.{le_bytes};
 ghost use Rattle.conflicts.specs.Tapes.{used_from};
@@ -8,7 +10,7 @@ ghost use Rattle.release_lines.specs.Tapes.{Listed, longest_tape, of_job, tape_l
 use record::{Entry, Job};
 
 // Where the next line goes, and how many tapes were listed.
-#[derive(Drop)]
+#[derive(Clone, Copy)]
 pub struct Cursor {
     pub at: usize,
     pub count: u32,

@@ -1,4 +1,6 @@
 // The release list: the tapes that are free to be overwritten, as text.
+#![tactic(auto)]
+
 ghost use Rattle.std.specs.Prelude.{◌≡◌, ◌≤◌, length};
 ghost use Rattle.codec.specs.Codec.{place_of};
 ghost use Rattle.ledger.specs.State.{version_of};
@@ -13,7 +15,7 @@ use release_lines::Cursor;
 pub const ROOM: usize = 12805;
 
 // The number of tapes, or why there is no list; and how much of the buffer the list takes.
-#[derive(Drop)]
+#[derive(Clone, Copy)]
 pub struct Releases {
     pub outcome: Outcome,
     pub written: usize,

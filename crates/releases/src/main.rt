@@ -1,4 +1,6 @@
 // Reads a run file from standard input, carries it out, and prints its release list: the tapes that are free to be overwritten.
+#![tactic(auto)]
+
 use libc::{STDIN_FILENO, STDOUT_FILENO};
 
 fn list(input: &[u8]) {

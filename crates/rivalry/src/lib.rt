@@ -1,4 +1,6 @@
 // Whether two booked jobs conflict, and all rivals of one, by the index: no labels are compared.
+#![tactic(auto)]
+
 ghost use Rattle.std.specs.Prelude.{◌≡◌, ◌+◌, ◌<◌, ◌≤◌};
 ghost use Rattle.conflicts.specs.Conflicts.{conflicting};
 ghost use Rattle.job_sets.specs.Jobs.{InWords};

@@ -1,4 +1,6 @@
 // A job written and read again, and a record read and written again.
+#![tactic(auto)]
+
 ghost use Rattle.std.specs.Prelude.{◌≡◌, length};
 ghost use Rattle.codec.specs.Codec.{record_size, said_of};
 

@@ -1,4 +1,6 @@
 // The row that a step is written by.
+#![tactic(auto)]
+
 ghost use Rattle.std.specs.Prelude.{true, ◌≡◌, ◌<◌, ◌≤◌, length};
 ghost use Rattle.row_choice.specs.Rows.{Stands};
 ghost use Rattle.notation.specs.Lines.{has_shape, proposal_row, row_of, shaped_for};

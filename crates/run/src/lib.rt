@@ -1,4 +1,6 @@
 // A run file carried out, its text in pieces.
+#![tactic(auto)]
+
 ghost use Rattle.std.specs.Prelude.{◌+◌, ◌<◌, ◌≤◌, length};
 ghost use Rattle.progress.specs.Pieces.{Advanced, Going, Started};
 ghost use Rattle.progress.specs.Turns.{Holds, TurnedOnce};

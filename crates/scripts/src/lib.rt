@@ -1,4 +1,6 @@
 // What the programs that run cases share. A script is text with a case on each line; a case is printed with the figures of its answer behind it.
+#![tactic(auto)]
+
 ghost use Rattle.std.specs.Prelude.{◌≡◌, ◌<◌, ◌≤◌, drop, get_or, length, take};
 ghost use Rattle.notation.specs.Lines.{step_read};
 ghost use Rattle.parsing.specs.Took.{ReadTo};

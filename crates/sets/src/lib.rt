@@ -1,2 +1,4 @@
 // Sets of vaults in 16 bits.
+#![tactic(auto)]
+
 pub mod vaults;

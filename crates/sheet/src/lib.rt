@@ -1,4 +1,6 @@
 // The sheet: a line for each booked job.
+#![tactic(auto)]
+
 ghost use Rattle.std.specs.Prelude.{◌∷◌, [], ◌≡◌, ◌≤◌, length};
 ghost use Rattle.std.specs.Int.Count.{ones};
 ghost use Rattle.answers.specs.Room.{answer_long, answer_room};

@@ -1,4 +1,6 @@
 // A snapshot of what the vaults hold, taken vault by vault while jobs go on: what a visit adds to the jobs seen in this round, and which vault comes next.
+#![tactic(auto)]
+
 ghost use Rattle.std.specs.Prelude.{◌≡◌};
 ghost use Rattle.snapshot.specs.Snapshot.{following, seen_after, seen_before, visible};
 

@@ -1,4 +1,6 @@
 // What can go into a migration and what can come out of it, and checks 24 and 25.
+#![tactic(auto)]
+
 ghost use Rattle.std.specs.Prelude.{◌≡◌, ◌+◌, ◌≤◌, ◌<◌};
 ghost use Rattle.base.specs.Search.{first_below};
 ghost use Rattle.ranges.specs.Ranges.{low, high};

@@ -1,5 +1,7 @@
 // A step of a run file that looks at one vault: it is decided, its text written, and its record stored. The ledger's own change is left to the run, which keeps
 // the journal and its index, and knows what they require.
+#![tactic(auto)]
+
 ghost use Rattle.std.specs.Prelude.{◌+◌, ◌<◌, ◌≤◌, length};
 ghost use Rattle.index.specs.Index.{Indexed};
 ghost use Rattle.reading.specs.Reading.{Asked};

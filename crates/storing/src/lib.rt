@@ -1,4 +1,6 @@
 // A new record is put after the booked ones and entered in the index; no other change touches either.
+#![tactic(auto)]
+
 ghost use Rattle.std.specs.Prelude.{◌≤◌, drop, take};
 ghost use Rattle.codec.specs.Codec.{record_size};
 ghost use Rattle.index.specs.Index.{Indexed};

@@ -1,4 +1,6 @@
 // Kind 10: a superseded signature is released. The index is the journal's, as for a preflight.
+#![tactic(auto)]
+
 ghost use Rattle.std.specs.Prelude.{◌≡◌, ◌<◌};
 ghost use Rattle.index.specs.Index.{IndexedEntries};
 ghost use Rattle.ledger.specs.Decisions.{gated, releasing, superseded_at, supersession};

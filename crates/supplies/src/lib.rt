@@ -1,4 +1,6 @@
 // The jobs that a vault misses, by the index: what stands at an input's number; of the records only the count of inputs is read.
+#![tactic(auto)]
+
 ghost use Rattle.std.specs.Prelude.{◌≡◌, ◌*◌, ◌+◌, ◌<◌};
 ghost use Rattle.journal.specs.Journal.{capacity, job_at};
 ghost use Rattle.index.specs.Index.{IndexedEntries};

@@ -1,4 +1,6 @@
 // A step of a run file that looks at all vaults: it is answered and its text written. It changes nothing in the ledger.
+#![tactic(auto)]
+
 ghost use Rattle.std.specs.Prelude.{◌+◌, ◌<◌, ◌≤◌, length};
 ghost use Rattle.index.specs.Index.{IndexedEntries};
 ghost use Rattle.generations.specs.Memo.{Ready};

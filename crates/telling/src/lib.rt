@@ -1,4 +1,6 @@
 // A step explained: its number, its text and its answer.
+#![tactic(auto)]
+
 ghost use Rattle.std.specs.Prelude.{◌≡◌, ◌+◌, ◌<◌, ◌≤◌, length};
 ghost use Rattle.answers.specs.Room.{answer_long, answer_room};
 ghost use Rattle.explanations.specs.Explained.{answer_at, said_at, step_text};

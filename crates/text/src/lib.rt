@@ -1,4 +1,6 @@
 // What is printed for a step: its line, in decimal, and the numbers that it lists.
+#![tactic(auto)]
+
 mod listing;
 
 ghost use Rattle.std.specs.Prelude.{◌≡◌, ◌+◌, ◌<◌, ◌≤◌, length};

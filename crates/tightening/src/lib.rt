@@ -1,4 +1,6 @@
 // Each entry's tightest range, by one formula for inputs and outputs: what its own side and the other leave of it.
+#![tactic(auto)]
+
 ghost use Rattle.std.specs.Prelude.{true, ◌≡◌, ◌<◌};
 ghost use Rattle.ranges.specs.Tighten.{lower_end, upper_end, tightest_in, tightest_by, can_balance, tightest_of};
 ghost use Rattle.ranges.specs.Spans.{Meeting};

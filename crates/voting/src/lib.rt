@@ -1,5 +1,7 @@
 // Operations: kinds 2 to 5, votes of a vault on a job. Each takes any arguments and any journal; its promise is one equation with a definition of ledger's
 // specs/Steps.antt, refused steps included. It is the row of checks, the decision that the run makes too, and what that changes applied.
+#![tactic(auto)]
+
 mod indexed;
 
 ghost use Rattle.std.specs.Prelude.{◌≡◌};

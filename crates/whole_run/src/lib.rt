@@ -1,4 +1,6 @@
 // A run file carried out to its end; its text is not kept.
+#![tactic(auto)]
+
 ghost use Rattle.std.specs.Prelude.{true, ◌≡◌};
 ghost use Rattle.whole_run.specs.RanOut.{RanOut};
 ghost use Rattle.progress.specs.Pieces.{blank};

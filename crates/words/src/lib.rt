@@ -1,4 +1,6 @@
 // The table of words, and the rows that are made of it, put into a lent buffer.
+#![tactic(auto)]
+
 ghost use Rattle.std.specs.Prelude.{◌∷◌, [], ◌≡◌, ◌*◌, ◌+◌, ◌<◌, ◌≤◌, length};
 ghost use Rattle.rows.specs.Table.{half, raw_row, row, shaped, times, trimmed_row};
 ghost use Rattle.digits.specs.Digits.{Put};
