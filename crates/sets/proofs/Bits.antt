@@ -38,8 +38,8 @@ bit_lt s i = omega arith
 pub bit_or_lem : (a b i : ℕ) → bit (bit_or a b) i ≡ max (bit a i) (bit b i)
 bit_or_lem a b i = omega (arith, or_shr a b i, or_step (a / 2 ^ i) (b / 2 ^ i))
 
-pub bit_and : (a b i : ℕ) → bit (bit_and a b) i ≡ min (bit a i) (bit b i)
-bit_and a b i = omega (arith, and_shr a b i, and_step (a / 2 ^ i) (b / 2 ^ i))
+pub bit_and_lem : (a b i : ℕ) → bit (bit_and a b) i ≡ min (bit a i) (bit b i)
+bit_and_lem a b i = omega (arith, and_shr a b i, and_step (a / 2 ^ i) (b / 2 ^ i))
 
 pub bit_of_zero : (i : ℕ) → bit 0 i ≡ 0
 bit_of_zero zero = refl
@@ -260,8 +260,8 @@ has_union a b i =
 pub has_common : (a b i : ℕ) → has_bit (bit_and a b) i ≡ (has_bit a i && has_bit b i)
 has_common a b i =
     by_cases (λ t. has_bit (bit_and a b) i ≡ (t && has_bit b i)) (has_bit a i)
-    (λ h. has_of_bit (bit_and a b) b i i (omega (arith, bit_and a b i, (reflect_has a i).sound h, bit_lt b i)))
-    (λ h. absent_of_bit (bit_and a b) i (omega (arith, bit_and a b i, bit_absent a i h)))
+    (λ h. has_of_bit (bit_and a b) b i i (omega (arith, bit_and_lem a b i, (reflect_has a i).sound h, bit_lt b i)))
+    (λ h. absent_of_bit (bit_and a b) i (omega (arith, bit_and_lem a b i, bit_absent a i h)))
 
 -- a set of k bits that is not 0 has a member
 pub reflect_some : (k s : ℕ) → s < 2 ^ k → Reflects (not (eqb s 0)) (Some k (λ i. has_bit s i ≡ true))
@@ -281,7 +281,7 @@ pub subset_has : (a b i : ℕ) → subset_of a b ≡ true → has_bit a i ≡ tr
 unfolding subset_of
 subset_has a b i s h =
     let same = ap (λ (x : ℕ). bit x i) (eqb-true (bit_and a b) a s) in
-    (reflect_has b i).complete (omega (arith, bit_and a b i, same, (reflect_has a i).sound h, bit_lt b i))
+    (reflect_has b i).complete (omega (arith, bit_and_lem a b i, same, (reflect_has a i).sound h, bit_lt b i))
 
 -- and the test says no more
 pub reflect_subset : (k a b : ℕ) → a < 2 ^ k → Reflects (subset_of a b) (Every k (λ i. has_bit a i ≡ true → has_bit b i ≡ true))
@@ -291,8 +291,8 @@ reflect_subset k a b ha = record { sound = λ e i l. subset_has a b i e; complet
     common : Every k (λ i. has_bit a i ≡ true → has_bit b i ≡ true) → bit_and a b ≡ a
     common h = bits_same k (bit_and a b) a (omega (arith, and_le_l a b)) ha (λ i l.
         by_test (has_bit a i)
-        (λ e. omega (arith, bit_and a b i, (reflect_has a i).sound e, (reflect_has b i).sound (h i l e)))
-        (λ e. omega (arith, bit_and a b i, bit_absent a i e)))
+        (λ e. omega (arith, bit_and_lem a b i, (reflect_has a i).sound e, (reflect_has b i).sound (h i l e)))
+        (λ e. omega (arith, bit_and_lem a b i, bit_absent a i e)))
 
 -- ---- all members below n
 

@@ -1,0 +1,45 @@
+-- As for a preflight; the history that is read is the one at the place of this client and vault.
+use Prim.Native.Nat.{ℕ}
+use lib.ListN.{get_or}
+use Rattle.ledger.proofs.Gates.{ways}
+use Rattle.ledger.specs.Decisions.{client_preflighting}
+use Rattle.ledger.specs.State.{history_at, votes_in}
+use Rattle.ledger.specs.Steps.{client_preflight_decision, client_preflight_of}
+use Rattle.ledger.specs.declared.Decision.{Decision}
+use Rattle.quota.specs.Quota.{history_place}
+use Rattle.vaults.specs.declared.Vault.{Vault}
+use borrow.Author.Rules.{rules}
+use mathlib.Core.List.{List}
+use mathlib.Core.Path.{◌≡◌}
+use Rattle.amendments.proofs.client_preflight.Goals as goal
+
+-- the history that was read is the client's
+placed-history : (state : Vault) (version : ℕ) (journal : List ℕ) (booked c : ℕ) (histories : List ℕ) (signers v k p : ℕ) (d : Decision)
+    → p ≡ history_place v c → d ≡ client_preflighting state version journal booked c (get_or histories p 0) signers v k
+    → d ≡ client_preflighting state version journal booked c (get_or histories (history_place v c) 0) signers v k
+placed-history state version journal booked c histories signers v k p d e h = rw e at h
+
+ruleset by = (placed-history, ways, rules)
+
+pub returns-in-Pass : goal.returns-in-Pass
+unfolding client_preflight_of client_preflight_decision votes_in history_at
+returns-in-Pass c = search by depth 8
+
+pub returns-in-Fail : goal.returns-in-Fail
+unfolding client_preflight_of client_preflight_decision
+returns-in-Fail c = search by depth 8
+
+pub bounds-ledger-v : goal.bounds-ledger-v
+bounds-ledger-v c = search by
+
+pub bounds-ledger-j : goal.bounds-ledger-j
+bounds-ledger-j c = search by
+
+pub place-place-requires : goal.place-place-requires
+place-place-requires c = search by
+
+pub client_preflight-decision-requires : goal.client_preflight-decision-requires
+client_preflight-decision-requires c = search by
+
+pub carry-requires : goal.carry-requires
+carry-requires c = search by

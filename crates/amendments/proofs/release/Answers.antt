@@ -1,0 +1,27 @@
+use Rattle.ledger.proofs.Gates.{ways}
+use Rattle.ledger.specs.State.{votes_in}
+use Rattle.ledger.specs.Steps.{release_decision, release_of}
+use borrow.Author.Rules.{rules}
+use Rattle.amendments.proofs.release.Goals as goal
+
+ruleset by = (ways, rules)
+
+pub returns-in-Pass : goal.returns-in-Pass
+unfolding release_of release_decision votes_in
+returns-in-Pass c = search by depth 8
+
+pub returns-in-Fail : goal.returns-in-Fail
+unfolding release_of release_decision
+returns-in-Fail c = search by depth 8
+
+pub bounds-ledger-v : goal.bounds-ledger-v
+bounds-ledger-v c = search by
+
+pub bounds-ledger-j : goal.bounds-ledger-j
+bounds-ledger-j c = search by
+
+pub release-decision-requires : goal.release-decision-requires
+release-decision-requires c = search by
+
+pub carry-requires : goal.carry-requires
+carry-requires c = search by

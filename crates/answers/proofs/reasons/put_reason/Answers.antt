@@ -1,0 +1,18 @@
+-- The parts between the starts are the rows of the table.
+use mathlib.Core.Path.{refl}
+use Rattle.explanations.specs.Words.{reason, reasons}
+use Rattle.words.proofs.Rows.{found_in}
+use Rattle.words.specs.Rows.{part, rows_in}
+use native.Mathlib.Omega.{arith}
+use Rattle.answers.proofs.reasons.put_reason.Goals as goal
+
+pub put-requires : goal.put-requires
+unfolding part rows_in
+put-requires c = omega (arith, (found_in reasons _ _ _ c.row_of.ensures refl).short)
+
+pub returns : goal.returns
+unfolding part rows_in reason
+returns c =
+    let put = c in
+    let f = found_in reasons _ _ _ put.row_of.ensures refl in
+    (rw f.is at put.put.ensures.0, omega (arith, f.short, put.put.ensures.1))

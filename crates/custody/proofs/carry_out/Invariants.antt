@@ -1,0 +1,11 @@
+-- A run that has more to read and all that it keeps are right, and each piece reads on, so the loop ends.
+use Prim.Native.Nat.{◌-◌}
+use lib.ListN.{length}
+use Rattle.custody.proofs.carry_out.Given as goal
+
+abbrev pub invariant-loop-progress : goal.invariant-loop-progress
+invariant-loop-progress l =
+    Turn l.input l.progress l.memo l.journal l.numbers l.sets l.records l.out
+
+abbrev pub decreases-loop-progress : goal.decreases-loop-progress
+decreases-loop-progress l = length l.input - l.progress.pos

@@ -1,0 +1,8 @@
+-- By the verdict of checks 11 to 14.
+use Rattle.dependencies.proofs.missing.if_admitted.Goals as goal
+
+pub returns-in-Pass : goal.returns-in-Pass
+returns-in-Pass c = simp c.enum_told-1.given.1 c.list.ensures
+
+pub returns-in-Fail : goal.returns-in-Fail
+returns-in-Fail c = simp c.enum_told-in-Fail-1.given.1 c.unlist.ensures

@@ -1,0 +1,11 @@
+use lib.ListN.{length-set}
+use mathlib.Core.Path.{refl}
+use native.Mathlib.Numerals.{add-one}
+use native.Mathlib.Omega.{arith}
+use Rattle.digits.proofs.write_two.Goals as goal
+
+pub bounds-out-at-2 : goal.bounds-out-at-2
+bounds-out-at-2 c = simp length-set (omega (arith, c.requires.1))
+
+pub returns : goal.returns
+returns c = (record { moved = refl; wrote = simp add-one }, omega arith)

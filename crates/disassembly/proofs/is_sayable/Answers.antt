@@ -1,0 +1,20 @@
+use Rattle.disassembly.proofs.Walks.{sayings}
+use borrow.Author.Rules.{rules}
+use Rattle.disassembly.proofs.is_sayable.Goals as goal
+
+ruleset by = (sayings, rules)
+
+pub opens-requires : goal.opens-requires
+opens-requires c = search by
+
+pub word_at-requires : goal.word_at-requires
+word_at-requires c = search by
+
+pub is_whole-requires : goal.is_whole-requires
+is_whole-requires c = search by
+
+pub returns-then-opens : goal.returns-then-opens
+returns-then-opens c = search by
+
+pub returns : goal.returns
+returns c = search by

@@ -1,8 +1,0 @@
--- Each return is one way through the test.
-use borrow.Author.Rules.{rules}
-use Rattle.base.proofs.Tests.{chain}
-use Rattle.equivocation.proofs.joined.Statement.{statement}
-use Rattle.equivocation.proofs.joined.Tie as tie
-
-pub joined-spec : {M : Type 1} → statement M
-joined-spec = tie.close (tie.spec (λ c κs. search rules) (λ c. search chain depth 8) (λ c. search chain depth 8))

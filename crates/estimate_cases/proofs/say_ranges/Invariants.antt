@@ -1,0 +1,9 @@
+-- The loop counts to 8.
+use Prim.Native.Nat.{◌-◌, ◌≤◌}
+use Rattle.estimate_cases.proofs.say_ranges.Given as goal
+
+abbrev pub invariant-loop-i : goal.invariant-loop-i
+invariant-loop-i l = l.i ≤ 8
+
+abbrev pub decreases-loop-i : goal.decreases-loop-i
+decreases-loop-i l = 8 - l.i

@@ -1,0 +1,25 @@
+-- The part that is read is the record, and its count of inputs is cut at four.
+use Rattle.generations.specs.Memo.{inputs_of}
+use Rattle.index.proofs.Inside.{part_job}
+use Rattle.record.specs.declared.Job.{Job}
+use mathlib.Core.List.{List}
+use mathlib.Core.Path.{◌∙◌, ◌≡◌, ap}
+use Prim.Native.Nat.{ℕ}
+use Rattle.codec.specs.Codec.{job_of}
+use Rattle.index.specs.Places.{slot_job}
+use Rattle.journal.specs.Journal.{slot_at}
+use native.Mathlib.Omega.{arith}
+use Rattle.generations.proofs.inputs.Goals as goal
+
+-- by the record that stands there
+counted : (version : ℕ) (journal part : List ℕ) (k count : ℕ) → part ≡ slot_at version journal k → count ≡ (job_of part).inputs
+    → count ≡ (slot_job version journal k).inputs
+counted version journal part k count p e = e ∙ ap (λ (x : Job). x.inputs) (part_job version journal part k p)
+
+pub returns-then-count-lt4 : goal.returns-then-count-lt4
+unfolding inputs_of
+returns-then-count-lt4 c = let r = c in omega (arith, c.wide-count.ensures.0, counted _ _ _ _ _ r.slot.ensures r.inputs_of.ensures)
+
+pub returns : goal.returns
+unfolding inputs_of
+returns c = let r = c in omega (arith, c.wide-count.ensures.0, counted _ _ _ _ _ r.slot.ensures r.inputs_of.ensures)

@@ -1,0 +1,17 @@
+use Rattle.kinds.proofs.Arms.{arms}
+use borrow.Author.Rules.{rules}
+use Rattle.kinds.proofs.preflight.Goals as goal
+
+ruleset by = (arms, rules)
+
+pub overflow_cast-job : goal.overflow_cast-job
+overflow_cast-job c = search by
+
+pub gate-requires : goal.gate-requires
+gate-requires c = search by
+
+pub preflight-requires : goal.preflight-requires
+preflight-requires c = search by
+
+pub returns : goal.returns
+returns c = search by

@@ -1,0 +1,26 @@
+use Rattle.kinds.proofs.Arms.{arms}
+use borrow.Author.Rules.{rules}
+use Rattle.kinds.proofs.release.Goals as goal
+
+ruleset by = (arms, rules)
+
+pub overflow_cast-job : goal.overflow_cast-job
+overflow_cast-job c = search by
+
+pub gate-requires : goal.gate-requires
+gate-requires c = search by
+
+pub overflow_add-step : goal.overflow_add-step
+overflow_add-step c = search by
+
+pub byte_at-requires : goal.byte_at-requires
+byte_at-requires c = search by
+
+pub overflow_cast-byte_at : goal.overflow_cast-byte_at
+overflow_cast-byte_at c = search by
+
+pub release-requires : goal.release-requires
+release-requires c = search by
+
+pub returns : goal.returns
+returns c = search by

@@ -1,0 +1,7 @@
+-- The part that is lent has the length that was asked for.
+use mathlib.Core.Path.{sym}
+use lib.Seq.{length-take-le}
+use Rattle.loads.proofs.print.Goals as goal
+
+pub slice_bounds-write_all-end : goal.slice_bounds-write_all-end
+slice_bounds-write_all-end c = sym (length-take-le _ _ c.requires)

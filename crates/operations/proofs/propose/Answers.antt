@@ -1,0 +1,32 @@
+use Rattle.ledger.proofs.Writes.{writes}
+use Rattle.ledger.proofs.Gates.{entering}
+use Rattle.ledger.specs.State.{applied}
+use Rattle.ledger.specs.Steps.{journal_after, propose_decision, propose_of, sane_gate}
+use borrow.Author.Rules.{rules}
+use mathlib.Core.Path.{◌∙◌, sym}
+use Rattle.operations.proofs.propose.Goals as goal
+
+ruleset by = (entering, rules)
+
+pub write-requires : goal.write-requires
+write-requires c = writes _ _ _ _ _ c.propose-decision.ensures
+
+pub returns-then-is_sane : goal.returns-then-is_sane
+unfolding propose_of journal_after propose_decision sane_gate
+returns-then-is_sane c =
+    let s = sym c.is_sane_lem.ensures
+    ∙ c.if-is_sane.true in (
+      simp (s, ← c.propose-decision.ensures) c.carry.ensures,
+      simp
+          (s, ← c.propose-decision.ensures) c.write.ensures,
+    )
+
+pub returns : goal.returns
+unfolding propose_of journal_after propose_decision sane_gate applied
+returns c = let s = sym c.is_sane_lem.ensures ∙ c.if-is_sane.false in (simp s c.turn_back.ensures, simp s)
+
+pub propose-decision-requires : goal.propose-decision-requires
+propose-decision-requires c = search by
+
+pub carry-requires : goal.carry-requires
+carry-requires c = search by

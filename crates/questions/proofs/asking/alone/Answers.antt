@@ -1,0 +1,4 @@
+use Rattle.questions.proofs.asking.alone.Goals as goal
+
+pub returns : goal.returns
+returns c = simp c.empty.ensures

@@ -1,0 +1,14 @@
+-- An entry past the eighth holds nothing.
+use mathlib.Core.Path.{ap, refl}
+use Rattle.record.proofs.Eight.{entry_past, length_mapped}
+use Rattle.record.specs.Entries.{label_of}
+use Rattle.record.specs.declared.Entry.{Entry}
+use Rattle.record.proofs.entries.label.Goals as goal
+
+pub returns : goal.returns
+unfolding label_of
+returns c = let s = c.args in ap (λ (e : Entry). e.label) (entry_past s.job s.i (search length_mapped) c.if-i-lt8.false)
+
+pub returns-then-i-lt8 : goal.returns-then-i-lt8
+unfolding label_of
+returns-then-i-lt8 c = refl

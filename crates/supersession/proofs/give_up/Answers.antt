@@ -1,0 +1,13 @@
+-- By the verdict of checks 4, 19 and 20.
+use Rattle.ledger.specs.Decisions.{releasing}
+use Rattle.supersession.proofs.give_up.Goals as goal
+
+pub returns-in-Pass : goal.returns-in-Pass
+unfolding releasing
+returns-in-Pass c =
+    let told = c in
+    simp (← told.supersession-verdict.ensures, told.enum_told-1.given.1, c.release.ensures, c.size.ensures)
+
+pub returns-in-Fail : goal.returns-in-Fail
+unfolding releasing
+returns-in-Fail c = simp (← c.supersession-verdict.ensures, c.verdict-1.given.1) c.refuse.ensures

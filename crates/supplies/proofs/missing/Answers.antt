@@ -1,0 +1,17 @@
+-- By the index, as the definition has it; the count is that of the job's record.
+use native.Mathlib.Omega.{arith}
+use borrow.Author.Rules.{rules}
+use Rattle.supplies.proofs.Supplies.{missing_booked}
+use Rattle.index.proofs.Tables.{indexed_tables}
+use Rattle.supplies.proofs.missing.Goals as goal
+
+pub missing_by-requires : goal.missing_by-requires
+missing_by-requires c = let p = c.requires in (omega (arith, p.0, p.1.few), indexed_tables _ _ _ _ _ p.1)
+
+pub returns : goal.returns
+returns c =
+    let d = c in
+    let s = d in
+    let sets = s.well_formed_lem.1.1.1.1.1 in
+    missing_booked _ _ _ _ _ s.requires.1 _ _ (search (sets.0, rules)) (search (sets.1.0, rules)) _ _ _ _ s.requires.0
+    d.lookup-part.ensures c.inputs_of-inputs.ensures c.missing_by.ensures
