@@ -4,7 +4,7 @@ use Rattle.generator.proofs.Products.{by_halves, halves_fit}
 use Rattle.generator.proofs.wrapping_multiply.Goals as goal
 
 pub returns : goal.returns
-returns c = c.wrapping_add_u64.ensures ∙ by_halves c.args.a c.args.b
+returns c = c.wrapping_add_u64.ensures.value ∙ by_halves c.args.a c.args.b
 
 pub overflow_mul-low : goal.overflow_mul-low
 overflow_mul-low c = record { fits = halves_fit _ _ (omega arith) (omega arith) }
