@@ -20,6 +20,7 @@ module _ {A : Type 0} where
   pub any_in_lem : (p : A → Bool) (l : List A) (x : A) → In x l → p x ≡ true → any_in p l ≡ true
   any_in_lem p (y ∷ l) x (inl e) t = or_intro (p y) (any_in p l) (inl (sym (ap p e) ∙ t))
   any_in_lem p (y ∷ l) x (inr m) t = or_intro (p y) (any_in p l) (inr (any_in_lem p l x m t))
+  any_in_lem p [] x x4 t = elim x4 [ ]
 
   pub in_any : (p : A → Bool) (l : List A) → any_in p l ≡ true → (x : A) × In x l × (p x ≡ true)
   in_any p [] t = absurd (true≢false (sym t))
@@ -32,6 +33,7 @@ module _ {A : Type 0} where
   pub all_in_lem : (p : A → Bool) (l : List A) → all_in p l ≡ true → (x : A) → In x l → p x ≡ true
   all_in_lem p (y ∷ l) t x (inl e) = ap p e ∙ (and_true (p y) (all_in p l) t).0
   all_in_lem p (y ∷ l) t x (inr m) = all_in_lem p l (and_true (p y) (all_in p l) t).1 x m
+  all_in_lem p [] t x x4 = elim x4 [ ]
 
   pub in_all : (p : A → Bool) (l : List A) → ((x : A) → In x l → p x ≡ true) → all_in p l ≡ true
   in_all p [] h = refl
@@ -59,6 +61,7 @@ module _ {A : Type 0} where
   pub in_left : (l m : List A) (x : A) → In x l → In x (l ++ m)
   in_left (y ∷ l) m x (inl e) = inl e
   in_left (y ∷ l) m x (inr h) = inr (in_left l m x h)
+  in_left [] m x x3 = elim x3 [ ]
 
   pub in_right : (l m : List A) (x : A) → In x m → In x (l ++ m)
   in_right [] m x h = h
@@ -90,6 +93,7 @@ module _ {A : Type 0} where
   pub distinct_apart : (l m : List A) → Distinct (l ++ m) → (x : A) → In x l → In x m → ⊥
   distinct_apart (y ∷ l) m (ny, d) x (inl e) b = ny (in_right l m y (subst (λ (z : A). In z m) e b))
   distinct_apart (y ∷ l) m (ny, d) x (inr a) b = distinct_apart l m d x a b
+  distinct_apart [] m _ x x6 b = elim x6 [ ]
 
   pub total_append : (w : A → ℕ) (l m : List A) → total w (l ++ m) ≡ total w l + total w m
   total_append w [] m = omega arith
@@ -108,6 +112,7 @@ module _ {A : Type 0} where
   pub get_d_in : (l : List A) (d x : A) → In x l → (i : ℕ) × (i < length l) × (get_or l i d ≡ x)
   get_d_in (y ∷ l) d x (inl e) = (zero, omega arith, sym e)
   get_d_in (y ∷ l) d x (inr m) = let r = get_d_in l d x m in (suc r.0, omega (arith, r.1), r.2)
+  get_d_in [] d x x3 = elim x3 [ ]
 
   -- ---- the elements that pass
   pub keep_in : (p : A → Bool) (l : List A) (x : A) → In x (keep_if p l) → In x l × (p x ≡ true)
@@ -115,12 +120,14 @@ module _ {A : Type 0} where
       let rest : In x (keep_if p l) → In x (y ∷ l) × (p x ≡ true) = λ i. let r = keep_in p l x i in (inr r.0, r.1) in
       by_cases (λ b. In x (cond b (y ∷ keep_if p l) (keep_if p l)) → In x (y ∷ l) × (p x ≡ true)) (p y)
       (λ e. ⊎_elim (λ q. (inl q, ap p q ∙ e)) rest) (λ e. rest) m
+  keep_in p [] x m = elim m [ ]
 
   pub in_keep : (p : A → Bool) (l : List A) (x : A) → In x l → p x ≡ true → In x (keep_if p l)
   in_keep p (y ∷ l) x m t =
       by_cases (λ b. In x (cond b (y ∷ keep_if p l) (keep_if p l))) (p y)
       (λ e. ⊎_elim (λ q. inl q) (λ i. inr (in_keep p l x i t)) m)
       (λ e. ⊎_elim (λ q. absurd (true≢false (sym t ∙ ap p q ∙ e))) (λ i. in_keep p l x i t) m)
+  in_keep p [] x m t = elim m [ ]
 
   pub keep_same : (p q : A → Bool) (l : List A) → ((x : A) → In x l → p x ≡ q x) → keep_if p l ≡ keep_if q l
   keep_same p q [] h = refl
@@ -147,10 +154,12 @@ module _ {A B : Type 0} (f : A → B) where
   pub in_map : (l : List A) (x : A) → In x l → In (f x) (map f l)
   in_map (y ∷ l) x (inl e) = inl (ap f e)
   in_map (y ∷ l) x (inr m) = inr (in_map l x m)
+  in_map [] x x3 = elim x3 [ ]
 
   pub map_in : (l : List A) (b : B) → In b (map f l) → (x : A) × In x l × (b ≡ f x)
   map_in (y ∷ l) b (inl e) = (y, inl refl, e)
   map_in (y ∷ l) b (inr m) = let r = map_in l b m in (r.0, inr r.1, r.2)
+  map_in [] b x' = elim x' [ ]
 
   pub map_append : (l m : List A) → map f (l ++ m) ≡ map f l ++ map f m
   map_append [] m = refl
@@ -166,6 +175,7 @@ module _ {A B : Type 0} (f : A → B) where
   image_once (z ∷ l) (nz, d) x y (inl e) (inr m) h = absurd (nz (subst (λ (b : B). In b (map f l)) (sym h ∙ ap f e) (in_map l y m)))
   image_once (z ∷ l) (nz, d) x y (inr m) (inl q) h = absurd (nz (subst (λ (b : B). In b (map f l)) (h ∙ ap f q) (in_map l x m)))
   image_once (z ∷ l) (nz, d) x y (inr m) (inr n) h = image_once l d x y m n h
+  image_once [] _ x y x7 _ h = elim x7 [ ]
 
   pub distinct_map_keep : (p : A → Bool) (l : List A) → Distinct (map f l) → Distinct (map f (keep_if p l))
   distinct_map_keep p [] d = tt
@@ -195,6 +205,7 @@ module _ {A : Type 0} (same : A → A → Bool) (r : (x y : A) → Reflects (sam
       absent : x ≡ z → keep_if (λ y. not (same x y)) l ≡ l
       absent e = keep_all (λ y. not (same x y)) l
           (λ y i. simp (refutes (r x y) (λ (q : x ≡ y). nz (subst (λ (a : A). In a l) (sym q ∙ e) i))))
+  without_one w x [] _ m = elim m [ ]
 
   -- the list without distinct elements of it weighs so much less
   pub without_total : (w : A → ℕ) (xs l : List A) → Distinct l → Distinct xs → ((x : A) → In x xs → In x l)
