@@ -119,6 +119,7 @@ news_stale (suc k) (y ∷ ys) zs h q =
 stale : (ys zs : List Ask) → Ruled (ys ++ zs) → AllOver ys → NoNews ys
 stale (y ∷ ys) zs (f, o, h) t a (inl e) = rw e (o (t y (inl refl))).1
 stale (y ∷ ys) zs (f, o, h) t a (inr m) = stale ys zs h (λ x i. t x (inr i)) a m
+stale [] zs _ t a x4 = elim x4 [ ]
 
 soon : (ys zs : List Ask) → Ruled (ys ++ zs) → AllOver ys → length ys ≤ 12
 soon [] zs h t = zero-le
