@@ -20,7 +20,7 @@ pub overflow_add-acc : goal.overflow_add-acc
 overflow_add-acc c =
     let l = c.loop-k in
     let s = c in
-    omega (arith, room l.k s.args.count l.acc c.loop-k-test.true s.requires.1 l.invariant.1.1, c.byte_at.type-inv)
+    omega (arith, room l.k s.args.count l.acc c.loop-k-test.true s.requires.1 l.invariant.1.1, c.byte_at.type_inv)
 
 pub loop-k-preserved : goal.loop-k-preserved
 loop-k-preserved c =
@@ -30,7 +30,7 @@ loop-k-preserved c =
       omega arith,
       (
         rw c.byte_at.ensures (le_at_down a.s.now a.at l.k a.count l.acc c.loop-k-test.true l.invariant.0 l.invariant.1.0),
-        rw n (more_lt (a.count - l.k) l.acc c.byte_at.result l.invariant.1.1 (omega (arith, c.byte_at.type-inv))),
+        rw n (more_lt (a.count - l.k) l.acc c.byte_at.result l.invariant.1.1 (omega (arith, c.byte_at.type_inv))),
       ),
     )
 
