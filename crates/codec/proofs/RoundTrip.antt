@@ -58,7 +58,7 @@ entries_at_append p s at zero = refl
 entries_at_append p s at (suc n) = rw (entry_at_append, add_assoc, entries_at_append p s (at + 12) n)
 
 entries_at_bytes : (es : List Entry) (s : List ℕ) → EntriesFit es → entries_at (entries_bytes es ++ s) 0 (length es) ≡ es
-unfolding entries_at entries_bytes EntriesFit
+unfolding entries_at entries_bytes EntriesFit entry_bytes le_bytes
 entries_at_bytes [] s h = refl
 entries_at_bytes (e ∷ es) s h =
     let at12 : length (entry_bytes e) + 0 ≡ 12 = add-zero _ ∙ length_entry_bytes e in
