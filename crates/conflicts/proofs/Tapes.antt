@@ -57,6 +57,7 @@ module _ (j : Job) where
       record { place = a.place; from = omega (arith, a.from); until = omega (arith, a.until); used = a.used; is = a.is } in
       by_cases (λ b. In t (cond b (entry i ∷ rest) rest) → At i (suc n) t) (is_used j i)
       (λ e. ⊎_elim (λ q. record { place = i; from = le_refl i; until = omega arith; used = e; is = sym q }) later) (λ e. later) m
+  used_at_lem i zero t m = elim m [ ]
 
   pub at_used : (i n k : ℕ) → i ≤ k → k < i + n → is_used j k ≡ true → In (entry k) (used_from j i n)
   unfolding used_from
