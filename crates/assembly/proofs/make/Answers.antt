@@ -24,7 +24,7 @@ returns-then-why-ne0 c =
     let loop = turn in
     let m = loop.loop-left.invariant.0 in
     line_wrong m turn.loop-left-test.true skip.if-text-at.false skip.skip_blanks-start.result _ skip.skip_blanks-start.ensures.0
-    over.is_over_lem.ensures read.if-is_over.false _ read.front.ensures.0 _ _ _
+    over.is_over.ensures read.if-is_over.false _ read.front.ensures.0 _ _ _
     read.line_read-p.ensures _ judge.judge-why.ensures _ c.if-why-ne0.true c.verdict.ensures
 
 pub put-end-requires : goal.put-end-requires
@@ -37,7 +37,7 @@ put-end-requires c =
     let loop = turn in
     let m = loop.loop-left.invariant.0 in
     line_room_lem m turn.loop-left-test.true skip.if-text-at.false skip.skip_blanks-start.result _ skip.skip_blanks-start.ensures.0
-    over.is_over_lem.ensures read.if-is_over.false _ read.front.ensures.0 _ _ _
+    over.is_over.ensures read.if-is_over.false _ read.front.ensures.0 _ _ _
     read.line_read-p.ensures _ judge.judge-why.ensures c.if-why-ne0.false _ c.front-in-loop-left.ensures.0
 
 pub overflow_add-line-in-loop-left : goal.overflow_add-line-in-loop-left
@@ -60,7 +60,7 @@ loop-left-preserved c =
     let loop = turn in
     let m = loop.loop-left.invariant.0 in (
       line_turn m turn.loop-left-test.true skip.if-text-at.false skip.skip_blanks-start.result _ skip.skip_blanks-start.ensures.0
-          over.is_over_lem.ensures read.if-is_over.false _ read.front.ensures.0 _ _ _
+          over.is_over.ensures read.if-is_over.false _ read.front.ensures.0 _ _ _
           read.line_read-p.ensures _ judge.judge-why.ensures c.if-why-ne0.false _
           put.front-in-loop-left.ensures.0 _ _ _ put.put-end.ensures.0 c.after_line-at-in-loop-left.ensures.0 c.after_line-at-in-loop-left.ensures.1,
       read.line_read-p.auto.1.1.0 ∙ loop.loop-left.invariant.1,

@@ -4,8 +4,8 @@ use Rattle.commits.proofs.certify.Goals as goal
 
 pub returns-in-Pass : goal.returns-in-Pass
 unfolding committing
-returns-in-Pass c = simp (← c.certificate-verdict.ensures, c.enum_told-1.given.1) c.receive.ensures
+returns-in-Pass c = simp (← c.certificate-verdict.ensures, c.in-Pass.is) c.receive.ensures
 
 pub returns-in-Fail : goal.returns-in-Fail
 unfolding committing
-returns-in-Fail c = simp (← c.certificate-verdict.ensures, c.verdict-1.given.1) c.refuse.ensures
+returns-in-Fail c = simp (← c.certificate-verdict.ensures, c.in-Fail.is) c.refuse.ensures

@@ -6,7 +6,7 @@ use Rattle.conflicts.proofs.shares_at.Goals as goal
 
 pub returns-then-used : goal.returns-then-used
 unfolding shares_at label_in
-returns-then-used c = simp (sym c.used.ensures ∙ c.if-used.true, c.label_in_lem.ensures, c.label.ensures)
+returns-then-used c = simp (sym c.used.ensures ∙ c.if-used.true, c.label_in.ensures, c.label.ensures)
 
 pub returns : goal.returns
 unfolding shares_at

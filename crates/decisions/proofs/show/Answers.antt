@@ -2,7 +2,7 @@
 use Rattle.decisions.proofs.show.Goals as goal
 
 pub returns-in-Pass : goal.returns-in-Pass
-returns-in-Pass c = simp (c.enum_told-1.given.1, ← c.status.ensures) c.answer.ensures
+returns-in-Pass c = simp (c.in-Pass.is, ← c.status.ensures) c.answer.ensures
 
 pub returns-in-Fail : goal.returns-in-Fail
-returns-in-Fail c = simp c.gate-1.given.1 c.refuse.ensures
+returns-in-Fail c = simp c.in-Fail.is c.refuse.ensures

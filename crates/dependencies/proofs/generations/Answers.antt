@@ -8,7 +8,7 @@ unfolding ageing
 returns-then-is_held c =
     record {
       decision = simp (
-        sym c.is_held_lem.ensures ∙
+        sym c.is_held.ensures ∙
             c.if-is_held.true,
         ← c.age.ensures.0,
       ) c.answer.ensures;
@@ -20,7 +20,7 @@ pub returns : goal.returns
 unfolding ageing
 returns c =
     record {
-      decision = simp (sym c.is_held_lem.ensures ∙ c.if-is_held.false)
+      decision = simp (sym c.is_held.ensures ∙ c.if-is_held.false)
           c.refuse.ensures;
       right = c.requires.1.right;
       size = c.requires.1.size;

@@ -2,4 +2,4 @@
 use Rattle.estimates.proofs.first_failing.Goals as goal
 
 pub returns-in-Fail : goal.returns-in-Fail
-returns-in-Fail c = simp c.earlier-1.given.1
+returns-in-Fail c = simp c.in-Fail.is

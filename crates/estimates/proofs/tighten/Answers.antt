@@ -5,12 +5,12 @@ use Rattle.estimates.proofs.tighten.Goals as goal
 
 pub tightest-ranges-requires : goal.tightest-ranges-requires
 unfolding tighten_of
-tightest-ranges-requires c = checks_balance _ _ c.check.ensures c.enum_told-1.given.1
+tightest-ranges-requires c = checks_balance _ _ c.check.ensures c.in-Pass.is
 
 pub returns-in-Fail : goal.returns-in-Fail
 unfolding tighten_of
-returns-in-Fail c = simp (← c.check.ensures, c.why-1.given.1)
+returns-in-Fail c = simp (← c.check.ensures, c.in-Fail.is)
 
 pub returns-in-Pass : goal.returns-in-Pass
 unfolding tighten_of
-returns-in-Pass c = simp (← c.check.ensures, c.enum_told-1.given.1, c.tightest-ranges.ensures)
+returns-in-Pass c = simp (← c.check.ensures, c.in-Pass.is, c.tightest-ranges.ensures)

@@ -108,7 +108,7 @@ loop-s-preserved-then-is_nothing c =
     let same = v.carry_out-r.auto.1.1.1.1.1.1.1.0 in (
       come_on t _ _ _ _ _ _ _ _ _ o.0 o.2
           (took_quiet _ _ _ _ _ _ _ _ _ t.going o.0 o.1 _ s.step_at-s.ensures n.if-s.false _ _ _ _ _ _ v.carry_out-r.ensures _
-          c.is_nothing_lem.ensures c.if-is_nothing.true _ t.right same _ c.carried_out-c.ensures),
+          c.is_nothing.ensures c.if-is_nothing.true _ t.right same _ c.carried_out-c.ensures),
       still-same v.carry_out-r.auto.1.1.0 v.carry_out-r.auto.1.1.1.0 v.carry_out-r.auto.1.1.1.1.0 v.carry_out-r.auto.1.1.1.1.1.0 same
           h.loop-s.invariant.1,
     )
@@ -122,7 +122,7 @@ apply-ledger-requires c =
     let t = h.loop-s.invariant.0 in
     let o = h.goes_on.ensures.on s.loop-s-test.true in
     loud_placed _ _ h.loop-s.c _ _ _ _ _ _ t.going o.0 o.1 _ s.step_at-s.ensures n.if-s.false _ _ _ _ _ _
-    v.carry_out-r.ensures _ c.is_nothing_lem.ensures c.if-is_nothing.false
+    v.carry_out-r.ensures _ c.is_nothing.ensures c.if-is_nothing.false
 
 pub loop-s-smaller : goal.loop-s-smaller
 loop-s-smaller c =
@@ -144,7 +144,7 @@ loop-s-preserved c =
     let same = v.carry_out-r.auto.1.1.1.1.1.1.1.0 in (
       come_on t _ _ _ _ _ _ _ _ _ o.0 o.2
           (took_loud _ _ _ _ _ _ _ _ _ t.going o.0 o.1 _ s.step_at-s.ensures n.if-s.false _ _ _ _ _ _ v.carry_out-r.ensures _
-          a.is_nothing_lem.ensures a.if-is_nothing.false _ a.apply-ledger.ensures _ t.right same _
+          a.is_nothing.ensures a.if-is_nothing.false _ a.apply-ledger.ensures _ t.right same _
           a.carried_out-c.ensures _ c.still-named.ensures),
       still-same v.carry_out-r.auto.1.1.0 v.carry_out-r.auto.1.1.1.0 v.carry_out-r.auto.1.1.1.1.0 v.carry_out-r.auto.1.1.1.1.1.0 same
           h.loop-s.invariant.1,

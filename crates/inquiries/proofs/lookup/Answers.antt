@@ -5,8 +5,8 @@ use Rattle.inquiries.proofs.lookup.Goals as goal
 
 pub returns-then-is_sane : goal.returns-then-is_sane
 unfolding shown_of
-returns-then-is_sane c = let asked = c in simp (sym asked.is_sane_lem.ensures ∙ asked.if-is_sane.true, c.lookup.ensures)
+returns-then-is_sane c = let asked = c in simp (sym asked.is_sane.ensures ∙ asked.if-is_sane.true, c.lookup.ensures)
 
 pub returns : goal.returns
 unfolding shown_of
-returns c = let asked = c in simp (sym asked.is_sane_lem.ensures ∙ asked.if-is_sane.false)
+returns c = let asked = c in simp (sym asked.is_sane.ensures ∙ asked.if-is_sane.false)

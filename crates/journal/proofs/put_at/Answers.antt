@@ -11,5 +11,5 @@ returns c =
     let at = c.place-from in
     let size = c.record_size in
     rw (← at.ensures, ← size.ensures.0)
-    (copied s.args.journal-1.now s.args.bytes.now _ at.result size.result (s.requires.1 ∙ sym size.ensures.0)
+    (copied s.args.journal.now s.args.bytes.now _ at.result size.result (s.requires.1 ∙ sym size.ensures.0)
     c.copy.ensures.1)

@@ -5,32 +5,32 @@ use Rattle.load_steps.proofs.put.Goals as goal
 
 pub returns-in-Propose : goal.returns-in-Propose
 returns-in-Propose c = let d = c in let e = d in
-    (arm _ e.args.step-1 _ e.step-1.given.1 d.put_proposal.ensures.0, omega arith)
+    (arm _ e.args.step _ e.in-Propose.is d.put_proposal.ensures.0, omega arith)
 
 pub returns-in-Preflight : goal.returns-in-Preflight
 returns-in-Preflight c = let d = c in let e = d in
-    (arm _ e.args.step-1 _ e.step-in-Preflight-1.given.1 d.put_three.ensures.0, omega arith)
+    (arm _ e.args.step _ e.in-Preflight.is d.put_three.ensures.0, omega arith)
 
 pub returns-in-Commit : goal.returns-in-Commit
 returns-in-Commit c = let d = c in let e = d in
-    (arm _ e.args.step-1 _ e.step-in-Commit-1.given.1 d.put_commit.ensures.0, omega arith)
+    (arm _ e.args.step _ e.in-Commit.is d.put_commit.ensures.0, omega arith)
 
 pub returns-in-FaultySign : goal.returns-in-FaultySign
 returns-in-FaultySign c = let d = c in let e = d in
-    (arm _ e.args.step-1 _ e.step-in-FaultySign-1.given.1 d.put_three-in-FaultySign.ensures.0, omega arith)
+    (arm _ e.args.step _ e.in-FaultySign.is d.put_three-in-FaultySign.ensures.0, omega arith)
 
 pub returns-in-FaultyAcknowledge : goal.returns-in-FaultyAcknowledge
 returns-in-FaultyAcknowledge c = let d = c in let e = d in
-    (arm _ e.args.step-1 _ e.step-in-FaultyAcknowledge-1.given.1 d.put_three-in-FaultyAcknowledge.ensures.0, omega arith)
+    (arm _ e.args.step _ e.in-FaultyAcknowledge.is d.put_three-in-FaultyAcknowledge.ensures.0, omega arith)
 
 pub returns-in-Show : goal.returns-in-Show
 returns-in-Show c = let d = c in let e = d in
-    (arm _ e.args.step-1 _ e.step-in-Show-1.given.1 d.put_two.ensures.0, omega arith)
+    (arm _ e.args.step _ e.in-Show.is d.put_two.ensures.0, omega arith)
 
 pub returns-in-Draw : goal.returns-in-Draw
 returns-in-Draw c = let d = c in let e = d in
-    (arm _ e.args.step-1 _ e.step-in-Draw-1.given.1 d.put_two-in-Draw.ensures.0, omega arith)
+    (arm _ e.args.step _ e.in-Draw.is d.put_two-in-Draw.ensures.0, omega arith)
 
 pub returns-in-Generations : goal.returns-in-Generations
 returns-in-Generations c = let d = c in let e = d in
-    (arm _ e.args.step-1 _ e.step-in-Generations-1.given.1 d.put_two-in-Generations.ensures.0, omega arith)
+    (arm _ e.args.step _ e.in-Generations.is d.put_two-in-Generations.ensures.0, omega arith)

@@ -14,7 +14,7 @@ write-requires c = writes _ _ _ _ _ c.propose-decision.ensures
 pub returns-then-is_sane : goal.returns-then-is_sane
 unfolding propose_of journal_after propose_decision sane_gate
 returns-then-is_sane c =
-    let s = sym c.is_sane_lem.ensures
+    let s = sym c.is_sane.ensures
     ∙ c.if-is_sane.true in (
       simp (s, ← c.propose-decision.ensures) c.carry.ensures,
       simp
@@ -23,7 +23,7 @@ returns-then-is_sane c =
 
 pub returns : goal.returns
 unfolding propose_of journal_after propose_decision sane_gate applied
-returns c = let s = sym c.is_sane_lem.ensures ∙ c.if-is_sane.false in (simp s c.turn_back.ensures, simp s)
+returns c = let s = sym c.is_sane.ensures ∙ c.if-is_sane.false in (simp s c.turn_back.ensures, simp s)
 
 pub propose-decision-requires : goal.propose-decision-requires
 propose-decision-requires c = search by

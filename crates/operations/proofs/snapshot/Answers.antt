@@ -10,14 +10,14 @@ ruleset by = (entering, rules)
 pub returns-then-is_sane : goal.returns-then-is_sane
 unfolding snapshot_of snapshot_decision sane_gate
 returns-then-is_sane c = simp (
-  sym c.is_sane_lem.ensures
+  sym c.is_sane.ensures
       ∙ c.if-is_sane.true,
   ← c.snapshot.ensures,
 ) c.carry.ensures
 
 pub returns : goal.returns
 unfolding snapshot_of snapshot_decision sane_gate applied
-returns c = simp (sym c.is_sane_lem.ensures ∙ c.if-is_sane.false) c.turn_back.ensures
+returns c = simp (sym c.is_sane.ensures ∙ c.if-is_sane.false) c.turn_back.ensures
 
 pub bounds-ledger-v : goal.bounds-ledger-v
 bounds-ledger-v c = search by

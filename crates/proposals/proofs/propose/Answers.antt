@@ -41,7 +41,7 @@ returns-in-Pass c =
       ← own _ _ _ _ c.if-bytes-record_size.false c.record_size.ensures.0
           c.read-job.ensures,
       ← c.check-verdict.ensures,
-      c.enum_told-1.given.1,
+      c.in-Pass.is,
     ) c.settle.ensures
 
 pub returns-in-Fail : goal.returns-in-Fail
@@ -53,5 +53,5 @@ returns-in-Fail c =
       ← own _ _ _ _ c.if-bytes-record_size.false
           c.record_size.ensures.0 c.read-job.ensures,
       ← c.check-verdict.ensures,
-      c.verdict-1.given.1,
+      c.in-Fail.is,
     ) c.refuse-in-Fail.ensures

@@ -12,6 +12,6 @@ pub returns : goal.returns
 returns c =
     let d = c in
     let s = d in
-    let sets = s.well_formed_lem.1.1.1.1.1 in
+    let sets = s.well_formed.1.1.1.1.1 in
     admission_booked _ _ _ _ _ s.requires.1 _ _ (search (sets.0, rules)) (search (sets.1.0, rules)) _ _ _ _ _ s.requires.0
     d.lookup-part.ensures c.inputs_of-inputs.ensures c.outputs_of-outputs.ensures c.admission_by.ensures

@@ -2,20 +2,20 @@
 use Rattle.reading.proofs.formed_step.Goals as goal
 
 pub returns-in-Bare : goal.returns-in-Bare
-returns-in-Bare c = simp (c.enum_told-1.given.1, c.named.ensures)
+returns-in-Bare c = simp (c.in-Bare.is, c.named.ensures)
 
 pub returns-in-OfJob : goal.returns-in-OfJob
-returns-in-OfJob c = simp (c.enum_told-in-OfJob-1.given.1, c.byte_at-job.ensures, c.named-in-OfJob.ensures)
+returns-in-OfJob c = simp (c.in-OfJob.is, c.byte_at-job.ensures, c.named-in-OfJob.ensures)
 
 pub returns-in-OfVault : goal.returns-in-OfVault
 returns-in-OfVault c = let b = c in
-    simp (b.enum_told-in-OfVault-1.given.1, b.byte_at-vault.ensures, c.byte_at-job-in-OfVault.ensures, c.named-in-OfVault.ensures)
+    simp (b.in-OfVault.is, b.byte_at-vault.ensures, c.byte_at-job-in-OfVault.ensures, c.named-in-OfVault.ensures)
 
 pub returns-in-OfClient : goal.returns-in-OfClient
 returns-in-OfClient c = let b = c in
     let a = b in
     simp (
-      a.enum_told-in-OfClient-1.given.1,
+      a.in-OfClient.is,
       a.byte_at-vault-in-OfClient.ensures,
       b.byte_at-job-in-OfClient.ensures,
       b.byte_at.ensures,
@@ -24,4 +24,4 @@ returns-in-OfClient c = let b = c in
     )
 
 pub returns-in-Unreadable : goal.returns-in-Unreadable
-returns-in-Unreadable c = simp (c.enum_told-in-Unreadable-1.given.1, c.unreadable.ensures)
+returns-in-Unreadable c = simp (c.in-Unreadable.is, c.unreadable.ensures)

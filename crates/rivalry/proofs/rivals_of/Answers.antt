@@ -14,4 +14,4 @@ returns c =
     let counts = c in
     let p = counts.requires in
     rivals_booked _ _ _ _ _ p.1 _ _ _ _ _ p.0 counts.lookup-part.ensures counts.inputs_of-inputs.ensures c.outputs_of-outputs.ensures
-    c.rivals_by_lem.ensures
+    c.rivals_by.ensures

@@ -11,7 +11,7 @@ pub returns : goal.returns
 returns c =
     let s = c in
     let n : length s.args.job.entries ≡ 8 = search length_mapped in
-    let fits = entries_fit _ _ s.well_formed_lem.1.0.1.1.1.1.1.1.0.1.1 in
+    let fits = entries_fit _ _ s.well_formed.1.0.1.1.1.1.1.1.0.1.1 in
     c.read.ensures
     ∙ same_job s.args.version s.args.job _ _ (record { eight = n; fit = fits; trimmed = search rules }) (size_most _)
     c.write.ensures.1

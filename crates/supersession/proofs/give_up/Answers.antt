@@ -6,8 +6,8 @@ pub returns-in-Pass : goal.returns-in-Pass
 unfolding releasing
 returns-in-Pass c =
     let told = c in
-    simp (← told.supersession-verdict.ensures, told.enum_told-1.given.1, c.release.ensures, c.size.ensures)
+    simp (← told.supersession-verdict.ensures, told.in-Pass.is, c.release.ensures, c.size.ensures)
 
 pub returns-in-Fail : goal.returns-in-Fail
 unfolding releasing
-returns-in-Fail c = simp (← c.supersession-verdict.ensures, c.verdict-1.given.1) c.refuse.ensures
+returns-in-Fail c = simp (← c.supersession-verdict.ensures, c.in-Fail.is) c.refuse.ensures

@@ -2,7 +2,7 @@
 use Rattle.dependencies.proofs.missing.if_admitted.Goals as goal
 
 pub returns-in-Pass : goal.returns-in-Pass
-returns-in-Pass c = simp c.enum_told-1.given.1 c.list.ensures
+returns-in-Pass c = simp c.in-Pass.is c.list.ensures
 
 pub returns-in-Fail : goal.returns-in-Fail
-returns-in-Fail c = simp c.enum_told-in-Fail-1.given.1 c.unlist.ensures
+returns-in-Fail c = simp c.in-Fail.is c.unlist.ensures

@@ -4,4 +4,4 @@ use Rattle.index.proofs.words.set_at.Goals as goal
 
 pub returns : goal.returns
 unfolding set_at
-returns c = c.in_words_lem.ensures
+returns c = c.in_words.ensures

@@ -3,4 +3,4 @@ use mathlib.Core.Path.{◌∙◌, ap}
 use Rattle.kinds.proofs.gates.gate.Goals as goal
 
 pub returns : goal.returns
-returns c = c.gate.ensures ∙ ap (gate_of _ _ _) c.is_booked_lem.ensures
+returns c = c.gate.ensures ∙ ap (gate_of _ _ _) c.is_booked-known.ensures

@@ -4,10 +4,10 @@ use Rattle.preflights.proofs.clients.client_preflight.Goals as goal
 pub consult_for-requires : goal.consult_for-requires
 consult_for-requires c =
     let start = c in
-    (start.requires.0.below c.enum_told-1.given.1, start.requires.1)
+    (start.requires.0.below c.in-Pass.is, start.requires.1)
 
 pub returns-in-Pass : goal.returns-in-Pass
-returns-in-Pass c = simp c.enum_told-1.given.1 c.consult_for.ensures
+returns-in-Pass c = simp c.in-Pass.is c.consult_for.ensures
 
 pub returns-in-Fail : goal.returns-in-Fail
-returns-in-Fail c = simp c.gate-1.given.1 c.refuse.ensures
+returns-in-Fail c = simp c.in-Fail.is c.refuse.ensures

@@ -9,8 +9,8 @@ returns-then-has c = simp (sym c.has.ensures ∙ c.if-has.true)
 pub returns-in-Pass : goal.returns-in-Pass
 unfolding vault_preflight
 returns-in-Pass c =
-    simp (sym c.has.ensures ∙ c.if-has.false, c.enum_told-1.given.1, c.sign.ensures)
+    simp (sym c.has.ensures ∙ c.if-has.false, c.in-Pass.is, c.sign.ensures)
 
 pub returns-in-Fail : goal.returns-in-Fail
 unfolding vault_preflight
-returns-in-Fail c = simp (sym c.has.ensures ∙ c.if-has.false, c.admission-1.given.1)
+returns-in-Fail c = simp (sym c.has.ensures ∙ c.if-has.false, c.in-Fail.is)
