@@ -9,10 +9,10 @@ put_at-requires c =
 pub returns-then-is_book : goal.returns-then-is_book
 returns-then-is_book c =
     let s = c.args in
-    written s.change _ s.booked s.version s.journal-1.now s.bytes.now _ c.is_book.ensures
+    written s.change _ s.booked s.version s.journal.now s.bytes.now _ c.is_book.ensures
     c.if-is_book.true c.put_at.ensures
 
 pub returns : goal.returns
 returns c =
     let s = c.args in
-    unwritten s.change _ s.booked s.version s.journal-1.now s.bytes.now c.is_book.ensures c.if-is_book.false
+    unwritten s.change _ s.booked s.version s.journal.now s.bytes.now c.is_book.ensures c.if-is_book.false

@@ -6,7 +6,7 @@ use Rattle.load_steps.proofs.put_record.Goals as goal
 
 pub returns : goal.returns
 returns c = let a = c.args in (
-  recorded a.out-1.now _ a.at (job_for a.first a.job) _ (eight a.first a.job) c.requires
+  recorded a.out.now _ a.at (job_for a.first a.job) _ (eight a.first a.job) c.requires
       c.job.ensures c.write.ensures.1,
   refl,
 )

@@ -28,7 +28,7 @@ returns c =
     let l = c.loop-i in
     let a = c.args in
     let n : length a.job.entries ≡ 8 = search length_mapped in
-    body_done a.out-1.now l.out-1 a.job l.i c.loop-i-test.false n l.invariant.1.1.1
+    body_done a.out.now l.out-1 a.job l.i c.loop-i-test.false n l.invariant.1.1.1
 
 pub bounds-out-1 : goal.bounds-out-1
 bounds-out-1 c = simp length-set (omega arith)

@@ -14,7 +14,7 @@ pub returns-then-out-record_size : goal.returns-then-out-record_size
 unfolding written fits_record
 returns-then-out-record_size c =
     let a = c.args in
-    let short = lt-leb (record_size a.version) (length a.out-1.now) (omega (arith, c.record_size.ensures.0, c.if-out-record_size.true)) in
+    let short = lt-leb (record_size a.version) (length a.out.now) (omega (arith, c.record_size.ensures.0, c.if-out-record_size.true)) in
     (sym short, simp short)
 
 -- In what follows b is the place after the body was stored, and f the one after the buffer was found long enough.
@@ -34,9 +34,9 @@ returns-then-says_trimmed c =
     let b = c in
     let f = b in
     let a = f.args in
-    let fits : record_size a.version ≤ length a.out-1.now = omega (arith, f.record_size.ensures.0, f.if-out-record_size.false) in
+    let fits : record_size a.version ≤ length a.out.now = omega (arith, f.record_size.ensures.0, f.if-out-record_size.false) in
     let says = sym c.says_trimmed.ensures ∙ c.if-says_trimmed.true in
-    (sym (le-leb _ _ fits), write_trimmed a.version a.out-1.now _ _ a.job says n fits b.put_body.ensures c.put_number.ensures)
+    (sym (le-leb _ _ fits), write_trimmed a.version a.out.now _ _ a.job says n fits b.put_body.ensures c.put_number.ensures)
 
 pub returns : goal.returns
 unfolding fits_record
@@ -46,6 +46,6 @@ returns c =
     let b = c in
     let f = b in
     let a = f.args in
-    let fits : record_size a.version ≤ length a.out-1.now = omega (arith, f.record_size.ensures.0, f.if-out-record_size.false) in
+    let fits : record_size a.version ≤ length a.out.now = omega (arith, f.record_size.ensures.0, f.if-out-record_size.false) in
     let says = sym c.says_trimmed.ensures ∙ c.if-says_trimmed.false in
-    (sym (le-leb _ _ fits), write_plain a.version a.out-1.now _ a.job says n fits b.put_body.ensures)
+    (sym (le-leb _ _ fits), write_plain a.version a.out.now _ a.job says n fits b.put_body.ensures)
