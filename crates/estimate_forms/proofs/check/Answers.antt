@@ -8,11 +8,11 @@ unfolding form_of
 returns-then-all_bounded c = let t = c in
     simp (
       ← t.lowest_job-job.ensures,
-      sym t.all_bounded.ensures ∙ t.if-all_bounded.taken,
+      sym t.all_bounded.ensures ∙ t.if-all_bounded.true,
       c.without_balance.ensures,
       c.check.ensures,
     )
 
 pub returns : goal.returns
 unfolding form_of
-returns c = simp (← c.lowest_job-job.ensures, sym c.all_bounded.ensures ∙ c.if-all_bounded.left)
+returns c = simp (← c.lowest_job-job.ensures, sym c.all_bounded.ensures ∙ c.if-all_bounded.false)

@@ -5,8 +5,8 @@ use Rattle.spans.proofs.check_order.Goals as goal
 
 pub returns-then-reversed-lt8 : goal.returns-then-reversed-lt8
 unfolding order_of
-returns-then-reversed-lt8 c = simp (← c.first_reversed-reversed.ensures, lt-ltb _ _ c.if-reversed-lt8.taken)
+returns-then-reversed-lt8 c = simp (← c.first_reversed-reversed.ensures, lt-ltb _ _ c.if-reversed-lt8.true)
 
 pub returns : goal.returns
 unfolding order_of
-returns c = simp (← c.first_reversed-reversed.ensures, le-ltb _ _ c.if-reversed-lt8.left)
+returns c = simp (← c.first_reversed-reversed.ensures, le-ltb _ _ c.if-reversed-lt8.false)
