@@ -1,5 +1,4 @@
 -- The bytes copied into the part are the part, and what stands around it is left.
-use mathlib.Core.Path.{◌∙◌, sym}
 use Rattle.journal.proofs.Slots.{copied}
 use Rattle.journal.specs.Journal.{put_at}
 use Rattle.journal.proofs.put_at.Goals as goal
@@ -7,9 +6,6 @@ use Rattle.journal.proofs.put_at.Goals as goal
 pub returns : goal.returns
 unfolding put_at
 returns c =
-    let s = c in
     let at = c.place-from in
     let size = c.record_size in
-    rw (← at.ensures, ← size.ensures.0)
-    (copied s.args.journal.now s.args.bytes.now _ at.result size.result (s.requires.1 ∙ sym size.ensures.0)
-    c.copy.ensures.1)
+    rw (← at.ensures, ← size.ensures.0) (copied c.args.journal.now c.args.bytes.now _ at.result size.result c.copy_from_slice.ensures.after)
