@@ -17,3 +17,6 @@ returns-then-version-eq2 c =
     let way = said in
     let put = frames_put _ _ way.if-version-eq2.true way.if-trimmed-eq0.false said.put.ensures.0 in
     (put, frames_end _ _ put)
+
+pub returns : goal.returns
+returns c = search by
