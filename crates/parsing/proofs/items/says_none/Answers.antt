@@ -9,3 +9,6 @@ ruleset by = (short_none, rules)
 pub returns : goal.returns
 unfolding says_none
 returns c = rw (← c.four.ensures) (same_is _ _ _ c.same.ensures)
+
+pub returns-then-text-at-lt4 : goal.returns-then-text-at-lt4
+returns-then-text-at-lt4 c = search by
