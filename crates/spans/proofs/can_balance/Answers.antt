@@ -6,7 +6,7 @@ use Rattle.spans.proofs.can_balance.Goals as goal
 pub returns-then-e-eq1 : goal.returns-then-e-eq1
 unfolding can_balance
 returns-then-e-eq1 c = let found = c in
-    simp (eq-eqb _ _ found.if-e-eq1.true, c.meet.ensures, found.inward.ensures.0, c.outward.ensures.0)
+    simp (eq-eqb _ _ found.if-e-eq1.true, c.meet.ensures, found.inward.ensures.value, c.outward.ensures.value)
 
 pub returns : goal.returns
 unfolding can_balance

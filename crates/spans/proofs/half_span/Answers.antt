@@ -33,7 +33,10 @@ returns c =
     let l = c.loop-i in
     let out = c.loop-i-test.false in
     let sums = l.invariant.1.1.1 in
-    (simp (sum_end _ _ _ _ l.i l.least out sums.0, sum_end _ _ _ _ l.i l.most out sums.1), (omega arith, omega arith))
+    record {
+      value = simp (sum_end _ _ _ _ l.i l.least out sums.0, sum_end _ _ _ _ l.i l.most out sums.1);
+      least_bound = (omega arith, omega arith);
+    }
 
 pub overflow_add-least : goal.overflow_add-least
 overflow_add-least c = omega (arith, c.wide-least.ensures)
