@@ -17,7 +17,7 @@ loop-i-preserved c =
     let a = c.args in
     let p = c.put_entry in
     let n : length a.job.entries ≡ 8 = search length_mapped in
-    (omega arith, (p.auto.0 ∙ l.invariant.1.0, (l.invariant.1.1.0, rw p.ensures (write_step _ _ _ l.i (omega arith) ∙ l.invariant.1.1.1))))
+    (omega arith, (p.auto.out ∙ l.invariant.1.0, (l.invariant.1.1.0, rw p.ensures (write_step _ _ _ l.i (omega arith) ∙ l.invariant.1.1.1))))
 
 pub shape_of-out : goal.shape_of-out
 shape_of-out c = c.loop-i.invariant.1.0 ∙ simp length-set
@@ -28,7 +28,7 @@ returns c =
     let l = c.loop-i in
     let a = c.args in
     let n : length a.job.entries ≡ 8 = search length_mapped in
-    body_done a.out.now l.out-1 a.job l.i c.loop-i-test.false n l.invariant.1.1.1
+    body_done a.out.now l.out a.job l.i c.loop-i-test.false n l.invariant.1.1.1
 
 pub bounds-out-1 : goal.bounds-out-1
 bounds-out-1 c = simp length-set (omega arith)

@@ -24,7 +24,7 @@ put_number-requires c =
     let f = b in
     let s = trimmed_size _ (sym c.says_trimmed.ensures ∙ c.if-says_trimmed.true) in
     let room : 104 ≤ length f.args.out.now = omega (arith, s, f.if-out-record_size.false, f.record_size.ensures.0) in
-    simp b.put_body.auto.1.0 (omega (arith, room))
+    simp b.put_body.auto.out (omega (arith, room))
 
 pub returns-then-says_trimmed : goal.returns-then-says_trimmed
 unfolding fits_record
