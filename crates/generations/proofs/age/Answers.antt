@@ -7,14 +7,22 @@ pub returns-then-known-gt0 : goal.returns-then-known-gt0
 returns-then-known-gt0 c =
     let s = c in
     let known = c.memo_of-known.ensures in
-    (rw (sym known) at (memo_age _ _ _ _ s.requires.right s.args.job (rw known at c.if-known-gt0.true)), (s.requires.right, s.requires.size))
+    record {
+      value = rw (sym known) at (memo_age _ _ _ _ s.requires.right s.args.job (rw known at c.if-known-gt0.true));
+      memo = s.requires.right;
+      memo_len = s.requires.size;
+    }
 
 pub returns : goal.returns
 returns c =
     let s = c in
     let a = c.age_along in
-    let found = found_taken _ _ _ _ _ _ _ _ s.requires _ _ _ a.ensures.0 a.ensures.1 in
-    (found.0, (found.1, a.auto.1.1.1.1.1.1.0 ∙ s.requires.size))
+    let found = found_taken _ _ _ _ _ _ _ _ s.requires _ _ _ a.ensures.value a.ensures.memo in
+    record {
+      value = found.0;
+      memo = found.1;
+      memo_len = a.auto.memo ∙ s.requires.size;
+    }
 
 pub slice_bounds-age_along-end : goal.slice_bounds-age_along-end
 slice_bounds-age_along-end c = taken_length _ _ _ _ _ _ _ _ c.requires

@@ -7,15 +7,24 @@ pub generation-requires : goal.generation-requires
 generation-requires c =
     let s = c in
     let first = position_first s.args.order.now _ _ _ c.position-p.ensures c.if-p-order.true in
-    (s.requires, rw (sym first.has) at first)
+    record {
+      ready = s.requires;
+      first_at = rw (sym first.has) at first;
+    }
 
 pub returns-then-p-order : goal.returns-then-p-order
 returns-then-p-order c =
     let g = c.generation.ensures in
     let p = c.position-p in
-    (age_found _ _ _ _ _ _ p.ensures c.if-p-order.true g.0, g.1)
+    record {
+      value = age_found _ _ _ _ _ _ p.ensures c.if-p-order.true g.value;
+      memo = g.memo;
+    }
 
 pub returns : goal.returns
 returns c =
     let s = c in
-    (age_missing _ _ _ _ _ c.position-p.ensures c.if-p-order.false, s.requires.right)
+    record {
+      value = age_missing _ _ _ _ _ c.position-p.ensures c.if-p-order.false;
+      memo = s.requires.right;
+    }
