@@ -21,11 +21,11 @@ loop-i-init c =
       entry = omega arith;
       eight = eight;
       migration = c.if-e-ne1.false;
-      in_is = c.inward-inward.ensures.0;
-      out_is = c.outward-outward.ensures.0;
+      in_is = c.inward-inward.ensures.value;
+      out_is = c.outward-outward.ensures.value;
       meet =
-          meeting _ _ _ c.inward-inward.ensures.0 c.outward-outward.ensures.0 c.if-e-ne1.false c.requires
-          c.inward-inward.ensures.1 c.outward-outward.ensures.1;
+          meeting _ _ _ c.inward-inward.ensures.value c.outward-outward.ensures.value c.if-e-ne1.false c.requires
+          c.inward-inward.ensures.least_bound c.outward-outward.ensures.least_bound;
       rest = list_start _ 8 _ eight;
     }
 
