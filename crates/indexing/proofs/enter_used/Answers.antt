@@ -17,8 +17,5 @@ put-requires c =
 
 pub returns : goal.returns
 returns c =
-    let put = c in
-    let mark = put in
-    let found = mark in
-    let p = found.requires in
-    entries_next _ _ _ _ p.2 _ _ _ _ _ _ _ p.1 found.Numbers-of.ensures put.bucket.ensures put.put.ensures mark.mark.ensures
+    let p = c.requires in
+    entries_next _ _ _ _ p.2 _ _ _ _ _ _ _ p.1 c.numbers_of-own.ensures c.bucket.ensures c.put.ensures c.mark.ensures
