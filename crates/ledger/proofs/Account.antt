@@ -131,7 +131,7 @@ pub record Books (r : Register) : Type 0 where
   pub stands_by : (t : Entry) → In t r.standing → (k : ℕ) × (In k r.taken × In t (output_tapes (tabled r.table k)))
   -- and has no label that a taken job retired
   pub unretired : (t : Entry) → In t r.standing → (k : ℕ) → In k r.taken → In t.label (labels (input_tapes (tabled r.table k))) → ⊥
-  pub made_by_lem : (x : ℕ) → In x r.made → (k : ℕ) × (In k r.taken × In x (labels (output_tapes (tabled r.table k))))
+  pub made_by_taken : (x : ℕ) → In x r.made → (k : ℕ) × (In k r.taken × In x (labels (output_tapes (tabled r.table k))))
   pub made_all : (k x : ℕ) → In k r.taken → In x (labels (output_tapes (tabled r.table k))) → In x r.made
   pub makers_once : (i k x : ℕ) → In i r.taken → In k r.taken → In x (labels (output_tapes (tabled r.table i)))
       → In x (labels (output_tapes (tabled r.table k))) → i ≡ k
@@ -151,7 +151,7 @@ books_new version = record {
   stands = λ k t m. absurd m;
   stands_by = λ t m. absurd m;
   unretired = λ t m. absurd m;
-  made_by_lem = λ x m. absurd m;
+  made_by_taken = λ x m. absurd m;
   made_all = λ k x m. absurd m;
   makers_once = λ i k x m. absurd m;
   creators = λ k m. absurd m;
@@ -207,7 +207,7 @@ module _ (r : Register) (k : ℕ) (b : Books r) (h : k < length r.table) (a : Ca
 
   makers : (x : ℕ) → In x r.made ⊎ In x (labels (output_tapes j))
       → (i : ℕ) × (In i (r.taken ++ (k ∷ [])) × In x (labels (output_tapes (tabled r.table i))))
-  makers x (inl m) = let q = b.made_by x m in (q.0, (in_left r.taken (k ∷ []) q.0 q.1.0, q.1.1))
+  makers x (inl m) = let q = b.made_by_taken x m in (q.0, (in_left r.taken (k ∷ []) q.0 q.1.0, q.1.1))
   makers x (inr m) = (k, (in_last r.taken k, m))
 
   one_maker : (i m x : ℕ) → In i r.taken ⊎ (i ≡ k) → In m r.taken ⊎ (m ≡ k) → In x (labels (output_tapes (tabled r.table i)))
@@ -283,7 +283,7 @@ module _ (r : Register) (k : ℕ) (b : Books r) (h : k < length r.table) (a : Ca
     stands = λ i t m o n. stood i t (in_snoc r.taken k i m) o n;
     stands_by = λ t m. stood_by t (in_append rest (output_tapes j) t m);
     unretired = λ t m i p. kept t (in_append rest (output_tapes j) t m) i (in_snoc r.taken k i p);
-    made_by_lem = λ x m. makers x (in_append r.made (labels (output_tapes j)) x m);
+    made_by_taken = λ x m. makers x (in_append r.made (labels (output_tapes j)) x m);
     made_all = λ i x m o. ⊎_elim
         (λ (p : In i r.taken). in_left r.made (labels (output_tapes j)) x (b.made_all i x p o))
         (λ (e : i ≡ k). in_right r.made (labels (output_tapes j)) x (subst (λ (z : ℕ). In x (labels (output_tapes (tabled r.table z)))) e o))
@@ -324,7 +324,7 @@ books_enter r bytes b =
       stands = λ k t m o n. b.stands k t m (rw (e k m) at o) (λ i p q. n i p (rw (e i p) q));
       stands_by = λ t m. let q = b.stands_by t m in (q.0, (q.1.0, rw (e q.0 q.1.0) q.1.1));
       unretired = λ t m k p x. b.unretired t m k p (rw (e k p) at x);
-      made_by_lem = λ x m. let q = b.made_by x m in (q.0, (q.1.0, rw (e q.0 q.1.0) q.1.1));
+      made_by_taken = λ x m. let q = b.made_by_taken x m in (q.0, (q.1.0, rw (e q.0 q.1.0) q.1.1));
       made_all = λ k x m o. b.made_all k x m (rw (e k m) at o);
       makers_once = λ i k x p q o n. b.makers_once i k x p q (rw (e i p) at o) (rw (e k q) at n);
       creators = λ k m t i.

@@ -300,7 +300,7 @@ module _ {w : World} {r : Register} (i : Inv w r) where
           i.books.stands p.maker t (i.held_taken q.0 p.maker p.holds) p.makes
           (λ n x y. (apart n x).inputs t.label y (in_map (λ (t : Entry). t.label) (input_tapes (job k)) t m));
       new = λ t m x.
-          let q = i.books.made_by t.label x in
+          let q = i.books.made_by_taken t.label x in
           (apart q.0 q.1.0).outputs t.label q.1.1 (in_map (λ (t : Entry). t.label) (output_tapes (job k)) t m);
     }
 

@@ -85,9 +85,9 @@ numbers i zero = []
 numbers i (suc n) = i ∷ numbers (suc i) n
 
 from_numbers : (i n k : ℕ) → In k (numbers i n) → i ≤ k
+from_numbers i zero k x' = elim x' [ ]
 from_numbers i (suc n) k (inl e) = omega (arith, e)
 from_numbers i (suc n) k (inr m) = omega (arith, from_numbers (suc i) n k m)
-from_numbers i zero k x' = elim x' [ ]
 
 in_numbers : (i n k : ℕ) → i ≤ k → k < i + n → In k (numbers i n)
 in_numbers i zero k h b = absurd (omega (arith, h, b))
