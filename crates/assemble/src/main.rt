@@ -1,52 +1,46 @@
 // Reads the text of a run file from standard input and writes the file; or, where a line is wrong, its number and why, and no file.
 #![tactic(auto)]
 
-use libc::{STDIN_FILENO, STDOUT_FILENO};
-
-fn print(words: &[u8]) {
-    io::write_all(STDOUT_FILENO, words);
-}
+use std::io;
+use std::io::Print;
 
 // The reasons in words, by their numbers.
-fn print_reason(reason: u8) {
+fn print_reason(rt: &HostRuntime, reason: u8) -> io::Result<()> {
     match reason {
-        1 => print(b"a number is missing"),
-        2 => print(b"the number is too large"),
-        3 => print(b"the set names a vault above 15"),
-        4 => print(b"the label is not eight characters of A to Z and 0 to 9"),
-        5 => print(b"two hexadecimal digits are missing"),
-        6 => print(b"the line does not go on as its first word asks"),
-        7 => print(b"unknown word"),
-        8 => print(b"more stands on the line than it should"),
-        9 => print(b"too many entries: four at most on either side"),
-        10 => print(b"a second header"),
-        11 => print(b"the header is missing: vaults N tolerate B faulty SET"),
-        12 => print(b"the settings are wrong"),
-        13 => print(b"the file would be longer than 65536 bytes"),
-        _ => print(b"unknown reason"),
+        1 => print!(rt; "a number is missing"),
+        2 => print!(rt; "the number is too large"),
+        3 => print!(rt; "the set names a vault above 15"),
+        4 => print!(rt; "the label is not eight characters of A to Z and 0 to 9"),
+        5 => print!(rt; "two hexadecimal digits are missing"),
+        6 => print!(rt; "the line does not go on as its first word asks"),
+        7 => print!(rt; "unknown word"),
+        8 => print!(rt; "more stands on the line than it should"),
+        9 => print!(rt; "too many entries: four at most on either side"),
+        10 => print!(rt; "a second header"),
+        11 => print!(rt; "the header is missing: vaults N tolerate B faulty SET"),
+        12 => print!(rt; "the settings are wrong"),
+        13 => print!(rt; "the file would be longer than 65536 bytes"),
+        _ => print!(rt; "unknown reason"),
     }
 }
 
-fn assemble(text: &[u8]) {
+fn assemble(rt: &HostRuntime, text: &[u8]) -> io::Result<()> {
     let mut out = [0u8; assembly::OUT];
     let made = assembly::assemble(text, &mut out);
     if made.reason == 0 {
-        print(parts::front(&out, made.end));
-        return;
+        return rt.write_all(parts::front(&out, made.end));
     }
-    print(b"line ");
-    io::print_decimal(STDOUT_FILENO, made.line);
-    print(b": ");
-    print_reason(made.reason);
-    print(b"\n");
+    let line = made.line;
+    print!(rt; "line {line}: ")?;
+    print_reason(rt, made.reason)?;
+    println!(rt)
 }
 
-fn main() {
+fn main(rt: HostRuntime) -> io::Result<()> {
     let mut text = assembly::text_buffer();
-    let n = io::read_full(STDIN_FILENO, &mut text);
+    let n = streams::read_full(&mut rt.stdin(), &mut text)?;
     if n < assembly::TEXT {
-        assemble(&text[..n]);
-        return;
+        return assemble(&rt, &text[..n]);
     }
-    print(b"the text is longer than 2097152 bytes\n");
+    println!(rt; "the text is longer than 2097152 bytes")
 }
