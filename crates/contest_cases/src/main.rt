@@ -3,61 +3,58 @@
 #![tactic(auto)]
 
 use contest::{Answer, Outlook, Prospect};
-use libc::STDOUT_FILENO;
+use std::io;
 
-fn figure(x: u8) {
-    io::print_decimal(STDOUT_FILENO, x as u64);
-    io::write_all(STDOUT_FILENO, b" ");
-}
-
-fn say_prospect(prospect: Prospect) {
+fn say_prospect(rt: &HostRuntime, prospect: Prospect) -> io::Result<()> {
     match prospect {
-        Prospect::First => io::write_all(STDOUT_FILENO, b"first"),
-        Prospect::Second => io::write_all(STDOUT_FILENO, b"second"),
-        Prospect::Neither => io::write_all(STDOUT_FILENO, b"neither"),
-    };
-}
-
-fn say_outlook(outlook: Outlook) {
-    let prospect = outlook.prospect;
-    say_prospect(prospect);
-    if outlook.both {
-        io::write_all(STDOUT_FILENO, b" both");
+        Prospect::First => print!(rt; "first"),
+        Prospect::Second => print!(rt; "second"),
+        Prospect::Neither => print!(rt; "neither"),
     }
 }
 
-fn say(answer: Answer) {
+fn say_outlook(rt: &HostRuntime, outlook: Outlook) -> io::Result<()> {
+    let prospect = outlook.prospect;
+    say_prospect(rt, prospect)?;
+    if outlook.both {
+        print!(rt; " both")?;
+    }
+    Ok(())
+}
+
+fn say(rt: &HostRuntime, answer: Answer) -> io::Result<()> {
     match answer {
-        Answer::Known(outlook) => say_outlook(outlook),
+        Answer::Known(outlook) => say_outlook(rt, outlook)?,
         Answer::Refused(why) => {
-            io::print_decimal(STDOUT_FILENO, why.number() as u64);
+            let number = why.number();
+            print!(rt; "{number}")?;
         }
     }
-    io::write_all(STDOUT_FILENO, b"\n");
+    println!(rt)
 }
 
-fn line(n: u8, f: u8, t: u8) {
-    figure(n);
-    figure(f);
-    figure(t);
-    say(contest::forecast(n, f, t));
+fn line(rt: &HostRuntime, n: u8, f: u8, t: u8) -> io::Result<()> {
+    print!(rt; "{n} {f} {t} ")?;
+    say(rt, contest::forecast(n, f, t))
 }
 
-fn thresholds(n: u8, f: u8, past: u8) {
+fn thresholds(rt: &HostRuntime, n: u8, f: u8, past: u8) -> io::Result<()> {
     for t in 0..past {
-        line(n, f, t);
+        line(rt, n, f, t)?;
     }
+    Ok(())
 }
 
-fn contests(n: u8, past: u8) {
+fn contests(rt: &HostRuntime, n: u8, past: u8) -> io::Result<()> {
     for f in 0..past {
-        thresholds(n, f, past);
+        thresholds(rt, n, f, past)?;
     }
+    Ok(())
 }
 
-fn main() {
+fn main(rt: HostRuntime) -> io::Result<()> {
     for n in 0..18 {
-        contests(n, n + 2);
+        contests(&rt, n, n + 2)?;
     }
-    line(255, 255, 255);
+    line(&rt, 255, 255, 255)
 }
