@@ -1,14 +1,10 @@
 // Reads a run file from standard input and prints its text, a piece at a time. What is read and what is printed is the library's choice.
 #![tactic(auto)]
 
-use libc::{STDIN_FILENO, STDOUT_FILENO};
+use std::io;
+use std::io::Print;
 
-// Whether it was written; where it was not, nothing more is.
-fn print(out: &[u8], written: usize) -> bool {
-    io::write_all(STDOUT_FILENO, parts::front(out, written))
-}
-
-fn carry_out(input: &[u8]) {
+fn carry_out(rt: &HostRuntime, input: &[u8]) -> io::Result<()> {
     let mut memo = [0u8; journal::CAPACITY];
     let mut journal = [0u8; run::JOURNAL];
     let mut numbers = [0u16; index::NUMBERS];
@@ -16,7 +12,7 @@ fn carry_out(input: &[u8]) {
     let mut records = [0u16; index::RECORDS];
     let mut out = [0u8; run::PIECE];
     let mut progress = run::start(input, &mut out);
-    print(&out, progress.written);
+    rt.write_all(parts::front(&out, progress.written))?;
     while progress.pos < input.len() {
         progress = run::advance(
             progress,
@@ -28,15 +24,13 @@ fn carry_out(input: &[u8]) {
             input,
             &mut out,
         );
-        if print(&out, progress.written) {
-            continue;
-        }
-        return;
+        rt.write_all(parts::front(&out, progress.written))?;
     }
+    Ok(())
 }
 
-fn main() {
+fn main(rt: HostRuntime) -> io::Result<()> {
     let mut input = header::input_buffer();
-    let n = io::read_full(STDIN_FILENO, &mut input);
-    carry_out(&input[..n]);
+    let n = streams::read_full(&mut rt.stdin(), &mut input)?;
+    carry_out(&rt, &input[..n])
 }
