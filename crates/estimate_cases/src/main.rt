@@ -4,8 +4,8 @@
 
 mod cases;
 
-use libc::STDOUT_FILENO;
 use ranges::{Estimate, Range};
+use std::io;
 
 // VAA001L6 in entry 0, VAB001L6 in entry 1 and so on, in as many entries of its half as are used.
 pub(crate) fn label(entry: u8, used: u8) -> u64 {
@@ -44,28 +44,26 @@ pub(crate) fn migration(inputs: u8, outputs: u8, ranges: [Range; 8], trimmed: u3
     }
 }
 
-fn say_range(range: Range) {
-    io::write_all(STDOUT_FILENO, b" ");
-    io::print_decimal(STDOUT_FILENO, range.lowest as u64);
-    io::write_all(STDOUT_FILENO, b"-");
-    io::print_decimal(STDOUT_FILENO, range.highest as u64);
+fn say_range(rt: &HostRuntime, range: Range) -> io::Result<()> {
+    let lowest = range.lowest;
+    let highest = range.highest;
+    print!(rt; " {lowest}-{highest}")
 }
 
-fn say_ranges(ranges: [Range; 8]) {
+fn say_ranges(rt: &HostRuntime, ranges: [Range; 8]) -> io::Result<()> {
     for i in 0..8 {
-        say_range(ranges[i]);
+        say_range(rt, ranges[i])?;
     }
+    Ok(())
 }
 
-pub(crate) fn tell(e: Estimate) {
+pub(crate) fn tell(rt: &HostRuntime, e: Estimate) -> io::Result<()> {
     let told = estimates::tighten(e);
-    let outcome = told.outcome;
-    let ranges = told.ranges;
-    io::print_decimal(STDOUT_FILENO, outcome.number() as u64);
-    io::write_all(STDOUT_FILENO, b" ");
-    io::print_decimal(STDOUT_FILENO, outcome.value() as u64);
-    say_ranges(ranges);
-    io::write_all(STDOUT_FILENO, b"\n");
+    let number = told.outcome.number();
+    let value = told.outcome.value();
+    print!(rt; "{number} {value}")?;
+    say_ranges(rt, told.ranges)?;
+    println!(rt)
 }
 
 // One of eight ranges, by an octal digit: from 1 or 2 to 1, 2, 3 or 4.
@@ -74,19 +72,20 @@ fn small(digit: u32) -> Range {
 }
 
 // Three ranges by three digits and what is trimmed by a fourth: one input and two outputs, then two inputs and one output.
-fn pair(k: u32) {
+fn pair(rt: &HostRuntime, k: u32) -> io::Result<()> {
     let z = to(0, 0);
     let a = small(k % 8);
     let b = small(k / 8 % 8);
     let c = small(k / 64 % 8);
     let trimmed = k / 512 % 2;
-    tell(migration(1, 2, [a, z, z, z, b, c, z, z], trimmed));
-    tell(migration(2, 1, [a, b, z, z, c, z, z, z], trimmed));
+    tell(rt, migration(1, 2, [a, z, z, z, b, c, z, z], trimmed))?;
+    tell(rt, migration(2, 1, [a, b, z, z, c, z, z, z], trimmed))
 }
 
-fn main() {
-    cases::run();
+fn main(rt: HostRuntime) -> io::Result<()> {
+    cases::run(&rt)?;
     for k in 0..1024 {
-        pair(k);
+        pair(&rt, k)?;
     }
+    Ok(())
 }
