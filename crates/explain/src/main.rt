@@ -6,28 +6,22 @@ ghost use Rattle.std.specs.Prelude.{◌≤◌, length};
 ghost use Rattle.telling.specs.Room.{step_room};
 
 use ledger::Ledger;
-use libc::{STDIN_FILENO, STDOUT_FILENO};
+use std::io;
+use std::io::Print;
 
-// Whether it was written; where it was not, nothing more is.
-fn print(out: &[u8], written: usize) -> bool {
-    io::write_all(STDOUT_FILENO, parts::front(out, written))
-}
-
-fn print_sheet(ledger: Ledger, out: &mut [u8])
+fn print_sheet(rt: &HostRuntime, ledger: Ledger, out: &mut [u8]) -> io::Result<()>
     requires { step_room ≤ length out.old }
 {
     let mut job = 0;
     while job < ledger.booked {
         let n = sheet::job_line(ledger, job, out);
-        if print(out, n) {
-            job += 1;
-            continue;
-        }
-        return;
+        rt.write_all(parts::front(out, n))?;
+        job += 1;
     }
+    Ok(())
 }
 
-fn carry_out(input: &[u8]) {
+fn carry_out(rt: &HostRuntime, input: &[u8]) -> io::Result<()> {
     let mut memo = [0u8; journal::CAPACITY];
     let mut journal = [0u8; run::JOURNAL];
     let mut numbers = [0u16; index::NUMBERS];
@@ -50,27 +44,23 @@ fn carry_out(input: &[u8]) {
         );
         progress = t.progress;
         named = t.named;
-        if print(&out, progress.written) {
-            continue;
-        }
-        return;
+        rt.write_all(parts::front(&out, progress.written))?;
     }
-    print_sheet(progress.ledger, &mut out);
+    print_sheet(rt, progress.ledger, &mut out)
 }
 
-fn turn_back() {
+fn turn_back(rt: &HostRuntime) -> io::Result<()> {
     let mut out = [0u8; telling::PIECE];
     let n = answers::refuse(&mut out);
-    print(&out, n);
+    rt.write_all(parts::front(&out, n))
 }
 
-fn main() {
+fn main(rt: HostRuntime) -> io::Result<()> {
     let mut input = header::input_buffer();
-    let n = io::read_full(STDIN_FILENO, &mut input);
+    let n = streams::read_full(&mut rt.stdin(), &mut input)?;
     let file = &input[..n];
     if header::opens(file) {
-        carry_out(file);
-        return;
+        return carry_out(&rt, file);
     }
-    turn_back();
+    turn_back(&rt)
 }
