@@ -3,19 +3,20 @@
 
 ghost use Rattle.std.specs.Prelude.{◌≤◌, length};
 
-use libc::{STDIN_FILENO, STDOUT_FILENO};
+use std::io;
+use std::io::Print;
 
-fn print(out: &[u8], written: usize)
+fn print(rt: &HostRuntime, out: &[u8], written: usize) -> io::Result<()>
     requires { written ≤ length out.now }
 {
-    io::write_all(STDOUT_FILENO, &out[..written]);
+    rt.write_all(&out[..written])
 }
 
-fn main() {
+fn main(rt: HostRuntime) -> io::Result<()> {
     // one byte more than a request has, so that a longer input is seen to be longer
     let mut input = [0u8; 11];
-    let n = io::read_full(STDIN_FILENO, &mut input);
+    let n = streams::read_full(&mut rt.stdin(), &mut input)?;
     let mut out = [0u8; load_writer::ROOM];
     let written = load_writer::load(&input[..n], &mut out);
-    print(&out, written);
+    print(&rt, &out, written)
 }
