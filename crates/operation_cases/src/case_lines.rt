@@ -1,9 +1,10 @@
 // The lines of the script: a case is a step of a run file's text or one of the program's own, and something may stand before it.
 ghost use Rattle.std.specs.Prelude.{◌≤◌, length};
 
-use crate::print;
 use parsing::Parsed;
 use scripts::ROOM;
+use std::io;
+use std::io::Print;
 
 // A case as it was read: the kind of its step, 0 where there is none to carry out; how many bytes of the journal are lent; and where its
 // body ends.
@@ -61,41 +62,48 @@ fn read(version: u16, text: &[u8], at: usize, bytes: &mut [u8; ROOM]) -> Parsed
 }
 
 // A case with what stands before it; its text is printed.
-fn read_case(version: u16, text: &[u8], at: usize, bytes: &mut [u8; ROOM]) -> Case
+fn read_case(
+    rt: &HostRuntime,
+    version: u16,
+    text: &[u8],
+    at: usize,
+    bytes: &mut [u8; ROOM],
+) -> io::Result<Case>
     requires { at ≤ length text.now }
 {
     let lent = scripts::prefix(b"lent $: ", text, at, 65535);
     let cut = scripts::prefix(b"cut $: ", text, lent.next, 0);
     let p = read(version, text, cut.next, bytes);
-    print(scripts::part(text, at, p.next));
-    print(b" =>");
+    rt.write_all(scripts::part(text, at, p.next))?;
+    print!(rt; " =>")?;
     if p.reason != 0 {
-        print(b" ?\n");
-        return NONE;
+        println!(rt; " ?")?;
+        return Ok(NONE);
     }
-    Case {
+    Ok(Case {
         kind: bytes[0],
         lent: lent.value as usize,
         end: scripts::end_of(cut, p.end),
-    }
+    })
 }
 
 // A line, which may be a case.
 pub(crate) fn read_line(
+    rt: &HostRuntime,
     version: u16,
     text: &[u8],
     at: usize,
     next: usize,
     bytes: &mut [u8; ROOM],
-) -> Case
+) -> io::Result<Case>
     requires { at ≤ length text.now }
 {
     if scripts::is_comment(text, at) {
-        return NONE;
+        return Ok(NONE);
     }
     if scripts::is_shown(text, at) {
-        print(scripts::part(text, at, next));
-        return NONE;
+        rt.write_all(scripts::part(text, at, next))?;
+        return Ok(NONE);
     }
-    read_case(version, text, at, bytes)
+    read_case(rt, version, text, at, bytes)
 }
