@@ -5,29 +5,22 @@
 
 ghost use Rattle.std.specs.Prelude.{◌≤◌, length};
 
-use libc::{STDIN_FILENO, STDOUT_FILENO};
 use outcome::{Outcome, Verdict};
 use scripts::ROOM;
-
-fn print(words: &[u8]) {
-    io::write_all(STDOUT_FILENO, words);
-}
-
-fn print_figure(x: u64) {
-    print(b" ");
-    io::print_decimal(STDOUT_FILENO, x);
-}
+use std::io;
+use std::io::Print;
 
 // The two figures of an answer.
-fn print_figures(outcome: Outcome) {
-    print_figure(outcome.number() as u64);
-    print_figure(outcome.value() as u64);
+fn print_figures(rt: &HostRuntime, outcome: Outcome) -> io::Result<()> {
+    let number = outcome.number();
+    let value = outcome.value();
+    print!(rt; " {number} {value}")
 }
 
 // These, and the end of the line.
-fn print_answer(outcome: Outcome) {
-    print_figures(outcome);
-    print(b"\n");
+fn print_answer(rt: &HostRuntime, outcome: Outcome) -> io::Result<()> {
+    print_figures(rt, outcome)?;
+    println!(rt)
 }
 
 // The answer of checks 6 to 9: that of a step with the value 0 where all pass.
@@ -46,32 +39,47 @@ fn move_by(bytes: &mut [u8; ROOM], at: usize, step: u8) {
 }
 
 // One up, one down, and as it was.
-fn move_byte(version: u16, bytes: &mut [u8; ROOM], end: usize, at: usize) {
-    print(b" up");
+fn move_byte(
+    rt: &HostRuntime,
+    version: u16,
+    bytes: &mut [u8; ROOM],
+    end: usize,
+    at: usize,
+) -> io::Result<()> {
+    print!(rt; " up")?;
     move_by(bytes, at, 1);
-    print_figures(examine(version, scripts::body(bytes, end)));
-    print(b" down");
+    print_figures(rt, examine(version, scripts::body(bytes, end)))?;
+    print!(rt; " down")?;
     move_by(bytes, at, 254);
-    print_answer(examine(version, scripts::body(bytes, end)));
+    print_answer(rt, examine(version, scripts::body(bytes, end)))?;
     move_by(bytes, at, 1);
+    Ok(())
 }
 
-fn sweep(version: u16, bytes: &mut [u8; ROOM], end: usize) {
+fn sweep(rt: &HostRuntime, version: u16, bytes: &mut [u8; ROOM], end: usize) -> io::Result<()> {
     for k in 1..end {
-        print(b"byte");
-        print_figure((k - 1) as u64);
-        move_byte(version, bytes, end, k);
+        let at = k - 1;
+        print!(rt; "byte {at}")?;
+        move_byte(rt, version, bytes, end, k)?;
     }
+    Ok(())
 }
 
-fn answer(version: u16, bytes: &mut [u8; ROOM], end: usize, swept: u8) {
-    print_answer(examine(version, scripts::body(bytes, end)));
+fn answer(
+    rt: &HostRuntime,
+    version: u16,
+    bytes: &mut [u8; ROOM],
+    end: usize,
+    swept: u8,
+) -> io::Result<()> {
+    print_answer(rt, examine(version, scripts::body(bytes, end)))?;
     if swept == 0 {
-        sweep(version, bytes, end);
+        sweep(rt, version, bytes, end)?;
     }
+    Ok(())
 }
 
-fn carry_case(text: &[u8], at: usize)
+fn carry_case(rt: &HostRuntime, text: &[u8], at: usize) -> io::Result<()>
     requires { at ≤ length text.now }
 {
     let mut bytes = [0u8; ROOM];
@@ -80,44 +88,44 @@ fn carry_case(text: &[u8], at: usize)
     let version = (said.value % 65536) as u16;
     let cut = scripts::prefix(b"cut $: ", text, said.next, 0);
     let p = scripts::read_step(version, text, cut.next, &mut bytes);
-    print(scripts::part(text, at, p.next));
-    print(b" =>");
+    rt.write_all(scripts::part(text, at, p.next))?;
+    print!(rt; " =>")?;
     if p.reason != 0 {
-        print(b" ?\n");
-        return;
+        return println!(rt; " ?");
     }
     answer(
+        rt,
         version,
         &mut bytes,
         scripts::end_of(cut, p.end),
         swept.reason,
-    );
+    )
 }
 
-fn carry_line(text: &[u8], at: usize, next: usize)
+fn carry_line(rt: &HostRuntime, text: &[u8], at: usize, next: usize) -> io::Result<()>
     requires { at ≤ length text.now }
 {
     if scripts::is_comment(text, at) {
-        return;
+        return Ok(());
     }
     if scripts::is_shown(text, at) {
-        print(scripts::part(text, at, next));
-        return;
+        return rt.write_all(scripts::part(text, at, next));
     }
-    carry_case(text, at);
+    carry_case(rt, text, at)
 }
 
-fn carry_out(text: &[u8]) {
+fn carry_out(rt: &HostRuntime, text: &[u8]) -> io::Result<()> {
     let mut at = 0;
     while at < text.len() {
         let next = scripts::after_line(text, at);
-        carry_line(text, at, next);
+        carry_line(rt, text, at, next)?;
         at = next;
     }
+    Ok(())
 }
 
-fn main() {
-    let mut text = io::large_buffer();
-    let n = io::read_full(STDIN_FILENO, &mut text);
-    carry_out(&text[..n]);
+fn main(rt: HostRuntime) -> io::Result<()> {
+    let mut text = [0u8; 65536];
+    let n = streams::read_full(&mut rt.stdin(), &mut text)?;
+    carry_out(&rt, &text[..n])
 }
