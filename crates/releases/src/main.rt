@@ -1,16 +1,17 @@
 // Reads a run file from standard input, carries it out, and prints its release list: the tapes that are free to be overwritten.
 #![tactic(auto)]
 
-use libc::{STDIN_FILENO, STDOUT_FILENO};
+use std::io;
+use std::io::Print;
 
-fn list(input: &[u8]) {
+fn list(rt: &HostRuntime, input: &[u8]) -> io::Result<()> {
     let mut out = [0u8; release_list::ROOM];
     let written = release_file::releases(input, &mut out);
-    io::write_all(STDOUT_FILENO, parts::front(&out, written));
+    rt.write_all(parts::front(&out, written))
 }
 
-fn main() {
+fn main(rt: HostRuntime) -> io::Result<()> {
     let mut input = header::input_buffer();
-    let n = io::read_full(STDIN_FILENO, &mut input);
-    list(&input[..n]);
+    let n = streams::read_full(&mut rt.stdin(), &mut input)?;
+    list(&rt, &input[..n])
 }
