@@ -1,6 +1,6 @@
 -- A record and its job are one another's.
 use mathlib.Core.Bool.{cond, false, true, true≢false}
-use mathlib.Core.List.{List, [], ◌++◌, ◌∷◌, append_assoc, append-nil, map}
+use mathlib.Core.List.{List, [], ◌++◌, ◌∷◌, append_assoc, append-nil}
 use mathlib.Core.Logic.{◌⊎◌, ⊎_elim}
 use mathlib.Core.Path.{◌∙◌, ◌≡◌, ap, ap₂, refl, sym}
 use Prim.Native.Nat.{◌%◌, ◌*◌, ◌+◌, ◌/◌, ◌<◌, ◌^◌, ◌≤◌, suc, zero, ℕ}
@@ -19,7 +19,7 @@ use Rattle.codec.proofs.Jobs.{length_body_of, length_bytes_of, length_entry_byte
 use Rattle.codec.proofs.Numbers.{length_le_bytes}
 use Rattle.codec.specs.Codec.{AreBytes, EntriesFit, JobFits, body_of, body_size, bytes_of, entries_at, entries_bytes, entry_at, entry_bytes, fits_record}
 use Rattle.codec.specs.Codec.{front_job, job_of, le_at, le_bytes, record_size, said_of, says_trimmed, written}
-use Rattle.record.specs.contracts.Entry.{the_field}
+use Rattle.record.specs.contracts.Entry.{the_row}
 use Rattle.record.specs.declared.Entry.{Entry}
 use Rattle.record.specs.declared.Job.{Job}
 
@@ -144,7 +144,7 @@ record_job_record version r n b =
 -- ---- as the code asks them
 
 -- the ranges of an array of entries, as the language has them
-pub entries_fit : (es : List Entry) (us : List Val) → shadow (each the_field.row.Denot the_field.row.own_val (map the_field.into es) us) → EntriesFit es
+pub entries_fit : (es : List Entry) (us : List Val) → shadow (each the_row.Denot the_row.own_val es us) → EntriesFit es
 unfolding EntriesFit
 entries_fit [] us s = tt
 entries_fit (e ∷ es) [] s = absurd s
