@@ -1,8 +1,7 @@
--- The arrays have the length of the version's records.
-use borrow.Author.Rules.{rules}
+use Rattle.std.proofs.Common.{rules}
 use Rattle.codec.specs.Codec.{record_size, says_trimmed}
 use Rattle.round_trips.proofs.rewrite_second.Goals as goal
 
-pub returns : goal.returns
+pub again-requires : goal.again-requires
 unfolding record_size says_trimmed
-returns c = search rules
+again-requires c = search rules
