@@ -202,7 +202,7 @@ module _ (p : ℕ → Bool) where
   pub all_end : (n i : ℕ) → all_below i p ≡ true → i ≤ n → n ≤ i → true ≡ all_below n p
   all_end n i h a b = sym (rw (le_antisymm a b) at h)
 
--- `not_true` and `not-false` serve a flag that the loop negates
+-- `not-true` and `not-false` serve a flag that the loop negates
 pub ruleset searches = (
   any_start,
   any_more,
