@@ -1,4 +1,4 @@
-// The run and its release list for programs in C or Rust to link: what the comparisons with the Rust reference call in process.
+// The run and its release list for other programs: `exported_c` gives them C names, and the comparisons with the Rust reference call them in process.
 #![tactic(auto)]
 
 ghost use Rattle.std.specs.Prelude.{◌*◌, ◌+◌, ◌≤◌, length};
@@ -81,8 +81,7 @@ fn carry_out_at_once(input: &[u8], out: &mut [u8]) -> usize
 
 // The length of the text, which stands at the front of `out` afterwards if there is room for all of it; else nothing is written. In a buffer in which any
 // text of such an input fits the run is carried out once; in a smaller one first to see how long its text is.
-#[unsafe(no_mangle)]
-pub extern "C" fn custody_run(input: &[u8], out: &mut [u8]) -> usize
+pub fn custody_run(input: &[u8], out: &mut [u8]) -> usize
     ensures { Fits (run_text input.now) out.old out.new result }
 {
     if out.len() / text::LONGEST > input.len() {
@@ -96,8 +95,7 @@ pub extern "C" fn custody_run(input: &[u8], out: &mut [u8]) -> usize
 }
 
 // The release list, in a buffer that has room for the longest.
-#[unsafe(no_mangle)]
-pub extern "C" fn custody_releases(input: &[u8], out: &mut [u8; release_list::ROOM]) -> usize
+pub fn custody_releases(input: &[u8], out: &mut [u8; release_list::ROOM]) -> usize
     ensures { Put out.old 0 (releases_text input.now) out.new result × (result ≤ 12805) }
 {
     release_file::releases(input, out)
