@@ -10,10 +10,10 @@ returns-then-is_held c =
       decision = simp (
         sym c.is_held.ensures ∙
             c.if-is_held.true,
-        ← c.age.ensures.0,
+        ← c.age.ensures.value,
       ) c.answer.ensures;
-      right = c.age.ensures.1.0;
-      size = c.age.ensures.1.1;
+      right = c.age.ensures.memo;
+      size = c.age.ensures.memo_len;
     }
 
 pub returns : goal.returns
