@@ -263,7 +263,7 @@ module _ (r s : Register) (q : Kept r) (p : Kept s) (e : r.table ≡ s.table) (s
 
   still_made : (x : ℕ) → In x r.made → In x s.made
   still_made x m =
-      let o = q.books.made_by x m in
+      let o = q.books.made_by_taken x m in
       p.books.made_all o.0 x ((same o.0).0 o.1.0) (subst (λ (l : List (List ℕ)). In x (labels (output_tapes (tabled l o.0)))) e o.1.1)
 
 pub alike : (r s : Register) → r.running ≡ true → s.running ≡ true → Kept r → Kept s → r.version ≡ s.version → r.table ≡ s.table
