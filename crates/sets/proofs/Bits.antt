@@ -13,7 +13,7 @@ use lib.Arith.{lt-one}
 use lib.Bits.{and_le_l, and_shr, and_step, bit_and, bit_or, or_lt, or_shr, or_step, or_zero_r}
 use lib.Count.{ones, ones-ones, ones_step}
 use lib.Dec.{eqb, lit<, ltb}
-use lib.Pow.{low, pow-lt, pow_mono, pow_pos, shl_exact}
+use lib.Pow.{pow-lt, pow_mono, pow_pos, shl_exact}
 use borrow.Author.Tests.{eq-eqb, eqb-false, eqb-true, le-ltb, lt-ltb, ltb-false, ltb-true, not-false, not-true}
 use Rattle.base.proofs.Reflect.{by_cases, by_test, not_false_true}
 use Rattle.base.proofs.Search.{any_elim, any_none, sum_from_lem, sum_same}
