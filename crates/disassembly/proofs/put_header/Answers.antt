@@ -41,3 +41,9 @@ returns c =
           (line_put _ row front.front.ensures.0 _ write.write_row-end.ensures.0 end.put.ensures.0),
       omega (arith, few, line_end _ row front.front.ensures.0 0 _ write.write_row-end.ensures.1 _ end.put.ensures.1),
     )
+
+pub overflow_sub-version : goal.overflow_sub-version
+overflow_sub-version c = search by
+
+pub part-requires : goal.part-requires
+part-requires c = search by
