@@ -1,5 +1,4 @@
 -- The loop's invariant: each number before the present one passes, so it returns at the first that does not.
-use Prim.Native.Nat.{◌-◌}
 use borrow.Author.Rules.{rules}
 use borrow.Author.Tests.{not-false, not-true}
 use Rattle.base.proofs.Search.{searches}
