@@ -1,6 +1,6 @@
 -- The bytes are taken from the highest down, so what is gathered is always the number of those above k.
 use mathlib.Core.Path.{◌≡◌}
-use Prim.Native.Nat.{◌*◌, ◌-◌, ◌<◌, suc}
+use Prim.Native.Nat.{◌*◌, ◌-◌, suc}
 use native.Mathlib.Nat.{sub_self}
 use native.Mathlib.Omega.{arith}
 use lib.Dec.{lit<}
