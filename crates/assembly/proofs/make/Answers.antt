@@ -11,61 +11,38 @@ ruleset by = (making_begun, made_all, made_over, blank_turn, rules)
 
 pub judge-why-requires : goal.judge-why-requires
 judge-why-requires c =
-    let read = c in
-    (read.line_read-p.ensures.inside, read.loop-left.invariant.0.few)
+    (c.line_read-p.ensures.inside, c.loop-left.invariant.0.few)
 
 pub returns-then-why-ne0 : goal.returns-then-why-ne0
 returns-then-why-ne0 c =
-    let judge = c in
-    let read = judge in
-    let over = read in
-    let skip = over in
-    let turn = skip in
-    let loop = turn in
-    let m = loop.loop-left.invariant.0 in
-    line_wrong m turn.loop-left-test.true skip.if-text-at.false skip.skip_blanks-start.result _ skip.skip_blanks-start.ensures.0
-    over.is_over.ensures read.if-is_over.false _ read.front.ensures.0 _ _ _
-    read.line_read-p.ensures _ judge.judge-why.ensures _ c.if-why-ne0.true c.verdict.ensures
+    let m = c.loop-left.invariant.0 in
+    line_wrong m c.loop-left-test.true c.if-text-at.false c.skip_blanks-start.result _ c.skip_blanks-start.ensures.0
+    c.is_over.ensures c.if-is_over.false _ c.front.ensures.0 _ _ _
+    c.line_read-p.ensures _ c.judge-why.ensures _ c.if-why-ne0.true c.verdict.ensures
 
 pub put-end-requires : goal.put-end-requires
 put-end-requires c =
-    let judge = c in
-    let read = judge in
-    let over = read in
-    let skip = over in
-    let turn = skip in
-    let loop = turn in
-    let m = loop.loop-left.invariant.0 in
-    line_room_lem m turn.loop-left-test.true skip.if-text-at.false skip.skip_blanks-start.result _ skip.skip_blanks-start.ensures.0
-    over.is_over.ensures read.if-is_over.false _ read.front.ensures.0 _ _ _
-    read.line_read-p.ensures _ judge.judge-why.ensures c.if-why-ne0.false _ c.front-in-loop-left.ensures.0
+    let m = c.loop-left.invariant.0 in
+    line_room_lem m c.loop-left-test.true c.if-text-at.false c.skip_blanks-start.result _ c.skip_blanks-start.ensures.0
+    c.is_over.ensures c.if-is_over.false _ c.front.ensures.0 _ _ _
+    c.line_read-p.ensures _ c.judge-why.ensures c.if-why-ne0.false _ c.front-in-loop-left.ensures.0
 
 pub overflow_add-line-in-loop-left : goal.overflow_add-line-in-loop-left
 overflow_add-line-in-loop-left c =
-    let half = c in
-    let turn = half in
-    let loop = turn in
-    let few : loop.loop-left.line ≤ length loop.args.text.now =
-    omega (arith, loop.loop-left.invariant.0.lines, turn.loop-left-test.true) in
-    search (few, loop.shared_slice_known-1.given, rules)
+    let few : c.loop-left.line ≤ length c.args.text.now =
+    omega (arith, c.loop-left.invariant.0.lines, c.loop-left-test.true) in
+    search (few, rules)
 
 pub loop-left-preserved : goal.loop-left-preserved
 loop-left-preserved c =
-    let put = c in
-    let judge = c in
-    let read = judge in
-    let over = read in
-    let skip = over in
-    let turn = skip in
-    let loop = turn in
-    let m = loop.loop-left.invariant.0 in (
-      line_turn m turn.loop-left-test.true skip.if-text-at.false skip.skip_blanks-start.result _ skip.skip_blanks-start.ensures.0
-          over.is_over.ensures read.if-is_over.false _ read.front.ensures.0 _ _ _
-          read.line_read-p.ensures _ judge.judge-why.ensures c.if-why-ne0.false _
-          put.front-in-loop-left.ensures.0 _ _ _ put.put-end.ensures.0 c.after_line-at-in-loop-left.ensures.0 c.after_line-at-in-loop-left.ensures.1,
-      read.line_read-p.auto.1.1.0 ∙ loop.loop-left.invariant.1,
-      read.line_read-p.auto.1.1.1.0 ∙ loop.loop-left.invariant.2,
-      put.put-end.auto.0 ∙ loop.loop-left.invariant.3,
+    let m = c.loop-left.invariant.0 in (
+      line_turn m c.loop-left-test.true c.if-text-at.false c.skip_blanks-start.result _ c.skip_blanks-start.ensures.0
+          c.is_over.ensures c.if-is_over.false _ c.front.ensures.0 _ _ _
+          c.line_read-p.ensures _ c.judge-why.ensures c.if-why-ne0.false _
+          c.front-in-loop-left.ensures.0 _ _ _ c.put-end.ensures.0 c.after_line-at-in-loop-left.ensures.0 c.after_line-at-in-loop-left.ensures.1,
+      c.line_read-p.auto.buffer ∙ c.loop-left.invariant.1,
+      c.line_read-p.auto.bytes ∙ c.loop-left.invariant.2,
+      c.put-end.auto.out ∙ c.loop-left.invariant.3,
     )
 
 pub loop-left-init : goal.loop-left-init
