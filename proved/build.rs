@@ -1,4 +1,4 @@
-//! Links the proved program's static library, libexported.a.
+//! Links the proved program's static library, libexported_c.a, which `.ci/library` or, in crates/exported_c, `rt lib` builds.
 
 use std::env;
 use std::path::PathBuf;
@@ -8,11 +8,11 @@ fn main() {
     let folder = match env::var_os("CUSTODY_LIB_DIR") {
         Some(given) => PathBuf::from(given),
         None => PathBuf::from(env::var_os("CARGO_MANIFEST_DIR").expect("set by cargo"))
-            .join("../target/staticlib"),
+            .join("../crates/exported_c/out"),
     };
     // Linked again when the library is built again.
-    let library = folder.join("libexported.a");
+    let library = folder.join("libexported_c.a");
     println!("cargo:rerun-if-changed={}", library.display());
     println!("cargo:rustc-link-search=native={}", folder.display());
-    println!("cargo:rustc-link-lib=static=exported");
+    println!("cargo:rustc-link-lib=static=exported_c");
 }

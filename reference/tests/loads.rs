@@ -1,5 +1,5 @@
 //! Test loads: the draws of `docs/LOADS.md`, the kept loads with their texts, and the proved programs on both.
-//! The programs must have been built, by `rt check loads custody`.
+//! The programs must have been built, by `rt ci`, or by `rt run` in crates/loads and crates/custody.
 
 use reference::loads::{answer, load, Draws};
 use std::io::Write;
@@ -22,13 +22,15 @@ fn request(seed: u64, n: u8, b: u8) -> Vec<u8> {
 /// What a proved program writes for this input.
 fn proved(program: &str, input: &[u8]) -> Vec<u8> {
     let path = PathBuf::from(env!("CARGO_MANIFEST_DIR"))
-        .join("../target/bin")
+        .join("../crates")
+        .join(program)
+        .join("out")
         .join(program);
     let mut child = Command::new(&path)
         .stdin(Stdio::piped())
         .stdout(Stdio::piped())
         .spawn()
-        .unwrap_or_else(|e| panic!("{}: {e}; run `rt check {program}` first", path.display()));
+        .unwrap_or_else(|e| panic!("{}: {e}; run `rt ci` first", path.display()));
     // a program that has read enough may have closed its input
     let _ = child.stdin.take().unwrap().write_all(input);
     child.wait_with_output().unwrap().stdout
