@@ -6,44 +6,10 @@ use lib.ListN.{length}
 use borrow.Author.Rules.{rules}
 use Rattle.going.proofs.Turning.{come_on, few_vaults, loud_placed, numbered, reads_on, to_look_up, to_survey, took_loud, took_quiet, took_wide}
 use Rattle.going.proofs.Turning.{turning}
+use Rattle.going.proofs.Slices.{still_same, still_surveyed}
 use Rattle.going.proofs.carry_on.Goals as goal
 
 ruleset by = (turning, rules)
-
--- slices are as long as they were
-record Same (memo₀ journal₀ numbers₀ sets₀ records₀ out₀ memo journal numbers sets records out : List ℕ) : Type 0 where
-  same-memo : length memo ≡ length memo₀
-  same_journal : length journal ≡ length journal₀
-  same_numbers : length numbers ≡ length numbers₀
-  same-sets : length sets ≡ length sets₀
-  same-records : length records ≡ length records₀
-  same_out : length out ≡ length out₀
-
--- and stay so where a step is carried out
-still-same : {memo₀ journal₀ numbers₀ sets₀ records₀ out₀ memo journal numbers sets records out journal' numbers' sets' records' out' : List ℕ}
-    → length numbers' ≡ length numbers → length sets' ≡ length sets → length records' ≡ length records → length journal' ≡ length journal
-    → length out' ≡ length out → Same memo₀ journal₀ numbers₀ sets₀ records₀ out₀ memo journal numbers sets records out
-    → Same memo₀ journal₀ numbers₀ sets₀ records₀ out₀ memo journal' numbers' sets' records' out'
-still-same a b c d e s = record {
-  same-memo = s.same-memo;
-  same_journal = d ∙ s.same_journal;
-  same_numbers = a ∙ s.same_numbers;
-  same-sets = b ∙ s.same-sets;
-  same-records = c ∙ s.same-records;
-  same_out = e ∙ s.same_out;
-}
-
-still-surveyed : {memo₀ journal₀ numbers₀ sets₀ records₀ out₀ memo journal numbers sets records out memo' out' : List ℕ}
-    → length memo' ≡ length memo → length out' ≡ length out → Same memo₀ journal₀ numbers₀ sets₀ records₀ out₀ memo journal numbers sets records out
-    → Same memo₀ journal₀ numbers₀ sets₀ records₀ out₀ memo' journal numbers sets records out'
-still-surveyed a e s = record {
-  same-memo = a ∙ s.same-memo;
-  same_journal = s.same_journal;
-  same_numbers = s.same_numbers;
-  same-sets = s.same-sets;
-  same-records = s.same-records;
-  same_out = e ∙ s.same_out;
-}
 
 -- In what follows s is the place after the step was read and h that after it was seen that the run goes on; t is what holds at the loop's head. The step
 -- was seen to look at one vault or at all at n, and was carried out at v.
@@ -75,11 +41,11 @@ loop-s-preserved-then-s c =
     let h = s in
     let t = h.loop-s.invariant.0 in
     let o = h.goes_on.ensures.on s.loop-s-test.true in
-    let same = v.survey-r.auto.1.1.1.1.1.1.1.0 in (
+    let same = v.survey-r.auto.out in (
       come_on t _ _ _ _ _ _ _ _ _ o.0 o.2
           (took_wide _ _ _ _ _ _ _ _ _ t.going o.0 o.1 _ s.step_at-s.ensures _ _ _ _ n.if-s.true v.survey-r.ensures same _
           c.surveyed-c.ensures),
-      still-surveyed v.survey-r.auto.1.1.1.1.1.1.0 same h.loop-s.invariant.1,
+      still_surveyed v.survey-r.auto.memo same h.loop-s.invariant.1,
     )
 
 pub carry_out-r-requires : goal.carry_out-r-requires
@@ -105,11 +71,11 @@ loop-s-preserved-then-is_nothing c =
     let h = s in
     let t = h.loop-s.invariant.0 in
     let o = h.goes_on.ensures.on s.loop-s-test.true in
-    let same = v.carry_out-r.auto.1.1.1.1.1.1.1.0 in (
+    let same = v.carry_out-r.auto.out in (
       come_on t _ _ _ _ _ _ _ _ _ o.0 o.2
           (took_quiet _ _ _ _ _ _ _ _ _ t.going o.0 o.1 _ s.step_at-s.ensures n.if-s.false _ _ _ _ _ _ v.carry_out-r.ensures _
           c.is_nothing.ensures c.if-is_nothing.true _ t.right same _ c.carried_out-c.ensures),
-      still-same v.carry_out-r.auto.1.1.0 v.carry_out-r.auto.1.1.1.0 v.carry_out-r.auto.1.1.1.1.0 v.carry_out-r.auto.1.1.1.1.1.0 same
+      still_same v.carry_out-r.auto.numbers v.carry_out-r.auto.sets v.carry_out-r.auto.records v.carry_out-r.auto.journal same
           h.loop-s.invariant.1,
     )
 
@@ -141,12 +107,12 @@ loop-s-preserved c =
     let h = s in
     let t = h.loop-s.invariant.0 in
     let o = h.goes_on.ensures.on s.loop-s-test.true in
-    let same = v.carry_out-r.auto.1.1.1.1.1.1.1.0 in (
+    let same = v.carry_out-r.auto.out in (
       come_on t _ _ _ _ _ _ _ _ _ o.0 o.2
           (took_loud _ _ _ _ _ _ _ _ _ t.going o.0 o.1 _ s.step_at-s.ensures n.if-s.false _ _ _ _ _ _ v.carry_out-r.ensures _
           a.is_nothing.ensures a.if-is_nothing.false _ a.apply-ledger.ensures _ t.right same _
           a.carried_out-c.ensures _ c.still-named.ensures),
-      still-same v.carry_out-r.auto.1.1.0 v.carry_out-r.auto.1.1.1.0 v.carry_out-r.auto.1.1.1.1.0 v.carry_out-r.auto.1.1.1.1.1.0 same
+      still_same v.carry_out-r.auto.numbers v.carry_out-r.auto.sets v.carry_out-r.auto.records v.carry_out-r.auto.journal same
           h.loop-s.invariant.1,
     )
 

@@ -2,6 +2,7 @@
 use Prim.Native.Nat.{◌-◌}
 use lib.ListN.{length}
 use Rattle.progress.specs.Coming.{Come, standing, turned_at}
+use Rattle.going.proofs.Slices.{Same}
 use Rattle.going.proofs.carry_on.Given as goal
 
 abbrev pub invariant-loop-s : goal.invariant-loop-s
