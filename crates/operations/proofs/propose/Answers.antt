@@ -15,15 +15,18 @@ pub returns-then-is_sane : goal.returns-then-is_sane
 unfolding propose_of journal_after propose_decision sane_gate
 returns-then-is_sane c =
     let s = sym c.is_sane.ensures
-    ∙ c.if-is_sane.true in (
-      simp (s, ← c.propose-decision.ensures) c.carry.ensures,
-      simp
-          (s, ← c.propose-decision.ensures) c.write.ensures,
-    )
+    ∙ c.if-is_sane.true in record {
+      value = simp (s, ← c.propose-decision.ensures) c.carry.ensures;
+      journal_after = simp (s, ← c.propose-decision.ensures) c.write.ensures;
+    }
 
 pub returns : goal.returns
 unfolding propose_of journal_after propose_decision sane_gate applied
-returns c = let s = sym c.is_sane.ensures ∙ c.if-is_sane.false in (simp s c.turn_back.ensures, simp s)
+returns c =
+    let s = sym c.is_sane.ensures ∙ c.if-is_sane.false in record {
+      value = simp s c.turn_back.ensures;
+      journal_after = simp s;
+    }
 
 pub propose-decision-requires : goal.propose-decision-requires
 propose-decision-requires c = search by
