@@ -26,28 +26,28 @@ use Rattle.progress.specs.Pieces.{blank, run_at, turned_back}
 use Rattle.run.proofs.start.Goals as goal
 
 -- the new ledger has the settings that were given, lawful or not
-new-ledger : (n b faulty version : ℕ) → (new_of n b faulty version).ledger ≡ new_ledger n b faulty version
+ledger_of_new : (n b faulty version : ℕ) → (new_of n b faulty version).ledger ≡ new_ledger n b faulty version
 unfolding new_of
-new-ledger n b faulty version =
+ledger_of_new n b faulty version =
     by_cases (λ t. (new_of n b faulty version).ledger ≡ new_ledger n b faulty version) (is_lawful (new_ledger n b faulty version).settings) (λ t. simp t)
     (λ t. simp t)
 
 -- which are the header's
-began : (input : List ℕ) (s : Settings) → s ≡ (opened input).settings → (r : Reply) → r ≡ new_of s.n s.b s.faulty s.version → r.ledger-1 ≡ opened input
+began : (input : List ℕ) (s : Settings) → s ≡ (opened input).settings → (r : Reply) → r ≡ new_of s.n s.b s.faulty s.version → r.ledger ≡ opened input
 unfolding opened new_ledger
-began input s e r q = ap (λ (x : Reply). x.ledger-1) q ∙ new-ledger s.n s.b s.faulty s.version ∙ rw e
+began input s e r q = ap (λ (x : Reply). x.ledger) q ∙ ledger_of_new s.n s.b s.faulty s.version ∙ rw e
 
-begins-at : (input : List ℕ) (l : Ledger) → l ≡ opened input → run_at l header_size 0 (blank journal_size) ≡ begins input
-begins-at input l e = rw e
+begins_at : (input : List ℕ) (l : Ledger) → l ≡ opened input → run_at l header_size 0 (blank journal_size) ≡ begins input
+begins_at input l e = rw e
 
-kept-begun : (input : List ℕ) (l : Ledger) → l ≡ opened input → is_lawful (opened input).settings ≡ true
+kept_begun : (input : List ℕ) (l : Ledger) → l ≡ opened input → is_lawful (opened input).settings ≡ true
     → Kept l (blank journal_size) (blank numbers_size) (blank sets_size) (blank records_size) (blank capacity)
 unfolding opened new_ledger
-kept-begun input l e h = rw e (kept_new (get_or input 5 0) (get_or input 6 0) (word_at input 7) (version_in input) h)
+kept_begun input l e h = rw e (kept_new (get_or input 5 0) (get_or input 6 0) (word_at input 7) (version_in input) h)
 
 -- or those of no vaults, where check 1 turns it back
-back_at : (input : List ℕ) (r : Reply) → r ≡ new_of 0 0 0 0 → run_at r.ledger-1 (length input) 0 (blank journal_size) ≡ turned_back input
-back_at input r e = ap (λ (l : Ledger). run_at l (length input) 0 (blank journal_size)) (ap (λ (x : Reply). x.ledger-1) e ∙ new-ledger 0 0 0 0)
+back_at : (input : List ℕ) (r : Reply) → r ≡ new_of 0 0 0 0 → run_at r.ledger (length input) 0 (blank journal_size) ≡ turned_back input
+back_at input r e = ap (λ (l : Ledger). run_at l (length input) 0 (blank journal_size)) (ap (λ (x : Reply). x.ledger) e ∙ ledger_of_new 0 0 0 0)
 
 pub returns-then-opens : goal.returns-then-opens
 returns-then-opens c =
@@ -55,11 +55,11 @@ returns-then-opens c =
     let h = open_when _ o in
     let e = began _ _ c.settings_in-settings.ensures _ c.new-reply.ensures in
     record {
-      piece = nothing_yet (opened_run _ o ∙ ap (text_from _) (sym (begins-at _ _ e)));
+      piece = nothing_yet (opened_run _ o ∙ ap (text_from _) (sym (begins_at _ _ e)));
       passed = λ l. o;
-      going = λ l. record { few = h.few; steps = omega arith; inside = h.headed; kept = kept-begun _ _ e h.lawful };
+      going = λ l. record { few = h.few; steps = omega arith; inside = h.headed; kept = kept_begun _ _ e h.lawful };
       silent = λ l. refl;
-      first = λ l. begins-at _ _ e;
+      first = λ l. begins_at _ _ e;
       back = λ no. absurd (true≢false (sym o ∙ no));
       short = omega arith;
     }
