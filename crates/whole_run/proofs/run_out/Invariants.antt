@@ -1,6 +1,7 @@
 -- Where the run will end stays the same, and each piece brings it nearer.
 use Prim.Native.Nat.{◌-◌}
 use lib.ListN.{length}
+use Rattle.whole_run.proofs.Turns.{Turn}
 use Rattle.whole_run.proofs.run_out.Given as goal
 
 abbrev pub invariant-loop-progress : goal.invariant-loop-progress
