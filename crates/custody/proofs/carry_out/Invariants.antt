@@ -1,6 +1,6 @@
 -- A run that has more to read and all that it keeps are right, and each piece reads on, so the loop ends.
-use Prim.Native.Nat.{◌-◌}
-use lib.ListN.{length}
+use Rattle.std.proofs.Common.{◌-◌, length}
+use Rattle.custody.proofs.Turning.{Turn}
 use Rattle.custody.proofs.carry_out.Given as goal
 
 abbrev pub invariant-loop-progress : goal.invariant-loop-progress
