@@ -1,6 +1,6 @@
 -- A run that has more to read and all that it keeps are right, and each step is one more, so the loop ends.
-use Prim.Native.Nat.{◌-◌}
-use lib.ListN.{length}
+use Rattle.std.proofs.Common.{◌-◌, length}
+use Rattle.explain.proofs.Turning.{Turn}
 use Rattle.explain.proofs.carry_out.Given as goal
 
 abbrev pub invariant-loop-progress : goal.invariant-loop-progress
