@@ -1,7 +1,7 @@
 -- Each piece brings the run nearer to its end, and goes behind those before it.
 use Prim.Native.Nat.{◌-◌}
 use lib.ListN.{length}
-use Rattle.exported.proofs.Turning.{Turn}
+use Rattle.exported.proofs.Turns.{Turn}
 use Rattle.exported.proofs.carry_out.Given as goal
 
 abbrev pub invariant-loop-progress : goal.invariant-loop-progress

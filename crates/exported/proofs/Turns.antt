@@ -1,9 +1,15 @@
--- What a turn of the run keeps, and that a piece reads on.
-use Rattle.std.proofs.Common.{Bool, List, ℕ, ◌≡◌, ◌-◌, ◌<◌, length, arith}
+-- What holds before each piece of a run that is written as a whole.
+use mathlib.Core.Bool.{Bool}
+use mathlib.Core.List.{List}
+use mathlib.Core.Path.{◌≡◌}
+use Prim.Native.Nat.{◌-◌, ◌<◌, ℕ}
+use native.Mathlib.Omega.{arith}
+use lib.ListN.{length}
 use Rattle.progress.specs.Pieces.{Advanced, Going}
 use Rattle.progress.specs.declared.Progress.{Progress}
 use Rattle.exported.proofs.Counting.{Counting}
 
+-- what holds before each piece
 pub record Turn (input : List ℕ) (fits : Bool) (before : List ℕ) (progress : Progress) (memo journal numbers sets records piece out : List ℕ) (at : ℕ)
     : Type 0 where
   pub counting : Counting input fits before progress memo journal numbers sets records out at
