@@ -3,7 +3,7 @@ use mathlib.Core.Bool.{Bool, true}
 use mathlib.Core.Path.{◌∙◌, ◌≡◌, sym}
 use Prim.Native.Nat.{◌-◌, ◌<◌}
 use native.Mathlib.Omega.{arith}
-use borrow.Author.Tests.{le-leb, lt-leb, not-false, not-true}
+use borrow.Author.Tests.{le-leb, lt-leb}
 use Rattle.federation.specs.Federation.{is_lawful}
 use Rattle.binomials.proofs.Chances.{fewer_quorums, quorums_fit, small, some_quorum}
 use Rattle.binomials.proofs.Rounding.{share_most}
