@@ -1,6 +1,5 @@
 -- Each return is one way through the tests of `check_of`.
 use Rattle.std.proofs.Common.{rules}
-use Rattle.std.proofs.lemmas.Bool.Decides.{nat_tests}
 use Rattle.checks.specs.Checks.{check_of}
 use Rattle.examination.proofs.check.Goals as goal
 
