@@ -1,11 +1,11 @@
 -- Generations and what an input brings, together.
-use Rattle.std.proofs.Common.{List, [], ◌∙◌, ◌≡◌, ap, refl, sym, arith, rules, le_antisymm}
+use Rattle.std.proofs.Common.{◌∙◌, ap, refl, sym, arith, le_antisymm}
 use Rattle.journal.specs.Journal.{job_at}
 use Rattle.index.proofs.Inside.{room_at, slot_booked}
 use Rattle.generations.specs.Generations.{along}
 use Rattle.generations.specs.Memo.{inputs_of}
 use Rattle.generations.proofs.Ages.{generation_le, input_from, input_new, input_used, most_end, most_le, most_more, most_start}
-use Rattle.generations.proofs.Creators.{creator_first, creator_is, inputs_le, past_none, tables_here}
+use Rattle.generations.proofs.Creators.{creator_first, creator_is, inputs_le, past_none}
 use Rattle.generations.proofs.Memos.{memo_known, memo_set}
 use Rattle.generations.proofs.+generation_parent.Goals as goal
 
@@ -18,7 +18,7 @@ generation-returns-then-job-booked-clause-value t c =
 pub generation-returns-then-known-gt0-clause-value : goal.generation-returns-then-known-gt0-clause-value
 generation-returns-then-known-gt0-clause-value t c =
     memo_known _ _ _ _ c.requires.ready.right _ _ c.if-known-gt0.true
-        (rw (sym c.wide-job.ensures.0) at c.requires.first_at)
+    (rw (sym c.wide-job.ensures.0) at c.requires.first_at)
 
 -- its inputs
 pub generation-inputs-count-requires : goal.generation-inputs-count-requires
@@ -29,7 +29,7 @@ pub generation-loop-i-init : goal.generation-loop-i-init
 generation-loop-i-init t c = record {
   upto = omega arith;
   counted =
-    c.inputs-count.ensures ∙ ap inputs_of (slot_booked _ _ _ _ c.requires.ready.inside c.if-job-booked.false);
+      c.inputs-count.ensures ∙ ap inputs_of (slot_booked _ _ _ _ c.requires.ready.inside c.if-job-booked.false);
   same = refl;
   right = c.requires.ready.right;
   is = most_start _ _ _;
@@ -81,22 +81,25 @@ pub generation-returns-clause-value : goal.generation-returns-clause-value
 generation-returns-clause-value t c =
     let l = c.loop-i in
     most_end (job_at c.args.version c.args.journal.now c.args.booked) (along c.args.order.now) c.args.p _ _ l.invariant.is
-        (le_antisymm l.invariant.upto c.loop-i-test.false ∙ rw c.wide-job.ensures.0 at l.invariant.counted)
+    (le_antisymm l.invariant.upto c.loop-i-test.false ∙ rw c.wide-job.ensures.0 at l.invariant.counted)
 
 pub generation-returns-clause-memo : goal.generation-returns-clause-memo
 generation-returns-clause-memo t c =
     let l = c.loop-i in
     let done =
-      most_end (job_at c.args.version c.args.journal.now c.args.booked) (along c.args.order.now) c.args.p _ _ l.invariant.is
-          (le_antisymm l.invariant.upto c.loop-i-test.false ∙ rw c.wide-job.ensures.0 at l.invariant.counted) in
+    most_end (job_at c.args.version c.args.journal.now c.args.booked) (along c.args.order.now) c.args.p _ _ l.invariant.is
+    (le_antisymm l.invariant.upto c.loop-i-test.false ∙ rw c.wide-job.ensures.0 at l.invariant.counted) in
     memo_set _ _ _ _ l.invariant.right _ _ _ (omega arith) (rw (sym c.wide-job.ensures.0) at c.requires.first_at) done
 
 -- the creator's generations
 pub parent-generation-requires : goal.parent-generation-requires
-parent-generation-requires t c =
-    (omega arith,
-      (c.requires.ready,
-        creator_first _ _ _ _ _ c.creator-q.ensures c.if-q-p.true (omega (arith, c.requires.input.placed))))
+parent-generation-requires t c = (
+  omega arith,
+  (
+    c.requires.ready,
+    creator_first _ _ _ _ _ c.creator-q.ensures c.if-q-p.true (omega (arith, c.requires.input.placed)),
+  ),
+)
 
 pub parent-overflow_add-result : goal.parent-overflow_add-result
 parent-overflow_add-result t c =
@@ -114,8 +117,8 @@ parent-returns-then-q-p-clause-value t c =
     let ready = c.requires.ready in
     let input = c.requires.input in
     let made =
-      creator_is _ _ _ _ _ _ ready.few ready.inside ready.entered _ _ _ _ _ input c.makers-makers.ensures.0
-          c.creator-q.ensures in
+    creator_is _ _ _ _ _ _ ready.few ready.inside ready.entered _ _ _ _ _ input c.makers-makers.ensures.0
+    c.creator-q.ensures in
     let from = input_from _ _ _ _ _ (rw (sym input.at) at input.used) made c.if-q-p.true in
     omega (arith, c.generation.ensures.value, from)
 
@@ -124,6 +127,6 @@ parent-returns-clause-value t c =
     let ready = c.requires.ready in
     let input = c.requires.input in
     let made =
-      creator_is _ _ _ _ _ _ ready.few ready.inside ready.entered _ _ _ _ _ input c.makers-makers.ensures.0
-          c.creator-q.ensures in
+    creator_is _ _ _ _ _ _ ready.few ready.inside ready.entered _ _ _ _ _ input c.makers-makers.ensures.0
+    c.creator-q.ensures in
     sym (input_new _ _ _ _ _ (rw (sym input.at) at input.used) made c.if-q-p.false)
