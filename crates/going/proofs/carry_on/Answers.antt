@@ -1,8 +1,5 @@
 -- A turn of the loop is a step of the run (proofs/Turning.antt), after which it has come further.
-use mathlib.Core.List.{List}
-use mathlib.Core.Path.{◌∙◌, ◌≡◌}
-use Prim.Native.Nat.{◌-◌, ℕ}
-use lib.ListN.{length}
+use Prim.Native.Nat.{◌-◌}
 use borrow.Author.Rules.{rules}
 use Rattle.going.proofs.Turning.{come_on, few_vaults, loud_placed, numbered, reads_on, to_look_up, to_survey, took_loud, took_quiet, took_wide}
 use Rattle.going.proofs.Turning.{turning}
