@@ -13,7 +13,7 @@ loop-i-preserved c = let l = c.loop-i in
     let a = c.args in (
       omega arith,
       (
-        c.put-at.auto.0 ∙ l.invariant.1.0,
+        c.put-at.auto.out ∙ l.invariant.1.0,
         (
           omega arith,
           rest_on a.plan l.i l.now _ _ _ c.loop-i-test.true
