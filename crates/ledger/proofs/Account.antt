@@ -1,6 +1,6 @@
 -- The register's own invariant, and that taking an admissible job keeps it: what it says of tapes, labels and frames is what is defined
 -- along its list. Frames balance because an admissible job's inputs stand, each once, and its frames balance.
-use mathlib.Core.Bool.{not, true≢false}
+use mathlib.Core.Bool.{not}
 use mathlib.Core.List.{List, [], ◌++◌, ◌∷◌, append_assoc, append-nil}
 use mathlib.Core.Logic.{◌⊎◌, inl, inr, ⊎_elim}
 use mathlib.Core.Path.{◌∙◌, ◌≡◌, ap, ap₂, refl, subst, sym}
@@ -9,66 +9,21 @@ use native.Mathlib.Omega.{arith}
 use lib.Dec.{eqb}
 use lib.ListN.{get_or-append, get_or, length, length-append}
 use lib.Pow.{split}
-use Rattle.base.proofs.Members.{
-  distinct_append,
-  distinct_apart,
-  distinct_left,
-  distinct_map,
-  distinct_map_keep,
-  distinct_right,
-  image_once,
-  in_append,
-  in_keep,
-  in_last,
-  in_left,
-  in_map,
-  in_right,
-  in_snoc,
-  keep_in,
-  keep_same,
-  map_append,
-  map_in,
-  reflect_all_in,
-  reflect_member,
-  total_append,
-  without_total,
-}
-use Rattle.base.proofs.Reflect.{reflect_and, reflect_as, reflect_eq, reflect_not, reflects_same, refutes}
+use Rattle.base.proofs.Members.{distinct_append, distinct_apart, distinct_left, distinct_map, distinct_map_keep, distinct_right, image_once, in_append, in_keep, in_last, in_left, in_map, in_right, in_snoc, keep_in, keep_same, map_append, map_in, reflect_member, total_append, without_total}
+use Rattle.base.proofs.Reflect.{reflect_as, reflect_eq, reflect_not, reflects_same, refutes}
 use Rattle.base.specs.Lists.{Distinct, In, any_in}
-use Rattle.base.specs.Reflect.{Reflects}
-use Rattle.outcome.specs.declared.Verdict.{Verdict}
-use Rattle.outcome.specs.declared.Verdict.TheVariants.{Fail, Pass}
+use Rattle.outcome.specs.declared.Verdict.TheVariants.{Pass}
 use Rattle.conflicts.proofs.Tapes.{WellFormed, checked_well_formed, reflect_tape}
 use Rattle.checks.specs.Checks.{check_of, examined}
 use Rattle.codec.specs.Codec.{job_of, record_size}
 use Rattle.conflicts.specs.Tapes.{frames_in, input_tapes, labels, output_tapes, same_tape}
 use Rattle.record.specs.declared.Entry.{Entry}
 use Rattle.record.specs.declared.Job.{Job}
+use Rattle.ledger.proofs.Admissible.{CanTake}
 use Rattle.ledger.proofs.Gates.{passed_rest}
 use Rattle.ledger.proofs.Splits.{CutLast, CutBefore, cut as cut_last, empty_uncut}
 use Rattle.ledger.specs.Demand3.{InTurn, OneCreator, accessioned_along, made_along, retire, standing_along, standing_from, trimmed_along}
-use Rattle.ledger.specs.Register.{Register, accession_of, entering, is_admissible, new_register, passes, tabled, taking, without_inputs}
-
--- ---- what admissible means
-pub record CanTake (r : Register) (bytes : List ℕ) : Type 0 where
-  pub fits : examined r.version bytes ≡ Pass
-  pub standing : (t : Entry) → In t (input_tapes (job_of bytes)) → In t r.standing
-  pub new : (t : Entry) → In t (output_tapes (job_of bytes)) → In t.label r.made → ⊥
-
-reflect_passes : (v : Verdict) → Reflects (passes v) (v ≡ Pass)
-reflect_passes Pass = record { sound = λ e. refl; complete = λ e. refl }
-reflect_passes (Fail why) = record { sound = λ e. absurd (true≢false (sym e)); complete = λ e. let z : ◌≡◌ {A = ℕ} 0 1 = cc in absurd (omega arith) }
-
-pub reflect_admissible : (r : Register) (bytes : List ℕ) → Reflects (is_admissible r bytes) (CanTake r bytes)
-unfolding is_admissible
-reflect_admissible r bytes =
-    reflect_as
-    (reflect_and (reflect_passes (examined r.version bytes))
-    (reflect_and
-    (reflect_all_in (input_tapes (job_of bytes)) (λ t. reflect_member t r.standing (reflect_tape t)))
-    (reflect_all_in (output_tapes (job_of bytes)) (λ t. reflect_not (reflect_member t.label r.made (reflect_eq t.label))))))
-    (λ h. record { fits = h.0; standing = h.1.0; new = h.1.1 })
-    (λ h. (h.fits, (h.standing, h.new)))
+use Rattle.ledger.specs.Register.{Register, accession_of, entering, new_register, tabled, taking, without_inputs}
 
 pub examined_checked : (version : ℕ) (bytes : List ℕ) → examined version bytes ≡ Pass → check_of (job_of bytes) ≡ Pass
 unfolding examined

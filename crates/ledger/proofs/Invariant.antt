@@ -27,7 +27,8 @@ use Rattle.record.specs.declared.Job.{Job}
 use Rattle.job_sets.proofs.Jobs.{job_without_other}
 use Rattle.sets.specs.Bits.{has_bit}
 use Rattle.job_sets.specs.Jobs.{job_has, job_without}
-use Rattle.ledger.proofs.Account.{Books, CanTake, books_enter, books_take, reflect_admissible}
+use Rattle.ledger.proofs.Account.{Books, books_enter, books_take}
+use Rattle.ledger.proofs.Admissible.{CanTake, reflect_admissible}
 use Rattle.ledger.proofs.Changes.{
   Change,
   Idle,

@@ -1,5 +1,6 @@
 pub mod Account
 pub mod Acts
+pub mod Admissible
 pub mod Algorithms
 pub mod Changes
 pub mod Counted
