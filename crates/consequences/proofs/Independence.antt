@@ -39,7 +39,8 @@ use Rattle.conflicts.specs.Tapes.{input_tapes, labels, output_tapes, same_tape}
 use Rattle.record.specs.Entries.{no_entry}
 use Rattle.record.specs.declared.Entry.{Entry}
 use Rattle.record.specs.declared.Job.{Job}
-use Rattle.ledger.proofs.Account.{Books, CanTake, books_enter, books_new, books_take, examined_checked, reflect_admissible}
+use Rattle.ledger.proofs.Account.{Books, books_enter, books_new, books_take, examined_checked}
+use Rattle.ledger.proofs.Admissible.{CanTake, reflect_admissible}
 use Rattle.ledger.proofs.Demand3.{demand3}
 use Rattle.ledger.proofs.Rivals.{apart_sym}
 use Rattle.ledger.specs.Demand3.{Apart}
