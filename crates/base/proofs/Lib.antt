@@ -1,5 +1,6 @@
 pub mod Lists
 pub mod Members
+pub mod Ranges
 pub mod Reflect
 pub mod Search
 pub mod Tests

@@ -1,5 +1,6 @@
 -- Searches and sums over the numbers below a bound. Nearly every check is one of them.
-use Rattle.std.specs.Prelude.{Bool, true, false, cond, ◌&&◌, ◌||◌, ℕ, zero, suc, ◌+◌, ◌<◌}
+use Rattle.std.specs.Prelude.{◌≡◌, Bool, true, false, cond, ◌&&◌, ◌||◌, ℕ, zero, suc, ◌+◌, ◌<◌, Option}
+use Rattle.std.specs.Option.{MatchOption}
 
 -- some number below n passes
 unfoldable pub any_below : ℕ → (ℕ → Bool) → Bool
@@ -15,6 +16,10 @@ all_below (suc n) p = p n && all_below n p
 unfoldable pub first_below : ℕ → (ℕ → Bool) → ℕ
 first_below zero p = zero
 first_below (suc n) p = cond (any_below n p) (first_below n p) (cond (p n) n (suc n))
+
+-- what a search below n hands back: the least number that passes, or none where none does
+abbrev pub FirstFound : ℕ → (ℕ → Bool) → Option ℕ → Type 0
+FirstFound n p r = MatchOption r (first_below n p ≡ n) (λ i. (i < n) × (first_below n p ≡ i))
 
 -- f n + f (n + 1) + .. , k terms
 unfoldable pub sum_from : (ℕ → ℕ) → ℕ → ℕ → ℕ
