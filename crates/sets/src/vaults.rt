@@ -8,10 +8,7 @@ ghost use Rattle.sets.specs.Bits.{has_bit, with_member, subset_of};
 pub fn has(set: u16, vault: u8) -> bool
     ensures { result ≡ has_bit set vault }
 {
-    if vault < 16 {
-        return (set >> vault) % 2 == 1;
-    }
-    false
+    vault < 16 && (set >> vault) % 2 == 1
 }
 
 // The set and the vault besides.
@@ -19,9 +16,10 @@ pub fn with(set: u16, vault: u8) -> u16
     ensures { result ≡ with_member 16 set vault }
 {
     if vault < 16 {
-        return set | (1u16 << vault);
+        set | (1u16 << vault)
+    } else {
+        set
     }
-    set
 }
 
 // Whether each member of a is a member of b.
@@ -35,15 +33,12 @@ pub fn subset(a: u16, b: u16) -> bool
 pub fn size(set: u16) -> u32
     ensures { result ≡ ones set }
 {
-    u16::count_ones(set)
+    set.count_ones()
 }
 
 // Whether all members are below n. Widened, because 2 ^ 15 is the largest power that 16 bits hold.
 pub fn within(set: u16, n: u8) -> bool
     ensures { result ≡ ltb set (2 ^ n) }
 {
-    if n < 16 {
-        return (set as u32) < (1u32 << n);
-    }
-    true
+    n >= 16 || u32::from(set) < (1u32 << n)
 }

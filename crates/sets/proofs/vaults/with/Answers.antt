@@ -8,5 +8,5 @@ returns-then-vault-lt16 c =
     or_shl 16 c.args.set c.args.vault c.if-vault-lt16.true
     ∙ sym (member_below 16 c.args.set c.args.vault c.if-vault-lt16.true)
 
-pub returns : goal.returns
-returns c = sym (member_beyond 16 c.args.set c.args.vault c.if-vault-lt16.false)
+pub returns-else-vault-lt16 : goal.returns-else-vault-lt16
+returns-else-vault-lt16 c = sym (member_beyond 16 c.args.set c.args.vault c.if-vault-lt16.false)
