@@ -13,73 +13,70 @@ pub struct JobSet {
 }
 
 impl JobSet {
+    #[tactic(auto, unfolding(crate::specs::Jobs::no_jobs))]
     pub fn empty() -> JobSet
         ensures { result ≡ no_jobs }
     {
         JobSet { low: 0, high: 0 }
     }
 
+    #[tactic(auto, unfolding(crate::specs::Jobs::is_empty))]
     pub fn is_empty(self) -> bool
         ensures { result ≡ is_empty self }
     {
-        if self.low != 0 {
-            return false;
-        }
-        self.high == 0
+        self.low == 0 && self.high == 0
     }
 
     // Whether the job is a member.
+    #[tactic(auto, unfolding(crate::specs::Jobs::job_has))]
     pub fn has(self, job: usize) -> bool
         ensures { result ≡ job_has self job }
     {
-        if job < 64 {
-            return words::has(self.low, job);
+        match job {
+            0..=63 => words::has(self.low, job),
+            64..=127 => words::has(self.high, job - 64),
+            _ => false,
         }
-        if job < 128 {
-            return words::has(self.high, job - 64);
-        }
-        false
     }
 
     // The set and the job besides.
+    #[tactic(auto, unfolding(crate::specs::Jobs::job_with))]
     pub fn with(self, job: usize) -> JobSet
         ensures { result ≡ job_with self job }
     {
-        if job < 64 {
-            return JobSet {
+        match job {
+            0..=63 => JobSet {
                 low: words::with(self.low, job),
-                high: self.high,
-            };
-        }
-        if job < 128 {
-            return JobSet {
-                low: self.low,
+                ..self
+            },
+            64..=127 => JobSet {
                 high: words::with(self.high, job - 64),
-            };
+                ..self
+            },
+            _ => self,
         }
-        self
     }
 
     // The set but for the job.
+    #[tactic(auto, unfolding(crate::specs::Jobs::job_without))]
     pub fn without(self, job: usize) -> JobSet
         ensures { result ≡ job_without self job }
     {
-        if job < 64 {
-            return JobSet {
+        match job {
+            0..=63 => JobSet {
                 low: words::without(self.low, job),
-                high: self.high,
-            };
-        }
-        if job < 128 {
-            return JobSet {
-                low: self.low,
+                ..self
+            },
+            64..=127 => JobSet {
                 high: words::without(self.high, job - 64),
-            };
+                ..self
+            },
+            _ => self,
         }
-        self
     }
 
     // The members of either set.
+    #[tactic(auto, unfolding(crate::specs::Jobs::job_union))]
     pub fn union(self, other: JobSet) -> JobSet
         ensures { result ≡ job_union self other }
     {
@@ -90,6 +87,7 @@ impl JobSet {
     }
 
     // The members that both sets have.
+    #[tactic(auto, unfolding(crate::specs::Jobs::jobs_common))]
     pub fn common(self, other: JobSet) -> JobSet
         ensures { result ≡ jobs_common self other }
     {
@@ -100,19 +98,18 @@ impl JobSet {
     }
 
     // Whether the sets have a member in common.
+    #[tactic(auto, unfolding(crate::specs::Jobs::jobs_meet))]
     pub fn meets(self, other: JobSet) -> bool
         ensures { result ≡ jobs_meet self other }
     {
-        if self.low & other.low != 0 {
-            return true;
-        }
-        self.high & other.high != 0
+        self.low & other.low != 0 || self.high & other.high != 0
     }
 
     // How many members the set has.
+    #[tactic(auto, unfolding(crate::specs::Jobs::job_count))]
     pub fn count(self) -> u32
         ensures { result ≡ job_count self }
     {
-        u64::count_ones(self.low) + u64::count_ones(self.high)
+        self.low.count_ones() + self.high.count_ones()
     }
 }

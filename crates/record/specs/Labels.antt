@@ -1,5 +1,6 @@
 -- A label is six of A–Z or 0–9, then the medium ("Records"): `L` and a digit 5 to 9, or `M8` (M-100).
-use Rattle.std.specs.Prelude.{Bool, cond, ◌&&◌, ◌||◌, ℕ, ◌-◌, ◌*◌, ◌/◌, ◌%◌, ◌^◌, eqb, leb, ltb}
+use Rattle.std.specs.Prelude.{Bool, cond, ◌&&◌, ◌||◌, ℕ, ◌-◌, ◌*◌, ◌/◌, ◌%◌, ◌^◌, ◌<◌, ◌≡◌, Option, eqb, leb, ltb}
+use Rattle.std.specs.Option.{MatchOption}
 use Rattle.base.specs.Search.{all_below}
 
 -- low ≤ x ≤ high
@@ -50,6 +51,10 @@ type_l label = cond (eqb (char_at label 6) 76 && is_between 53 57 (char_at label
 -- the medium that a label names
 unfoldable pub medium_of : ℕ → ℕ
 medium_of label = cond (is_m8 label) M8 (type_l label)
+
+-- what a search for a label's medium hands back: the medium m, or none where m is `media`
+abbrev pub MediumFound : ℕ → Option ℕ → Type 0
+MediumFound m r = MatchOption r (m ≡ media) (λ column. (column < media) × (m ≡ column))
 
 unfoldable pub is_label : ℕ → Bool
 is_label label = all_below 6 (λ i. is_alphanumeric (char_at label i)) && ltb (medium_of label) media

@@ -1,28 +1,8 @@
--- The loop's invariant: each number before the present one passes, so it returns at the first that does not.
-use borrow.Author.Rules.{rules}
-use borrow.Author.Tests.{not-false, not-true}
-use Rattle.base.proofs.Search.{searches}
+-- Each character is tested, in order: `all` over the six places is the search that the contract names.
+use Rattle.std.proofs.Common.{rules}
+use mathlib.Core.Path.{refl}
+use Rattle.base.proofs.Ranges.{all_of_range}
 use Rattle.record.proofs.labels.named.Goals as goal
 
-ruleset by = (searches, not-false, not-true, rules)
-
-pub loop-i-init : goal.loop-i-init
-loop-i-init c = search by depth 8
-
-pub alphanumeric_at-requires : goal.alphanumeric_at-requires
-alphanumeric_at-requires c = search by depth 8
-
-pub returns-then-not-alphanumeric_at : goal.returns-then-not-alphanumeric_at
-returns-then-not-alphanumeric_at c = search by depth 8
-
-pub overflow_step-i : goal.overflow_step-i
-overflow_step-i c = search by depth 8
-
-pub loop-i-smaller : goal.loop-i-smaller
-loop-i-smaller c = search by depth 8
-
-pub loop-i-preserved : goal.loop-i-preserved
-loop-i-preserved c = search by depth 8
-
 pub returns : goal.returns
-returns c = search by depth 8
+returns c = all_of_range _ _ _ _ _ refl (λ x r q k. search rules) c.all.ensures.ran
