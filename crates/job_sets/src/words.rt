@@ -2,6 +2,7 @@
 ghost use Rattle.std.specs.Prelude.{◌≡◌, ◌<◌};
 ghost use Rattle.sets.specs.Bits.{has_bit, with_bit, without_bit};
 
+#[tactic(auto, unfolding(sets::specs::Bits::has_bit))]
 pub(crate) fn has(word: u64, bit: usize) -> bool
     requires { bit < 64 }
     ensures { result ≡ has_bit word bit }
@@ -17,6 +18,7 @@ pub(crate) fn with(word: u64, bit: usize) -> u64
 }
 
 // Takes away the bit as it stands: 2 ^ bit where it is set, else 0.
+#[tactic(auto, using(sets::proofs::Bits::bit_le, sets::proofs::Bits::bit_shl), unfolding(sets::specs::Bits::without_bit))]
 pub(crate) fn without(word: u64, bit: usize) -> u64
     requires { bit < 64 }
     ensures { result ≡ without_bit word bit }
