@@ -24,6 +24,7 @@ const WRITES: [[bool; 6]; 5] = [
     [false, false, false, true, true, false], // drive 9 writes L8, L9
 ];
 
+#[tactic(auto, unfolding(crate::specs::Drives::is_drive))]
 pub fn is_drive(drive: u8) -> bool
     ensures { result ≡ is_drive drive }
 {
@@ -31,21 +32,17 @@ pub fn is_drive(drive: u8) -> bool
 }
 
 // Whether the drive writes the medium, or reads it.
+#[tactic(auto, using(crate::proofs::Table::supports_cell, crate::proofs::Table::supports_none), unfolding(crate::specs::Drives::supports, crate::specs::Drives::is_drive, record::specs::Labels::is_between))]
 pub fn supports(writing: bool, drive: u8, medium: usize) -> bool
     ensures { result ≡ supports writing drive medium }
 {
-    if drive < 5 {
+    if !is_drive(drive) || MEDIA <= medium {
         return false;
     }
-    if 9 < drive {
-        return false;
-    }
-    if MEDIA <= medium {
-        return false;
-    }
-    let row = (drive - 5) as usize;
+    let row = usize::from(drive - 5);
     if writing {
-        return WRITES[row][medium];
+        WRITES[row][medium]
+    } else {
+        READS[row][medium]
     }
-    READS[row][medium]
 }

@@ -6,6 +6,7 @@ ghost use Rattle.std.specs.Prelude.{◌≡◌, ◌<◌};
 ghost use Rattle.quota.specs.Quota.{history_place, is_client, is_spent, remembered};
 
 // Check 22.
+#[tactic(auto, unfolding(crate::specs::Quota::is_client))]
 pub fn is_client(client: u8) -> bool
     ensures { result ≡ is_client client }
 {
@@ -13,6 +14,7 @@ pub fn is_client(client: u8) -> bool
 }
 
 // Check 23: whether four or more of the requests brought a new signature.
+#[tactic(auto, unfolding(crate::specs::Quota::is_spent))]
 pub fn is_spent(history: u16) -> bool
     ensures { result ≡ is_spent history }
 {
@@ -20,19 +22,18 @@ pub fn is_spent(history: u16) -> bool
 }
 
 // The history after one request more; the oldest of the fifteen is forgotten.
+#[tactic(auto, unfolding(crate::specs::Quota::remembered))]
 pub fn remember(history: u16, fresh: bool) -> u16
     ensures { result ≡ remembered history fresh }
 {
     let older = history % 16384 * 2;
-    if fresh {
-        return older + 1;
-    }
-    older
+    if fresh { older + 1 } else { older }
 }
 
 // Where a client's history at a vault stands among all histories.
+#[tactic(auto, unfolding(crate::specs::Quota::history_place))]
 pub fn place(vault: u8, client: u8) -> usize
     ensures { (result ≡ history_place vault client) × (result < 128) }
 {
-    8 * (vault % 16) as usize + (client % 8) as usize
+    8 * usize::from(vault % 16) + usize::from(client % 8)
 }
