@@ -29,10 +29,7 @@ pub fn says_trimmed(version: u16) -> bool
 pub fn record_size(version: u16) -> usize
     ensures { (result ≡ record_size version) × ((100 ≤ result) × (result ≤ 104)) }
 {
-    if says_trimmed(version) {
-        return LONGEST;
-    }
-    BODY
+    if says_trimmed(version) { LONGEST } else { BODY }
 }
 
 // Where record k begins in a row of records. Asked only of records that lie in memory, so their places are numbers of 64 bits.
@@ -54,10 +51,7 @@ pub fn whole_in(version: u16, n: usize) -> usize
 pub fn byte_at(s: &[u8], i: usize) -> u8
     ensures { result ≡ get_or s.now i 0 }
 {
-    if i < s.len() {
-        return s[i];
-    }
-    0
+    s.get(i).copied().unwrap_or(0)
 }
 
 // The little-endian number of count bytes from at on.
@@ -66,27 +60,18 @@ pub fn number_at(s: &[u8], at: usize, count: usize) -> u64
     ensures { (result ≡ le_at s.now at count) × (result < 2 ^ (8 * count)) }
 {
     let mut acc: u64 = 0;
-    let mut k = count;
-    while 0 < k {
-        k -= 1;
+    for k in (0..count).rev() {
         acc = acc * 256 + byte_at(s, at + k) as u64;
     }
     acc
 }
 
-// A byte is below 256.
-fn wide(x: u8) -> u64
-    ensures { (result ≡ x) × (result < 256) }
-{
-    x as u64
-}
-
-// The number of the four bytes from at on, which all lie inside. One sum, since it compiles to one load.
-fn four_in(s: &[u8], at: usize) -> u64
+// The number of the four bytes from at on, which all lie inside.
+fn four_in(s: &[u8], at: usize) -> u32
     requires { at + 4 ≤ length s.now }
-    ensures { (result ≡ le_at s.now at 4) × (result < 2 ^ 32) }
+    ensures { result ≡ le_at s.now at 4 }
 {
-    wide(s[at]) + 256 * (wide(s[at + 1]) + 256 * (wide(s[at + 2]) + 256 * wide(s[at + 3])))
+    u32::from_le_bytes([s[at], s[at + 1], s[at + 2], s[at + 3]])
 }
 
 // An entry that lies inside. Its label is two halves of four bytes, the upper one times 2 ^ 32.
@@ -95,8 +80,8 @@ fn entry_in(s: &[u8], at: usize) -> Entry
     ensures { result ≡ entry_at s.now at }
 {
     Entry {
-        label: four_in(s, at) + 4294967296 * four_in(s, at + 4),
-        frames: four_in(s, at + 8) as u32,
+        label: four_in(s, at) as u64 + 4294967296 * four_in(s, at + 4) as u64,
+        frames: four_in(s, at + 8),
     }
 }
 
@@ -148,7 +133,7 @@ pub fn put_number(out: &mut [u8], at: usize, count: usize, value: u64)
     let mut v = value;
     for k in 0..count {
         out[at + k] = (v % 256) as u8;
-        v = v / 256;
+        v /= 256;
     }
 }
 

@@ -16,8 +16,8 @@ fn write_two(out: &mut [u8], at: usize, n: u32) -> usize
     requires { (n < 100) × (at + 2 ≤ length out.old) }
     ensures { Put out.old at (two_digits n) out.new result × (result ≤ at + 2) }
 {
-    out[at] = 48 + (n / 10) as u8;
-    out[at + 1] = 48 + (n % 10) as u8;
+    out[at] = b'0' + (n / 10) as u8;
+    out[at + 1] = b'0' + (n % 10) as u8;
     at + 2
 }
 
@@ -27,7 +27,7 @@ fn write_few(out: &mut [u8], at: usize, n: u32) -> usize
     ensures { Put out.old at (decimal n) out.new result × (result ≤ at + 2) }
 {
     if n < 10 {
-        return write_byte(out, at, 48 + n as u8);
+        return write_byte(out, at, b'0' + n as u8);
     }
     write_two(out, at, n)
 }

@@ -7,18 +7,12 @@ ghost use Rattle.std.specs.Prelude.{◌≡◌, ◌≤◌, drop, length, take};
 pub fn front(buffer: &[u8], n: usize) -> &[u8]
     ensures { (result.now ≡ take n buffer.now) × (length result.now ≤ n) }
 {
-    if n < buffer.len() {
-        return &buffer[..n];
-    }
-    buffer
+    &buffer[..buffer.len().min(n)]
 }
 
 // The bytes from a place on, none where there are not so many.
 pub fn from(bytes: &[u8], at: usize) -> &[u8]
     ensures { result.now ≡ drop at bytes.now }
 {
-    if at < bytes.len() {
-        return &bytes[at..];
-    }
-    &bytes[bytes.len()..]
+    bytes.get(at..).unwrap_or(&[])
 }

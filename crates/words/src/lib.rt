@@ -17,12 +17,9 @@ pub fn put(out: &mut [u8], at: usize, s: &[u8]) -> usize
     requires { at + length s.now ≤ length out.old }
     ensures { Put out.old at s.now out.new result × (result ≡ at + length s.now) }
 {
-    let mut i = 0;
-    while i < s.len() {
-        out[at + i] = s[i];
-        i += 1;
-    }
-    at + s.len()
+    let end = at + s.len();
+    out[at..end].copy_from_slice(s);
+    end
 }
 
 // The same characters so many times.
@@ -31,20 +28,10 @@ fn put_times(out: &mut [u8], at: usize, n: usize, s: &[u8]) -> usize
     ensures { Put out.old at (times n s.now) out.new result × (result ≤ at + 16 * n) }
 {
     let mut end = at;
-    let mut i = 0;
-    while i < n {
+    for i in 0..n {
         end = put(out, end, s);
-        i += 1;
     }
     end
-}
-
-fn put_byte(out: &mut [u8], at: usize, b: u8) -> usize
-    requires { at < length out.old }
-    ensures { Put out.old at (b ∷ []) out.new result × (result ≤ at + 1) }
-{
-    out[at] = b;
-    at + 1
 }
 
 // Row k of a table: it ends where the next one starts. Past the last there is none.
@@ -114,23 +101,17 @@ fn put_arrow(out: &mut [u8], at: usize, k: usize) -> usize
     requires { at + 3 ≤ length out.old }
     ensures { Put out.old at (arrow k) out.new result × (result ≤ at + 3) }
 {
-    if k == 2 {
-        return at;
-    }
-    put(out, at, b" ->")
+    if k == 2 { at } else { put(out, at, b" ->") }
 }
 
 fn put_trimmed(out: &mut [u8], at: usize, version: u16, trimmed: u32) -> usize
     requires { at + 64 ≤ length out.old }
     ensures { Put out.old at (trimmed_row version trimmed) out.new result × (result ≤ at + 10) }
 {
-    if version == 2 {
-        if trimmed == 0 {
-            return put_times(out, at, 4, b"\x00");
-        }
-        return put(out, at, b" trimmed $");
+    if version != 2 {
+        return at;
     }
-    at
+    if trimmed == 0 { put_times(out, at, 4, b"\x00") } else { put(out, at, b" trimmed $") }
 }
 
 // The row of a proposal with so many entries.
@@ -146,8 +127,8 @@ pub fn put_shaped(
     ensures { Put out.old 0 (shaped version k inputs outputs trimmed) out.new result × (result ≤ longest_row) }
 {
     let a = put_row(out, k);
-    let b = put_byte(out, a, inputs);
-    let c = put_byte(out, b, outputs);
+    let b = digits::write_byte(out, a, inputs);
+    let c = digits::write_byte(out, b, outputs);
     let d = put_half(out, c, inputs as usize);
     let e = put_arrow(out, d, k);
     let f = put_half(out, e, outputs as usize);

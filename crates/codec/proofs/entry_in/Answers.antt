@@ -5,4 +5,4 @@ use Rattle.codec.proofs.entry_in.Goals as goal
 
 pub returns : goal.returns
 unfolding entry_at
-returns c = simp (le_at_halves, c.four_in.ensures.0, c.four_in-2.ensures.0, c.four_in-3.ensures.0)
+returns c = simp (le_at_halves, c.four_in.ensures, c.four_in-2.ensures, c.four_in-3.ensures)

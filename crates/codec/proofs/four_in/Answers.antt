@@ -1,5 +1,5 @@
--- Four bytes fit 32 bits, so no part of the sum overflows.
-use borrow.Author.Rules.{rules}
+-- std's sum of four bytes is the definition's.
+use Rattle.std.proofs.Common.{rules}
 use Rattle.codec.proofs.Numbers.{le_at_four}
 use Rattle.codec.proofs.four_in.Goals as goal
 

@@ -6,6 +6,3 @@ use Rattle.codec.proofs.number_at.Given as goal
 
 abbrev pub invariant-loop-k : goal.invariant-loop-k
 invariant-loop-k l = (l.k ≤ l.count) × ((l.acc ≡ le_at l.s (l.at + l.k) (l.count - l.k)) × (l.acc < 2 ^ (8 * (l.count - l.k))))
-
-abbrev pub decreases-loop-k : goal.decreases-loop-k
-decreases-loop-k l = l.k

@@ -8,6 +8,6 @@ pub returns-then-says_trimmed : goal.returns-then-says_trimmed
 unfolding record_size
 returns-then-says_trimmed c = (simp (sym c.says_trimmed.ensures ∙ c.if-says_trimmed.true), (omega arith, omega arith))
 
-pub returns : goal.returns
+pub returns-else-says_trimmed : goal.returns-else-says_trimmed
 unfolding record_size
-returns c = (simp (sym c.says_trimmed.ensures ∙ c.if-says_trimmed.false), (omega arith, omega arith))
+returns-else-says_trimmed c = (simp (sym c.says_trimmed.ensures ∙ c.if-says_trimmed.false), (omega arith, omega arith))
