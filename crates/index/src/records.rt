@@ -1,7 +1,7 @@
 // Booked records by a sum of their entries.
-ghost use Rattle.std.specs.Prelude.{cond, ◌≡◌, ◌*◌, ◌+◌, ◌<◌, ◌≤◌, length};
+ghost use Rattle.std.specs.Prelude.{◌≡◌, ◌*◌, ◌+◌, ◌<◌, ◌≤◌, length};
 ghost use Rattle.base.specs.Search.{first_below};
-ghost use Rattle.codec.specs.Codec.{job_of, place_of, record_size};
+ghost use Rattle.codec.specs.Codec.{job_of};
 ghost use Rattle.journal.specs.Journal.{capacity, equal_at};
 ghost use Rattle.index.specs.Index.{IndexedRecords};
 ghost use Rattle.index.specs.Places.{buckets};
@@ -34,17 +34,6 @@ pub fn file(records: &mut [u16], a: Job, n: usize)
     records[b] = (n + 1) as u16;
 }
 
-// k where its record has the bytes, else what was found before.
-fn nearer(version: u16, journal: &[u8], bytes: &[u8], k: usize, found: usize) -> usize
-    requires { place_of version k + record_size version ≤ length journal.now }
-    ensures { result ≡ cond (equal_at version journal.now bytes.now k) k found }
-{
-    if journal::equal_at(version, journal, bytes, k) {
-        return k;
-    }
-    found
-}
-
 // The first of n records that has the bytes, which say job a, or n. The chain leads to the first at last.
 pub fn find(records: &[u16], version: u16, journal: &[u8], bytes: &[u8], a: Job, n: usize) -> usize
     requires { (a ≡ job_of bytes.now) × IndexedRecords version journal.now n records.now }
@@ -54,7 +43,9 @@ pub fn find(records: &[u16], version: u16, journal: &[u8], bytes: &[u8], a: Job,
     let mut x = seeking::number(records, sum(a));
     while 0 < x {
         let k = x - 1;
-        found = nearer(version, journal, bytes, k, found);
+        if journal::equal_at(version, journal, bytes, k) {
+            found = k;
+        }
         x = seeking::number(records, BUCKETS + k);
     }
     found

@@ -12,28 +12,20 @@ pub fn bucket(label: u64) -> usize
     (label % BUCKETS as u64) as usize
 }
 
-fn wide(x: u16) -> usize
-    ensures { (result ≡ x) × (result < 65536) }
-{
-    x as usize
-}
-
 // The number at a place of the table.
 pub(crate) fn number(numbers: &[u16], at: usize) -> usize
     requires { at < length numbers.now }
     ensures { (result ≡ get_or numbers.now at 0) × (result < 65536) }
 {
-    wide(numbers[at])
+    usize::from(numbers[at])
 }
 
 // They are the tape's label and frames.
+#[tactic(auto, unfolding(crate::specs::Places::fits))]
 fn agree(label: u64, frames: u32, l: u64, f: u32) -> bool
     ensures { result ≡ fits true label frames l f }
 {
-    if l != label {
-        return false;
-    }
-    f == frames
+    l == label && f == frames
 }
 
 // The entry at a place, where it stands in the journal.
@@ -49,16 +41,6 @@ fn entry_at(version: u16, journal: &[u8], at: usize) -> Entry
 pub struct Pair {
     pub label: usize,
     pub tape: usize,
-}
-
-// x where its label is the one, else what was seen before.
-fn nearest(label: u64, l: u64, x: usize, seen: usize) -> usize
-    ensures { result ≡ cond (eqb l label) x seen }
-{
-    if l == label {
-        return x;
-    }
-    seen
 }
 
 // The number of the label that was seen at the place before x, or m where none was.
@@ -96,7 +78,9 @@ pub fn numbers_of(
                 tape: number(numbers, PLACES + at),
             };
         }
-        seen = nearest(label, there.label, x, seen);
+        if there.label == label {
+            seen = x;
+        }
         x = number(numbers, LINKS + at);
     }
     Pair {

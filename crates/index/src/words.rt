@@ -11,20 +11,17 @@ pub fn mark(words: &mut [u64], b: usize)
     ensures { words.new ≡ marked words.old b true }
 {
     let w = b / 64;
-    words[w] = words[w] | (1u64 << (b % 64));
-}
-
-// A word is below 2 ^ 64.
-fn in_words(low: u64, high: u64) -> JobSet
-    ensures { (result ≡ record { low = low; high = high }) × InWords result }
-{
-    JobSet { low, high }
+    words[w] |= 1u64 << (b % 64);
 }
 
 // The set of jobs in two words.
+#[tactic(auto, unfolding(crate::specs::Words::set_at))]
 pub(crate) fn set_at(words: &[u64], at: usize) -> JobSet
     requires { at + 1 < length words.now }
     ensures { (result ≡ set_at words.now at) × InWords result }
 {
-    in_words(words[at], words[at + 1])
+    JobSet {
+        low: words[at],
+        high: words[at + 1],
+    }
 }

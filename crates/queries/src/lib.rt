@@ -2,12 +2,13 @@
 #![tactic(auto)]
 
 ghost use Rattle.std.specs.Prelude.{◌≡◌, ◌+◌, ◌<◌, ◌≤◌};
+ghost use Rattle.base.specs.Search.{FirstFound};
 ghost use Rattle.index.specs.Index.{IndexedEntries};
 ghost use Rattle.index.specs.Places.{links_at};
 ghost use Rattle.index.specs.Sets.{Tables};
 ghost use Rattle.journal.specs.Journal.{capacity, job_at};
 ghost use Rattle.queries.specs.Admission.{admission};
-ghost use Rattle.queries.specs.Checks.{offends_at, first_offending, consumed_by, remade_by, admission_by};
+ghost use Rattle.queries.specs.Checks.{offends_at, consumed_by, remade_by, admission_by};
 
 use index::{MAKERS, PLACES, READERS, WRITERS};
 use job_sets::JobSet;
@@ -26,17 +27,10 @@ fn offends_at(
     requires { (e < 4) × (at + 4 ≤ links_at) × (kind < 3) × Tables numbers.now sets.now }
     ensures { result ≡ offends_at numbers.now sets.now count at kind s e }
 {
-    if e < count {
-        let met = index::set_of(numbers, sets, at + e, kind).meets(s);
-        if kind == MAKERS {
-            return !met;
-        }
-        return met;
-    }
-    false
+    e < count && index::set_of(numbers, sets, at + e, kind).meets(s) != (kind == MAKERS)
 }
 
-// The first of four entries that offends, or 4.
+// The first of four entries that offends.
 pub fn first_offending(
     numbers: &[u16],
     sets: &[u64],
@@ -44,16 +38,11 @@ pub fn first_offending(
     at: usize,
     kind: usize,
     s: JobSet,
-) -> usize
+) -> Option<usize>
     requires { (at + 4 ≤ links_at) × (kind < 3) × Tables numbers.now sets.now }
-    ensures { result ≡ first_offending numbers.now sets.now count at kind s }
+    ensures { FirstFound 4 (offends_at numbers.now sets.now count at kind s) result }
 {
-    for e in 0..4 {
-        if offends_at(numbers, sets, count, at, kind, s, e) {
-            return e;
-        }
-    }
-    4
+    (0..4).find(|e| offends_at(numbers, sets, count, at, kind, s, *e))
 }
 
 // Checks 12 and 13.
@@ -68,12 +57,10 @@ fn consumed(
     requires { (job < capacity) × Tables numbers.now sets.now }
     ensures { result ≡ consumed_by numbers.now sets.now inputs held others job }
 {
-    let retired = first_offending(numbers, sets, inputs, 8 * job, READERS, held);
-    if retired < 4 {
+    if let Some(retired) = first_offending(numbers, sets, inputs, 8 * job, READERS, held) {
         return Verdict::Fail(Refusal::Retired(retired as u8));
     }
-    let reserved = first_offending(numbers, sets, inputs, 8 * job, READERS, others);
-    if reserved < 4 {
+    if let Some(reserved) = first_offending(numbers, sets, inputs, 8 * job, READERS, others) {
         return Verdict::Fail(Refusal::InputReserved(reserved as u8));
     }
     Verdict::Pass
@@ -84,8 +71,7 @@ fn remade(numbers: &[u16], sets: &[u64], outputs: usize, known: JobSet, job: usi
     requires { (job < capacity) × Tables numbers.now sets.now }
     ensures { result ≡ remade_by numbers.now sets.now outputs known job }
 {
-    let remade = first_offending(numbers, sets, outputs, 8 * job + 4, WRITERS, known);
-    if remade < 4 {
+    if let Some(remade) = first_offending(numbers, sets, outputs, 8 * job + 4, WRITERS, known) {
         return Verdict::Fail(Refusal::OutputReserved(4 + remade as u8));
     }
     Verdict::Pass
@@ -105,12 +91,11 @@ fn admission_by(
     ensures { result ≡ admission_by numbers.now sets.now inputs outputs held others job }
 {
     let at = 8 * job;
-    let missing = first_offending(numbers, sets, inputs, PLACES + at, MAKERS, held);
-    if missing < 4 {
+    if let Some(missing) = first_offending(numbers, sets, inputs, PLACES + at, MAKERS, held) {
         return Verdict::Fail(Refusal::NotCreated(missing as u8));
     }
     let known = held.union(others);
-    if first_offending(numbers, sets, inputs, at, READERS, known) < 4 {
+    if first_offending(numbers, sets, inputs, at, READERS, known).is_some() {
         return consumed(numbers, sets, inputs, held, others, job);
     }
     remade(numbers, sets, outputs, known, job)

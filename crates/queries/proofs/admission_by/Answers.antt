@@ -1,28 +1,22 @@
 -- Each return is one way through the searches.
-use borrow.Author.Tests.{le-ltb, lt-ltb}
-use Rattle.queries.specs.Checks.{admission_by}
+use mathlib.Core.Path.{◌∙◌, sym}
+use borrow.Author.Tests.{lt-ltb}
+use Rattle.queries.proofs.Found.{found_below}
+use Rattle.queries.specs.Checks.{admission_by, first_offending}
 use Rattle.queries.proofs.admission_by.Goals as goal
 
-pub returns-then-missing-lt4 : goal.returns-then-missing-lt4
-unfolding admission_by
-returns-then-missing-lt4 c = simp (← c.first_offending-missing.ensures, lt-ltb _ _ c.if-missing-lt4.true)
+pub returns-in-Some : goal.returns-in-Some
+unfolding admission_by first_offending
+returns-in-Some c = simp (c.in-Some.ensures.1, lt-ltb _ _ c.in-Some.ensures.0)
 
-pub returns-then-first_offending-lt4 : goal.returns-then-first_offending-lt4
-unfolding admission_by
-returns-then-first_offending-lt4 c =
-    let m = c in
-    let u = m in
-    let first = le-ltb _ _ u.if-missing-lt4.false in
-    simp
-    (← u.union-known.ensures, ← m.first_offending.ensures, lt-ltb _ _ c.if-first_offending-lt4.true, ← u.first_offending-missing.ensures, first)
-    c.consumed.ensures
+pub returns-then-is_some : goal.returns-then-is_some
+unfolding admission_by first_offending
+returns-then-is_some c =
+    let some = found_below _ _ _ c.first_offending-2.ensures ∙ sym c.is_some.ensures ∙ c.if-is_some.true in
+    simp (c.in_default.ensures, ← c.union-known.ensures, some) c.consumed.ensures
 
 pub returns : goal.returns
-unfolding admission_by
+unfolding admission_by first_offending
 returns c =
-    let m = c in
-    let u = m in
-    let first = le-ltb _ _ u.if-missing-lt4.false in
-    simp
-    (← u.union-known.ensures, ← m.first_offending.ensures, le-ltb _ _ c.if-first_offending-lt4.false, ← u.first_offending-missing.ensures, first)
-    c.remade.ensures
+    let none = found_below _ _ _ c.first_offending-2.ensures ∙ sym c.is_some.ensures ∙ c.if-is_some.false in
+    simp (c.in_default.ensures, ← c.union-known.ensures, none) c.remade.ensures

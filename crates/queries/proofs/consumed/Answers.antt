@@ -1,20 +1,18 @@
 -- Each return is one way through the two searches.
-use borrow.Author.Tests.{le-ltb, lt-ltb}
-use Rattle.queries.specs.Checks.{consumed_by}
+use borrow.Author.Tests.{lt-ltb}
+use Rattle.queries.specs.Checks.{consumed_by, first_offending}
 use Rattle.queries.proofs.consumed.Goals as goal
 
-pub returns-then-retired-lt4 : goal.returns-then-retired-lt4
-unfolding consumed_by
-returns-then-retired-lt4 c = simp (← c.first_offending-retired.ensures, lt-ltb _ _ c.if-retired-lt4.true)
+pub returns-in-Some : goal.returns-in-Some
+unfolding consumed_by first_offending
+returns-in-Some c = simp (c.in-Some.ensures.1, lt-ltb _ _ c.in-Some.ensures.0)
 
-pub returns-then-reserved-lt4 : goal.returns-then-reserved-lt4
-unfolding consumed_by
-returns-then-reserved-lt4 c =
-    let d = c in
-    simp (← d.first_offending-reserved.ensures, lt-ltb _ _ c.if-reserved-lt4.true, ← d.first_offending-retired.ensures, le-ltb _ _ d.if-retired-lt4.false)
+pub returns-in-Some-first_offending : goal.returns-in-Some-first_offending
+unfolding consumed_by first_offending
+returns-in-Some-first_offending c =
+    let found = c.in-Some-first_offending.ensures in
+    simp (c.in_default.ensures, found.1, lt-ltb _ _ found.0)
 
 pub returns : goal.returns
-unfolding consumed_by
-returns c =
-    let d = c in
-    simp (← d.first_offending-reserved.ensures, le-ltb _ _ c.if-reserved-lt4.false, ← d.first_offending-retired.ensures, le-ltb _ _ d.if-retired-lt4.false)
+unfolding consumed_by first_offending
+returns c = simp (c.in_default.ensures, c.in_default-first_offending.ensures)

@@ -1,33 +1,12 @@
--- No entry before the present one offends, so it returns at the first that does.
-use Prim.Native.Nat.{◌-◌}
-use Rattle.base.proofs.Search.{loops}
-use Rattle.queries.specs.Checks.{first_offending}
+-- Each of the four entries is tested, in order.
+use Rattle.std.proofs.Common.{rules}
+use Rattle.std.proofs.lemmas.Iterator.{serves_from_Range}
+use mathlib.Core.Path.{refl}
+use Rattle.base.proofs.Ranges.{first_of_range}
 use Rattle.queries.proofs.first_offending.Goals as goal
 
-pub loop-e-init : goal.loop-e-init
-unfolding first_offending
-loop-e-init c = search loops depth 8
-
-pub offends_at-requires : goal.offends_at-requires
-unfolding first_offending
-offends_at-requires c = search loops depth 8
-
-pub returns-then-offends_at : goal.returns-then-offends_at
-unfolding first_offending
-returns-then-offends_at c = search loops depth 8
-
-pub overflow_step-e : goal.overflow_step-e
-unfolding first_offending
-overflow_step-e c = search loops depth 8
-
-pub loop-e-smaller : goal.loop-e-smaller
-unfolding first_offending
-loop-e-smaller c = search loops depth 8
-
-pub loop-e-preserved : goal.loop-e-preserved
-unfolding first_offending
-loop-e-preserved c = search loops depth 8
+pub find-requires : goal.find-requires
+find-requires c = record { can = tt; finite = tt; callable = serves_from_Range (λ x q k. search rules) (λ x low high. search rules) }
 
 pub returns : goal.returns
-unfolding first_offending
-returns c = search loops depth 8
+returns c = first_of_range _ _ _ _ _ refl (λ x r q k. search rules) c.find.ensures.ran

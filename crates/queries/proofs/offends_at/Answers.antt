@@ -1,21 +1,20 @@
 -- What the set at the entry's number says, turned about for the makers.
-use borrow.Author.Tests.{eq-eqb, lt-ltb, ne_eqb}
-use Rattle.base.proofs.Tests.{chain}
+use mathlib.Core.Bool.{Bool, beq, cond, false, not, true}
+use mathlib.Core.Path.{◌≡◌, refl}
+use borrow.Author.Tests.{le-ltb, lt-ltb}
 use Rattle.queries.specs.Checks.{offends_at}
 use Rattle.queries.proofs.offends_at.Goals as goal
 
-pub returns-then-kind-eq-MAKERS : goal.returns-then-kind-eq-MAKERS
-unfolding offends_at
-returns-then-kind-eq-MAKERS c =
-    let m = c in
-    simp (lt-ltb _ _ m.if-e-count.true, eq-eqb _ _ c.if-kind-eq-MAKERS.true, m.meets-met.ensures, m.set_of.ensures.0)
+turned : (met makers : Bool) → not (beq met makers) ≡ cond makers (not met) met
+turned true true = refl
+turned true false = refl
+turned false true = refl
+turned false false = refl
 
 pub returns-then-e-count : goal.returns-then-e-count
 unfolding offends_at
-returns-then-e-count c =
-    let m = c in
-    simp (lt-ltb _ _ m.if-e-count.true, ne_eqb _ _ c.if-kind-eq-MAKERS.false, m.meets-met.ensures, m.set_of.ensures.0)
+returns-then-e-count c = simp (lt-ltb _ _ c.if-e-count.true, c.meets.ensures, c.set_of.ensures.0) (turned _ _)
 
-pub returns : goal.returns
+pub returns-else-e-count : goal.returns-else-e-count
 unfolding offends_at
-returns c = search chain depth 8
+returns-else-e-count c = simp (le-ltb _ _ c.if-e-count.false)

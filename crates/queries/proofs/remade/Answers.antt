@@ -1,12 +1,12 @@
 -- Each return is one way through the search.
-use borrow.Author.Tests.{le-ltb, lt-ltb}
-use Rattle.queries.specs.Checks.{remade_by}
+use borrow.Author.Tests.{lt-ltb}
+use Rattle.queries.specs.Checks.{first_offending, remade_by}
 use Rattle.queries.proofs.remade.Goals as goal
 
-pub returns-then-remade-lt4 : goal.returns-then-remade-lt4
-unfolding remade_by
-returns-then-remade-lt4 c = simp (← c.first_offending-remade.ensures, lt-ltb _ _ c.if-remade-lt4.true)
+pub returns-in-Some : goal.returns-in-Some
+unfolding remade_by first_offending
+returns-in-Some c = simp (c.in-Some.ensures.1, lt-ltb _ _ c.in-Some.ensures.0)
 
 pub returns : goal.returns
-unfolding remade_by
-returns c = simp (← c.first_offending-remade.ensures, le-ltb _ _ c.if-remade-lt4.false)
+unfolding remade_by first_offending
+returns c = simp (c.in_default.ensures)

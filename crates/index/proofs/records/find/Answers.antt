@@ -1,10 +1,12 @@
 -- The loop's invariant is the walk along the chain of the sum, and the first equal found so far.
+use mathlib.Core.Path.{◌∙◌, sym}
 use Prim.Native.Nat.{◌-◌}
 use native.Mathlib.Omega.{arith}
 use Rattle.index.proofs.Files.{find_end, find_less, find_next, find_start}
 use Rattle.index.proofs.Inside.{inside_record}
 use Rattle.index.proofs.Tables.{indexed_filed}
 use Rattle.index.proofs.records.find.Goals as goal
+use Rattle.index.proofs.records.find.Goals.{else-equal_at, then-equal_at}
 
 pub number-x-requires : goal.number-x-requires
 number-x-requires c = omega (arith, (indexed_filed _ _ _ _ c.requires.1).size)
@@ -14,8 +16,8 @@ loop-x-init c =
     let p = c.requires in
     find_start _ _ _ _ _ (indexed_filed _ _ _ _ p.1) _ _ _ p.0 c.sum.ensures c.number-x.ensures.0
 
-pub nearer-found-requires : goal.nearer-found-requires
-nearer-found-requires c =
+pub equal_at-requires : goal.equal_at-requires
+equal_at-requires c =
     let t = c.requires.1 in
     let a = c.args in
     (inside_record a.version a.journal.now a.n (c.loop-x.x - 1) t.few t.inside
@@ -34,7 +36,11 @@ pub loop-x-preserved : goal.loop-x-preserved
 loop-x-preserved c =
     let d = c in
     let t = indexed_filed _ _ _ _ d.requires.1 in
-    find_next _ _ _ _ _ t _ _ c.loop-x-test.true d.loop-x.invariant _ _ c.number-x-in-loop-x.ensures.0 c.nearer-found.ensures
+    find_next _ _ _ _ _ t _ _ c.loop-x-test.true d.loop-x.invariant _ _ c.number-x-in-loop-x.ensures.0
+    (elim c.if-equal_at.branch [
+      | then-equal_at w ↦ w.found-is ∙ simp (sym c.equal_at.ensures ∙ w.if-equal_at.true)
+      | else-equal_at w ↦ w.found-is ∙ simp (sym c.equal_at.ensures ∙ w.if-equal_at.false)
+    ])
 
 pub returns : goal.returns
 returns c =

@@ -1,5 +1,4 @@
 -- The loop's invariant is the walk along the chain of the sum, and the first equal found so far.
-use Prim.Native.Nat.{◌-◌}
 use Rattle.index.proofs.Files.{Seeking}
 use Rattle.index.proofs.records.find.Given as goal
 

@@ -1,6 +1,5 @@
 -- The loop's head holds the sum of the entries so far, which is a remainder.
 use mathlib.Core.Path.{◌∙◌, ◌≡◌, ap, refl}
-use Prim.Native.Nat.{◌-◌}
 use native.Mathlib.Omega.{arith}
 use Rattle.index.proofs.Files.{sum_next}
 use Rattle.index.specs.Places.{bucket_of}

@@ -1,9 +1,12 @@
 -- The loop's invariant is the walk along the bucket's chain, and a place seen on it that has the label.
+use mathlib.Core.Path.{◌∙◌}
 use Prim.Native.Nat.{◌-◌}
 use native.Mathlib.Omega.{arith}
+use borrow.Author.Tests.{eq-eqb, ne_eqb}
 use Rattle.index.proofs.Inside.{holds_at_lem}
 use Rattle.index.proofs.Seeks.{look_end, look_found, look_less, look_next, look_start}
 use Rattle.index.proofs.seeking.numbers_of.Goals as goal
+use Rattle.index.proofs.seeking.numbers_of.Goals.{else-there-label, then-there-label}
 
 pub loop-x-init : goal.loop-x-init
 loop-x-init c = look_start _ _ _ c.requires.1 _ _ _ _ c.bucket.ensures c.number-x.ensures.0
@@ -30,7 +33,12 @@ loop-x-preserved c =
     let d = c in
     let l = d in
     look_next _ _ _ l.requires.1 _ _ _ _ l.loop-x-test.true l.loop-x.invariant _ _ _ _ _
-    d.entry_at-there.ensures c.agree.ensures c.if-agree.false c.nearest-seen.ensures c.number-x-in-loop-x.ensures.0
+    d.entry_at-there.ensures c.agree.ensures c.if-agree.false
+    (elim c.if-there-label.branch [
+      | then-there-label w ↦ w.seen-is ∙ simp (eq-eqb _ _ w.if-there-label.true)
+      | else-there-label w ↦ w.seen-is ∙ simp (ne_eqb _ _ w.if-there-label.false)
+    ])
+    c.number-x-in-loop-x.ensures.0
 
 pub returns : goal.returns
 returns c =

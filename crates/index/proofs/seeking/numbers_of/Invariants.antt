@@ -1,5 +1,4 @@
 -- The loop's invariant is the walk along the bucket's chain, and a place seen on it that has the label.
-use Prim.Native.Nat.{◌-◌}
 use Rattle.index.proofs.Seeks.{Look}
 use Rattle.index.specs.Places.{slot_job}
 use Rattle.index.proofs.seeking.numbers_of.Given as goal
