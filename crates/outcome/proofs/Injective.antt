@@ -5,10 +5,9 @@ use mathlib.Core.List.{List, [], ◌∷◌}
 use mathlib.Core.Path.{◌≡◌, refl, sym, ap, ap₂, ◌∙◌}
 use Prim.Native.Nat.{ℕ}
 use lib.Dec.{eqb}
-use Rattle.outcome.specs.declared.Outcome.{Outcome}
-use Rattle.outcome.specs.declared.Outcome.TheVariants.{Done, Refused}
+use Rattle.std.specs.Prelude.{Ok, Err}
 use Rattle.outcome.specs.declared.Refusal.{Refusal}
-use Rattle.outcome.specs.Figures.{refusal_number, refusal_value, number_of, value_of}
+use Rattle.outcome.specs.Figures.{refusal_number, refusal_value, number_of, value_of, Outcome}
 
 -- all refusals, with this value where one is carried
 abbrev table : ℕ → List Refusal
@@ -21,14 +20,14 @@ table value =
 
 -- the refusal among these that has this number; where none has, a step carried out
 abbrev numbered : ℕ → ℕ → List Refusal → Outcome
-numbered number value [] = Done value
-numbered number value (r ∷ l) = cond (eqb (refusal_number r) number) (Refused r) (numbered number value l)
+numbered number value [] = Ok value
+numbered number value (r ∷ l) = cond (eqb (refusal_number r) number) (Err r) (numbered number value l)
 
 -- the outcome with these figures
 abbrev pub outcome_at : ℕ → ℕ → Outcome
 outcome_at number value = numbered number value (table value)
 
-refusal_back : (r : Refusal) → outcome_at (refusal_number r) (refusal_value r) ≡ Refused r
+refusal_back : (r : Refusal) → outcome_at (refusal_number r) (refusal_value r) ≡ Err r
 refusal_back Refusal.Settings = refl
 refusal_back Refusal.Unreadable = refl
 refusal_back Refusal.NoVault = refl
@@ -57,8 +56,8 @@ refusal_back Refusal.NoneBalances = refl
 refusal_back Refusal.NoContest = refl
 
 pub outcome_back : (o : Outcome) → outcome_at (number_of o) (value_of o) ≡ o
-outcome_back (Done v) = refl
-outcome_back (Refused r) = refusal_back r
+outcome_back (Ok v) = refl
+outcome_back (Err r) = refusal_back r
 
 -- outcomes with one number are the same case, each with its own value
 pub number_injective : (o p : Outcome) → number_of o ≡ number_of p → p ≡ outcome_at (number_of o) (value_of p)

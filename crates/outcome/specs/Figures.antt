@@ -1,8 +1,13 @@
 -- The two figures that document 01 gives for each answer ("Turned back"): its number, and its value.
-use Rattle.std.specs.Prelude.{ℕ}
-use Rattle.outcome.specs.declared.Outcome.{Outcome}
-use Rattle.outcome.specs.declared.Outcome.TheVariants.{Done, Refused}
+use Rattle.std.specs.Prelude.{ℕ, Result, Ok, Err}
 use Rattle.outcome.specs.declared.Refusal.{Refusal}
+
+-- what a step answers, its value or why it is refused; and the answer of a row of checks
+abbrev pub Outcome : Type 0
+Outcome = Result ℕ Refusal
+
+abbrev pub Verdict : Type 0
+Verdict = Result (Unit {0}) Refusal
 
 -- a refusal's place in the table, and the entry of refusals 7, 8 and 11 to 14, else 0; document 02 has 19 and 20 (M-105), 21 (M-108), 22 and 23 (M-109), 24,
 -- with an entry, and 25 (M-110), and 26 (M-111)
@@ -42,9 +47,9 @@ refusal_value r = (figures_of r).1
 
 -- a step carried out is 0 with its value
 abbrev pub number_of : Outcome → ℕ
-number_of (Done v) = 0
-number_of (Refused r) = refusal_number r
+number_of (Ok v) = 0
+number_of (Err r) = refusal_number r
 
 abbrev pub value_of : Outcome → ℕ
-value_of (Done v) = v
-value_of (Refused r) = refusal_value r
+value_of (Ok v) = v
+value_of (Err r) = refusal_value r

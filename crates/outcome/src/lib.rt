@@ -61,55 +61,44 @@ pub enum Refusal {
     NoContest,
 }
 
-// Done carries the step's value.
-#[derive(Clone, Copy)]
-pub enum Outcome {
-    Done(u32),
-    Refused(Refusal),
-}
+// What a step answers: its value, or why it is refused.
+pub type Outcome = Result<u32, Refusal>;
 
 // The answer of a row of checks.
-#[derive(Clone, Copy)]
-pub enum Verdict {
-    Pass,
-    Fail(Refusal),
-}
-
-// A refusal's number in document 01's table or in document 02, and the entry that it carries, else 0.
-#[derive(Clone, Copy)]
-struct Figures(u8, u8);
+pub type Verdict = Result<(), Refusal>;
 
 impl Refusal {
-    fn figures(self) -> Figures
+    // Its number in document 01's table or in document 02, and the entry that it carries, else 0.
+    fn figures(self) -> (u8, u8)
         ensures { (result.0 ≡ refusal_number self) × (result.1 ≡ refusal_value self) }
     {
         match self {
-            Refusal::Settings => Figures(1, 0),
-            Refusal::Unreadable => Figures(2, 0),
-            Refusal::NoVault => Figures(3, 0),
-            Refusal::NotBooked => Figures(4, 0),
-            Refusal::WrongVault => Figures(5, 0),
-            Refusal::Malformed => Figures(6, 0),
-            Refusal::Repeated(entry) => Figures(7, entry),
-            Refusal::Unsupported(entry) => Figures(8, entry),
-            Refusal::Unbalanced => Figures(9, 0),
-            Refusal::Full => Figures(10, 0),
-            Refusal::NotCreated(entry) => Figures(11, entry),
-            Refusal::Retired(entry) => Figures(12, entry),
-            Refusal::InputReserved(entry) => Figures(13, entry),
-            Refusal::OutputReserved(entry) => Figures(14, entry),
-            Refusal::NotSigned => Figures(15, 0),
-            Refusal::TooFewSigners => Figures(16, 0),
-            Refusal::TooManyAbsent => Figures(17, 0),
-            Refusal::NotHeld => Figures(18, 0),
-            Refusal::NotSignedHere => Figures(19, 0),
-            Refusal::NotSuperseded => Figures(20, 0),
-            Refusal::NoSetWorks => Figures(21, 0),
-            Refusal::NoClient => Figures(22, 0),
-            Refusal::OverQuota => Figures(23, 0),
-            Refusal::Reversed(entry) => Figures(24, entry),
-            Refusal::NoneBalances => Figures(25, 0),
-            Refusal::NoContest => Figures(26, 0),
+            Refusal::Settings => (1, 0),
+            Refusal::Unreadable => (2, 0),
+            Refusal::NoVault => (3, 0),
+            Refusal::NotBooked => (4, 0),
+            Refusal::WrongVault => (5, 0),
+            Refusal::Malformed => (6, 0),
+            Refusal::Repeated(entry) => (7, entry),
+            Refusal::Unsupported(entry) => (8, entry),
+            Refusal::Unbalanced => (9, 0),
+            Refusal::Full => (10, 0),
+            Refusal::NotCreated(entry) => (11, entry),
+            Refusal::Retired(entry) => (12, entry),
+            Refusal::InputReserved(entry) => (13, entry),
+            Refusal::OutputReserved(entry) => (14, entry),
+            Refusal::NotSigned => (15, 0),
+            Refusal::TooFewSigners => (16, 0),
+            Refusal::TooManyAbsent => (17, 0),
+            Refusal::NotHeld => (18, 0),
+            Refusal::NotSignedHere => (19, 0),
+            Refusal::NotSuperseded => (20, 0),
+            Refusal::NoSetWorks => (21, 0),
+            Refusal::NoClient => (22, 0),
+            Refusal::OverQuota => (23, 0),
+            Refusal::Reversed(entry) => (24, entry),
+            Refusal::NoneBalances => (25, 0),
+            Refusal::NoContest => (26, 0),
         }
     }
 
@@ -126,24 +115,22 @@ impl Refusal {
     }
 }
 
-impl Outcome {
-    // 0, or the refusal's number.
-    pub fn number(self) -> u8
-        ensures { result ≡ number_of self }
-    {
-        match self {
-            Outcome::Done(_) => 0,
-            Outcome::Refused(why) => why.number(),
-        }
+// 0, or the refusal's number.
+pub fn number(outcome: Outcome) -> u8
+    ensures { result ≡ number_of outcome }
+{
+    match outcome {
+        Ok(_) => 0,
+        Err(why) => why.number(),
     }
+}
 
-    // The step's value, or the refusal's.
-    pub fn value(self) -> u32
-        ensures { result ≡ value_of self }
-    {
-        match self {
-            Outcome::Done(value) => value,
-            Outcome::Refused(why) => why.value() as u32,
-        }
+// The step's value, or the refusal's.
+pub fn value(outcome: Outcome) -> u32
+    ensures { result ≡ value_of outcome }
+{
+    match outcome {
+        Ok(value) => value,
+        Err(why) => u32::from(why.value()),
     }
 }

@@ -1,8 +1,0 @@
--- Each arm returns its case of `number_of`: what the match tells of `self` is put into it.
-use borrow.Author.Rules.{rules}
-use Rattle.outcome.specs.Figures.{number_of}
-use Rattle.outcome.proofs.Refused.{refused_figure}
-use Rattle.outcome.proofs.Outcome.number.Goals as goal
-
-pub returns-in-Refused : goal.returns-in-Refused
-returns-in-Refused c = search (refused_figure number_of, rules)
