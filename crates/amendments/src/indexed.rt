@@ -31,7 +31,7 @@ pub(crate) fn release(
         booked,
     );
     supersession::release(
-        Verdict::Pass,
+        Ok(()),
         state,
         &numbers,
         &sets,
@@ -70,7 +70,7 @@ pub(crate) fn client_preflight(
         booked,
     );
     preflights::client_preflight(
-        Verdict::Pass,
+        Ok(()),
         state,
         &numbers,
         &sets,

@@ -15,7 +15,7 @@ pub fn release(ledger: Ledger, journal: &[u8], vault: u8, job: u8, rival: u8) ->
 {
     let gate = gates::vault_gate(ledger, journal, vault, job, false);
     match gate {
-        Verdict::Pass => {
+        Ok(()) => {
             let v = vault as usize;
             let j = job as usize;
             let state = ledger.vaults[v];
@@ -32,7 +32,7 @@ pub fn release(ledger: Ledger, journal: &[u8], vault: u8, job: u8, rival: u8) ->
             );
             gates::carry(ledger, decision, vault, job)
         }
-        Verdict::Fail(why) => gates::turn_back(ledger, why),
+        Err(why) => gates::turn_back(ledger, why),
     }
 }
 
@@ -43,7 +43,7 @@ pub fn client_preflight(ledger: Ledger, journal: &[u8], vault: u8, job: u8, clie
 {
     let gate = gates::vault_gate(ledger, journal, vault, job, false);
     match gate {
-        Verdict::Pass => {
+        Ok(()) => {
             let v = vault as usize;
             let j = job as usize;
             let state = ledger.vaults[v];
@@ -64,6 +64,6 @@ pub fn client_preflight(ledger: Ledger, journal: &[u8], vault: u8, job: u8, clie
             );
             gates::carry(ledger, decision, vault, job)
         }
-        Verdict::Fail(why) => gates::turn_back(ledger, why),
+        Err(why) => gates::turn_back(ledger, why),
     }
 }

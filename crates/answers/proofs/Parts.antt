@@ -8,8 +8,7 @@ use borrow.Author.Tests.{eq-eqb, ne_eqb}
 use Rattle.explanations.proofs.Lengths.{reason_brief}
 use Rattle.explanations.specs.Answers.{answer_text, done_text, figure, names, refused_text}
 use Rattle.explanations.specs.Words.{meaning, reason, status}
-use Rattle.outcome.specs.Figures.{number_of, value_of}
-use Rattle.outcome.specs.declared.Outcome.{Outcome}
+use Rattle.outcome.specs.Figures.{number_of, value_of, Outcome}
 use Rattle.rows.specs.Writing.{longest_by, text_by}
 use Rattle.job_sets.specs.declared.job_set.JobSet.{JobSet}
 use Rattle.digits.proofs.Writing.{made, then}

@@ -28,11 +28,11 @@ pub fn put_answer(
     ensures { Put out.old at (answer_text kind outcome members threshold bytes.now) out.new result
         × (result ≤ at + answer_long) }
 {
-    let number = outcome.number();
+    let number = outcome::number(outcome);
     if number == 0 {
-        return values::put_done(out, at, kind, outcome.value(), members);
+        return values::put_done(out, at, kind, outcome::value(outcome), members);
     }
-    reasons::put_refused(out, at, number, outcome.value(), threshold, bytes)
+    reasons::put_refused(out, at, number, outcome::value(outcome), threshold, bytes)
 }
 
 // What is said of a file that check 1 turns back, at the front of `out`.

@@ -7,9 +7,8 @@ use native.Mathlib.Omega.{arith}
 use lib.Dec.{leb}
 use borrow.Author.Tests.{le-leb, leb-false, leb-true, lt-leb}
 use Rattle.base.proofs.Reflect.{refuted, refutes}
-use Rattle.outcome.specs.Figures.{value_of}
-use Rattle.outcome.specs.declared.Outcome.{Outcome}
-use Rattle.outcome.specs.declared.Outcome.TheVariants.{Done, Refused}
+use Rattle.outcome.specs.Figures.{value_of, Outcome}
+use Rattle.std.specs.Prelude.{Ok, Err}
 use Rattle.outcome.specs.declared.Refusal.TheVariants.{Settings as BadSettings, TooManyAbsent}
 use Rattle.federation.proofs.Lawful.{reflect_lawful}
 use Rattle.federation.specs.Federation.{Lawful, is_lawful, threshold_of}
@@ -49,7 +48,7 @@ unfolding draw_of failing
 draw_small s u = by (is_lawful s) refl (leb u s.n) refl
   where
     by : (a : Bool) → is_lawful s ≡ a → (b : Bool) → leb u s.n ≡ b
-        → value_of (cond a (cond b (Done (thousandths (failing s u) (choose s.n (threshold_of s)))) (Refused TooManyAbsent)) (Refused BadSettings)) ≤ 1000
+        → value_of (cond a (cond b (Ok (thousandths (failing s u) (choose s.n (threshold_of s)))) (Err TooManyAbsent)) (Err BadSettings)) ≤ 1000
     by true e true l = share_most (failing s u) (choose s.n (threshold_of s)) (some_quorum s u e (leb-true u s.n l)) (omega arith)
     by true e false l = omega arith
     by false e b l = omega arith
@@ -64,7 +63,7 @@ module _ (s : Settings) (u : ℕ) where
   draw_means = by (is_lawful s) refl (leb u s.n) refl
     where
       by : (a : Bool) → is_lawful s ≡ a → (b : Bool) → leb u s.n ≡ b
-          → Drawn s u (cond a (cond b (Done (thousandths (failing s u) quorums)) (Refused TooManyAbsent)) (Refused BadSettings))
+          → Drawn s u (cond a (cond b (Ok (thousandths (failing s u) quorums)) (Err TooManyAbsent)) (Err BadSettings))
       by true e true l =
           chance _ ((reflect_lawful s).sound e) (leb-true u s.n l) (nearest (failing s u) quorums (some_quorum s u e (leb-true u s.n l)))
       by true e false l = absent ((reflect_lawful s).sound e) (leb-false u s.n l)
@@ -77,4 +76,4 @@ module _ (s : Settings) (u : ℕ) where
   means_draw o (chance r h l x) =
       let e = (reflect_lawful s).complete h in
       let some = some_quorum s u e l in
-      simp (e, le-leb u s.n l) (ap Done (nearest_once (failing s u) quorums some r _ x (nearest (failing s u) quorums some)))
+      simp (e, le-leb u s.n l) (ap Ok (nearest_once (failing s u) quorums some r _ x (nearest (failing s u) quorums some)))

@@ -10,7 +10,7 @@ use Rattle.base.proofs.Reflect.{by_cases, reflect_and, reflect_as, reflect_eq, r
 use Rattle.base.proofs.Search.{all_at}
 use Rattle.base.specs.Reflect.{Reflects}
 use Rattle.base.specs.Search.{all_below}
-use Rattle.outcome.specs.declared.Outcome.TheVariants.{Done}
+use Rattle.std.specs.Prelude.{Ok}
 use Rattle.federation.proofs.Lawful.{reflect_lawful}
 use Rattle.federation.specs.Federation.{Lawful, threshold_of}
 use Rattle.federation.specs.declared.Settings.{Settings}
@@ -57,7 +57,7 @@ unfolding failing threshold_of choose factorial thousandths to_even halves_up
 c9_values s u c = rw (c.vaults, c.bound, c.away) (refl, refl)
 
 module _ (s : Settings) (u : ℕ) (h : Lawful s) (l : u ≤ s.n) where
-  drawn : draw_of s u ≡ Done (by_rounding thousandths s u)
+  drawn : draw_of s u ≡ Ok (by_rounding thousandths s u)
   unfolding draw_of
   drawn = simp ((reflect_lawful s).complete h, le-leb u s.n l)
 
@@ -72,6 +72,6 @@ module _ (s : Settings) (u : ℕ) (h : Lawful s) (l : u ≤ s.n) where
   pub draws_keep : Kept s u (draw_of s u)
   draws_keep =
       rw drawn
-      (by_cases (λ _. Kept s u (Done (by_rounding thousandths s u))) (is_c9 s.n s.b u)
+      (by_cases (λ _. Kept s u (Ok (by_rounding thousandths s u))) (is_c9 s.n s.b u)
       (λ e. let c = (reflect_c9 s u).sound e in rw (c9_values s u c).0 (changed c (c9_values s u c).1))
       (λ e. let n = refuted (reflect_c9 s u) e in rw (agree n) (same n)))

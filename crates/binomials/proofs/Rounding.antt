@@ -11,7 +11,7 @@ use borrow.Author.Tests.{eqb-false, eqb-true, leb-false, leb-true, ltb-false, lt
 use Rattle.base.proofs.Reflect.{by_cases}
 use Rattle.federation.specs.Federation.{is_federation, is_known, is_lawful_up_to, threshold_of}
 use Rattle.federation.specs.declared.Settings.{Settings}
-use Rattle.outcome.specs.declared.Outcome.TheVariants.{Done, Refused}
+use Rattle.std.specs.Prelude.{Ok, Err}
 use Rattle.outcome.specs.declared.Refusal.TheVariants.{TooManyAbsent}
 use Rattle.binomials.specs.Binomials.{choose, factorial}
 use Rattle.binomials.specs.Draw.{Nearest, draw_of, failing, gap, thousandths, to_even}
@@ -143,7 +143,7 @@ complement part whole h l =
 abbrev four : Settings
 four = record { n = 4; b = 1; faulty = 0; version = 1 }
 
-pub worked : (draw_of four 2 ≡ Done 1000) × (draw_of four 5 ≡ Refused TooManyAbsent)
+pub worked : (draw_of four 2 ≡ Ok 1000) × (draw_of four 5 ≡ Err TooManyAbsent)
 unfolding draw_of failing thousandths to_even choose factorial is_lawful_up_to is_known is_federation threshold_of ones
 worked = (refl, refl)
 

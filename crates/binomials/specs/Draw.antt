@@ -1,8 +1,7 @@
 -- The draw ("Draw", the paper's Theorem 4 with both sizes n − b): "with u vaults that can't sign, the chance that a random preflight quorum
 -- fails, 1 − C(n−u, n−b) / C(n, n−b), in thousandths"; M-103 of document 02: "an exact half to the even neighbour. The draw follows".
-use Rattle.std.specs.Prelude.{cond, ◌≡◌, ◌%◌, ◌*◌, ◌+◌, ◌-◌, ◌/◌, ◌<◌, ◌≤◌, ℕ, leb, ltb}
-use Rattle.outcome.specs.declared.Outcome.{Outcome}
-use Rattle.outcome.specs.declared.Outcome.TheVariants.{Done, Refused}
+use Rattle.std.specs.Prelude.{cond, ◌≡◌, ◌%◌, ◌*◌, ◌+◌, ◌-◌, ◌/◌, ◌<◌, ◌≤◌, ℕ, leb, ltb, Ok, Err}
+use Rattle.outcome.specs.Figures.{Outcome}
 use Rattle.outcome.specs.declared.Refusal.TheVariants.{Settings as BadSettings, TooManyAbsent}
 use Rattle.federation.specs.Federation.{Lawful, is_lawful, threshold_of}
 use Rattle.federation.specs.declared.Settings.{Settings}
@@ -27,8 +26,8 @@ failing s u = choose s.n (threshold_of s) - choose (s.n - u) (threshold_of s)
 unfoldable pub draw_of : Settings → ℕ → Outcome
 draw_of s u =
     cond (is_lawful s)
-    (cond (leb u s.n) (Done (thousandths (failing s u) (choose s.n (threshold_of s)))) (Refused TooManyAbsent))
-    (Refused BadSettings)
+    (cond (leb u s.n) (Ok (thousandths (failing s u) (choose s.n (threshold_of s)))) (Err TooManyAbsent))
+    (Err BadSettings)
 
 -- ---- what the draw means
 
@@ -43,6 +42,6 @@ pub record Nearest (part whole r : ℕ) : Type 0 where
 
 -- what each answer of kind 7 means
 pub data Drawn (s : Settings) (u : ℕ) : Outcome → Type 0 where
-  unlawful : (Lawful s → ⊥) → Drawn s u (Refused BadSettings)
-  absent : Lawful s → s.n < u → Drawn s u (Refused TooManyAbsent)
-  chance : (r : ℕ) → Lawful s → u ≤ s.n → Nearest (failing s u) (choose s.n (threshold_of s)) r → Drawn s u (Done r)
+  unlawful : (Lawful s → ⊥) → Drawn s u (Err BadSettings)
+  absent : Lawful s → s.n < u → Drawn s u (Err TooManyAbsent)
+  chance : (r : ℕ) → Lawful s → u ≤ s.n → Nearest (failing s u) (choose s.n (threshold_of s)) r → Drawn s u (Ok r)

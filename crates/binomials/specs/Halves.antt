@@ -1,7 +1,6 @@
 -- What M-103 of document 02 leaves: "n 16, b 3, u 1 is 812.5 and gives 812 .. All other draws keep their values."
-use Rattle.std.specs.Prelude.{◌≡◌, ◌*◌, ◌+◌, ◌/◌, ◌<◌, ◌≤◌, ℕ}
-use Rattle.outcome.specs.declared.Outcome.{Outcome}
-use Rattle.outcome.specs.declared.Outcome.TheVariants.{Done}
+use Rattle.std.specs.Prelude.{◌≡◌, ◌*◌, ◌+◌, ◌/◌, ◌<◌, ◌≤◌, ℕ, Ok}
+use Rattle.outcome.specs.Figures.{Outcome}
 use Rattle.federation.specs.Federation.{threshold_of}
 use Rattle.federation.specs.declared.Settings.{Settings}
 use Rattle.binomials.specs.Binomials.{choose}
@@ -24,5 +23,5 @@ pub record C9 (s : Settings) (u : ℕ) : Type 0 where
 
 -- a draw's value as it was, or C9's as it is now
 pub data Kept (s : Settings) (u : ℕ) : Outcome → Type 0 where
-  same : (C9 s u → ⊥) → Kept s u (Done (halves_up (failing s u) (choose s.n (threshold_of s))))
-  changed : C9 s u → halves_up (failing s u) (choose s.n (threshold_of s)) ≡ 813 → Kept s u (Done 812)
+  same : (C9 s u → ⊥) → Kept s u (Ok (halves_up (failing s u) (choose s.n (threshold_of s))))
+  changed : C9 s u → halves_up (failing s u) (choose s.n (threshold_of s)) ≡ 813 → Kept s u (Ok 812)

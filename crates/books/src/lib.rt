@@ -52,12 +52,12 @@ pub fn new(n: u8, b: u8, faulty: u16, version: u16) -> Reply
     let settings = ledger.settings;
     if settings.is_lawful() {
         return Reply {
-            outcome: Outcome::Done(settings.threshold()),
+            outcome: Ok(settings.threshold()),
             ledger,
         };
     }
     Reply {
-        outcome: Outcome::Refused(Refusal::Settings),
+        outcome: Err(Refusal::Settings),
         ledger,
     }
 }
@@ -86,9 +86,9 @@ pub fn whole_gate(ledger: Ledger, journal: &[u8]) -> Verdict
     if is_sane(ledger) {
         let settings = ledger.settings;
         if journal::is_whole(settings.version, journal, ledger.booked) {
-            return Verdict::Pass;
+            return Ok(());
         }
-        return Verdict::Fail(Refusal::NotBooked);
+        return Err(Refusal::NotBooked);
     }
-    Verdict::Fail(Refusal::Settings)
+    Err(Refusal::Settings)
 }

@@ -1,8 +1,7 @@
 -- "Near each edge": C1 to C10, C7, C8 and C10 in two halves. A row has what is answered, by a definition that a contract cites, and the two
 -- figures that document 01 gives for it; C9's value is that of M-103 of document 02, "Case C9 changes with it".
 use Rattle.std.specs.Prelude.{List, [], ◌++◌, ◌∷◌, ◌+◌, ℕ, replicate}
-use Rattle.outcome.specs.Figures.{number_of, value_of}
-use Rattle.outcome.specs.declared.Outcome.{Outcome}
+use Rattle.outcome.specs.Figures.{number_of, value_of, Outcome}
 use Rattle.ledger.specs.State.{booking, new_ledger, voted}
 use Rattle.ledger.specs.Steps.{commit_of, new_of, propose_of}
 use Rattle.vaults.specs.declared.Column.TheVariants.{Signatures}

@@ -13,8 +13,8 @@ use Rattle.base.proofs.Search.{first_complete, first_end_complete, first_end_sou
 use Rattle.base.specs.Reflect.{Reflects}
 use Rattle.base.specs.Search.{first_below, sum_from}
 use Rattle.outcome.specs.declared.Refusal.TheVariants.{Malformed, Repeated, Unbalanced, Unsupported}
-use Rattle.outcome.specs.declared.Verdict.{Verdict}
-use Rattle.outcome.specs.declared.Verdict.TheVariants.{Fail, Pass}
+use Rattle.outcome.specs.Figures.{Verdict}
+use Rattle.std.specs.Prelude.{Ok, Err}
 use Rattle.record.proofs.Ranges.{reflect_between}
 use Rattle.checks.specs.Checks.{balanced, check_of, counts_formed, entry_formed, has_label_of, inputs_formed, is_blank, is_filled, is_written, repeated_at}
 use Rattle.checks.specs.Checks.{trimmed_formed, unsupported_at, well_formed}
@@ -103,10 +103,10 @@ module _ (j : Job) where
   answer : Bool → Bool → Bool → Bool → Verdict
   answer formed again without level =
       cond formed
-      (cond again (Fail (Repeated (first_below 8 (repeated_at j))))
-      (cond without (Fail (Unsupported (first_below 8 (unsupported_at j))))
-      (cond level Pass (Fail Unbalanced))))
-      (Fail Malformed)
+      (cond again (Err (Repeated (first_below 8 (repeated_at j))))
+      (cond without (Err (Unsupported (first_below 8 (unsupported_at j))))
+      (cond level (Ok (tt {0})) (Err Unbalanced))))
+      (Err Malformed)
 
   answered : (f r u b : Bool) → well_formed j ≡ f → ltb (first_below 8 (repeated_at j)) 8 ≡ r
       → ltb (first_below 8 (unsupported_at j)) 8 ≡ u → balanced j ≡ b → Answer j (answer f r u b)

@@ -1,8 +1,7 @@
 -- Checks 6 to 9 ("Records" and "Turned back"), each of which needs the record alone.
-use Rattle.std.specs.Prelude.{Bool, true, cond, not, ◌&&◌, List, ℕ, ◌+◌, eqb, leb, ltb, length}
+use Rattle.std.specs.Prelude.{Bool, true, cond, not, ◌&&◌, List, ℕ, ◌+◌, eqb, leb, ltb, length, Ok, Err}
 use Rattle.base.specs.Search.{any_below, all_below, first_below, sum_from}
-use Rattle.outcome.specs.declared.Verdict.{Verdict}
-use Rattle.outcome.specs.declared.Verdict.TheVariants.{Pass, Fail}
+use Rattle.outcome.specs.Figures.{Verdict}
 use Rattle.outcome.specs.declared.Refusal.TheVariants.{Malformed, Repeated, Unsupported, Unbalanced}
 use Rattle.record.specs.declared.Job.{Job}
 use Rattle.codec.specs.Codec.{record_size, job_of}
@@ -60,12 +59,12 @@ unfoldable pub check_of : Job → Verdict
 check_of j =
     cond (well_formed j)
     (let repeated = first_below 8 (repeated_at j) in
-    cond (ltb repeated 8) (Fail (Repeated repeated))
+    cond (ltb repeated 8) (Err (Repeated repeated))
     (let unsupported = first_below 8 (unsupported_at j) in
-    cond (ltb unsupported 8) (Fail (Unsupported unsupported))
-    (cond (balanced j) Pass (Fail Unbalanced))))
-    (Fail Malformed)
+    cond (ltb unsupported 8) (Err (Unsupported unsupported))
+    (cond (balanced j) (Ok tt) (Err Unbalanced))))
+    (Err Malformed)
 
 -- of bytes: any other number of them than the version's records have is malformed
 unfoldable pub examined : ℕ → List ℕ → Verdict
-examined version bytes = cond (eqb (length bytes) (record_size version)) (check_of (job_of bytes)) (Fail Malformed)
+examined version bytes = cond (eqb (length bytes) (record_size version)) (check_of (job_of bytes)) (Err Malformed)

@@ -1,9 +1,8 @@
 -- What each check means, said without a search. proofs/Meaning.antt shows that the checks decide these claims.
-use Rattle.std.specs.Prelude.{Bool, false, true, ◌⊎◌, ◌≡◌, ◌+◌, ◌≤◌, ℕ}
+use Rattle.std.specs.Prelude.{Bool, false, true, ◌⊎◌, ◌≡◌, ◌+◌, ◌≤◌, ℕ, Ok, Err}
 use Rattle.base.specs.Search.{Every, Least, Some, sum_from}
 use Rattle.outcome.specs.declared.Refusal.TheVariants.{Malformed, Repeated, Unbalanced, Unsupported}
-use Rattle.outcome.specs.declared.Verdict.{Verdict}
-use Rattle.outcome.specs.declared.Verdict.TheVariants.{Fail, Pass}
+use Rattle.outcome.specs.Figures.{Verdict}
 use Rattle.drives.specs.Drives.{supports}
 use Rattle.record.specs.Entries.{frames_of, label_of, used_frames}
 use Rattle.record.specs.Labels.{medium_of}
@@ -44,8 +43,8 @@ Nowhere P = Every 8 (λ i. P i → ⊥)
 
 -- what each answer of checks 6 to 9 means: the first check that fails, at the first entry that offends
 pub data Answer (j : Job) : Verdict → Type 0 where
-  passes : WellFormed Label j → Nowhere (RepeatedAt j) → Nowhere (UnsupportedAt takes j) → Balanced j → Answer j Pass
-  malformed : (WellFormed Label j → ⊥) → Answer j (Fail Malformed)
-  repeated : (e : ℕ) → WellFormed Label j → Least 8 (RepeatedAt j) e → Answer j (Fail (Repeated e))
-  unsupported : (e : ℕ) → WellFormed Label j → Nowhere (RepeatedAt j) → Least 8 (UnsupportedAt takes j) e → Answer j (Fail (Unsupported e))
-  unbalanced : WellFormed Label j → Nowhere (RepeatedAt j) → Nowhere (UnsupportedAt takes j) → (Balanced j → ⊥) → Answer j (Fail Unbalanced)
+  passes : WellFormed Label j → Nowhere (RepeatedAt j) → Nowhere (UnsupportedAt takes j) → Balanced j → Answer j (Ok tt)
+  malformed : (WellFormed Label j → ⊥) → Answer j (Err Malformed)
+  repeated : (e : ℕ) → WellFormed Label j → Least 8 (RepeatedAt j) e → Answer j (Err (Repeated e))
+  unsupported : (e : ℕ) → WellFormed Label j → Nowhere (RepeatedAt j) → Least 8 (UnsupportedAt takes j) e → Answer j (Err (Unsupported e))
+  unbalanced : WellFormed Label j → Nowhere (RepeatedAt j) → Nowhere (UnsupportedAt takes j) → (Balanced j → ⊥) → Answer j (Err Unbalanced)

@@ -24,12 +24,12 @@ fn certificate(settings: Settings, recorded: u16, signers: u16) -> Verdict
     ensures { result ≡ certificate settings recorded signers }
 {
     if !sets::vaults::subset(signers, recorded) {
-        return Verdict::Fail(Refusal::NotSigned);
+        return Err(Refusal::NotSigned);
     }
     if sets::vaults::size(signers) < settings.threshold() {
-        return Verdict::Fail(Refusal::TooFewSigners);
+        return Err(Refusal::TooFewSigners);
     }
-    Verdict::Pass
+    Ok(())
 }
 
 fn certify(
@@ -44,8 +44,8 @@ fn certify(
 {
     let verdict = certificate(settings, votes.signatures, signers);
     match verdict {
-        Verdict::Pass => receive(state, votes.acknowledgements, vault, job),
-        Verdict::Fail(why) => decisions::refuse(why),
+        Ok(()) => receive(state, votes.acknowledgements, vault, job),
+        Err(why) => decisions::refuse(why),
     }
 }
 
@@ -61,7 +61,7 @@ pub fn commit(
     ensures { result ≡ gated gate (committing settings state votes vault job signers) }
 {
     match gate {
-        Verdict::Pass => certify(settings, state, votes, vault, job, signers),
-        Verdict::Fail(why) => decisions::refuse(why),
+        Ok(()) => certify(settings, state, votes, vault, job, signers),
+        Err(why) => decisions::refuse(why),
     }
 }

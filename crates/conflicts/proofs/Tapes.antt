@@ -15,8 +15,8 @@ use Rattle.base.proofs.Reflect.{by_cases, by_test, reflect_and, reflect_as, refl
 use Rattle.base.specs.Lists.{Distinct, In}
 use Rattle.base.specs.Reflect.{Reflects}
 use Rattle.base.specs.Search.{sum_from}
-use Rattle.outcome.specs.declared.Verdict.{Verdict}
-use Rattle.outcome.specs.declared.Verdict.TheVariants.{Pass}
+use Rattle.outcome.specs.Figures.{Verdict}
+use Rattle.std.specs.Prelude.{Ok}
 use Rattle.checks.proofs.Meaning.{check_answers}
 use Rattle.conflicts.proofs.Meaning.{reflect_label_in, reflect_makes}
 use Rattle.record.proofs.Meaning.{reflect_used}
@@ -180,7 +180,7 @@ balanced_by j (inl h) b t = rw (eq-eqb j.kind 0 h.0, no_inputs j h.1) (omega (ar
 balanced_by j (inr h) b t =
     rw (ne_eqb j.kind 0 (λ q. absurd (omega (arith, h.0, q)))) (omega (arith, used_frames_lem j 0 4, used_frames_lem j 4 4, b h.0))
 
-answered_well_formed : (j : Job) (v : Verdict) → v ≡ Pass → Answer j v → WellFormed j
+answered_well_formed : (j : Job) (v : Verdict) → v ≡ Ok (tt {0}) → Answer j v → WellFormed j
 answered_well_formed j v e (passes f r u b) = record {
   distinct = subst (λ (l : List Entry). Distinct (labels l)) (used_append j 0 4 4) (distinct_from j r 0 8 (le_refl 8));
   balance = balanced_by j f.inputs b f.trimmed;
@@ -191,5 +191,5 @@ answered_well_formed j v e (repeated i f r) = let z : ◌≡◌ {A = ℕ} 0 1 = 
 answered_well_formed j v e (unsupported i f r u) = let z : ◌≡◌ {A = ℕ} 0 1 = cc in absurd (omega arith)
 answered_well_formed j v e (unbalanced f r u b) = let z : ◌≡◌ {A = ℕ} 0 1 = cc in absurd (omega arith)
 
-pub checked_well_formed : (j : Job) → check_of j ≡ Pass → WellFormed j
+pub checked_well_formed : (j : Job) → check_of j ≡ Ok (tt {0}) → WellFormed j
 checked_well_formed j e = answered_well_formed j (check_of j) e (check_answers j)

@@ -1,9 +1,8 @@
 -- A ready job gets through (document 02, M-112): "Suppose n − b sound vaults hold every job that created its inputs, none of them holds it, and preflight
 -- would accept it at each. Then a preflight at each and then a commit at each by those signers, in any order within the two rounds, certify and finish it."
-use Rattle.std.specs.Prelude.{false, true, List, [], ◌∷◌, ◌≢◌, ◌⊎◌, ◌≡◌, ◌<◌, ◌≤◌, ℕ, length}
+use Rattle.std.specs.Prelude.{false, true, List, [], ◌∷◌, ◌≢◌, ◌⊎◌, ◌≡◌, ◌<◌, ◌≤◌, ℕ, length, Ok}
 use Rattle.std.specs.Int.Count.{ones}
 use Rattle.base.specs.Lists.{In}
-use Rattle.outcome.specs.declared.Outcome.TheVariants.{Done}
 use Rattle.codec.specs.Codec.{place_of}
 use Rattle.conflicts.specs.Tapes.{input_tapes, output_tapes}
 use Rattle.record.specs.declared.Entry.{Entry}
@@ -71,7 +70,7 @@ pub record Through (w : World) (s j : ℕ) (es fs : List Event) : Type 0 where
   pub held : AtEach s (λ v. job_has (vault_at (after_all (after_all w es) fs).ledger v).held j ≡ true)
   -- "finish": n − b acknowledgements after the second
   pub finished : threshold_of w.ledger.settings ≤ ones (acknowledgers_of (after_all (after_all w es) fs).ledger j)
-  pub shown : (e : Event) → Asks (show j) (after_all (after_all w es) fs) e → (reply_to (after_all (after_all w es) fs) e).outcome ≡ Done 2
+  pub shown : (e : Event) → Asks (show j) (after_all (after_all w es) fs) e → (reply_to (after_all (after_all w es) fs) e).outcome ≡ Ok 2
 
 -- ---- what is enough
 

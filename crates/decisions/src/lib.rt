@@ -28,7 +28,7 @@ pub fn refuse(why: Refusal) -> Decision
     ensures { result ≡ refusing why }
 {
     Decision {
-        outcome: Outcome::Refused(why),
+        outcome: Err(why),
         change: Change::Nothing,
     }
 }
@@ -37,7 +37,7 @@ pub fn answer(value: u32) -> Decision
     ensures { result ≡ answering value }
 {
     Decision {
-        outcome: Outcome::Done(value),
+        outcome: Ok(value),
         change: Change::Nothing,
     }
 }
@@ -47,7 +47,7 @@ pub fn vote(votes: u16, vault: u8, change: Change) -> Decision
     ensures { result ≡ voting votes vault change }
 {
     Decision {
-        outcome: Outcome::Done(sets::vaults::size(sets::vaults::with(votes, vault))),
+        outcome: Ok(sets::vaults::size(sets::vaults::with(votes, vault))),
         change,
     }
 }
@@ -57,15 +57,15 @@ pub fn gate(settings: Settings, vault: u8, faulty: bool, booked: bool) -> Verdic
     ensures { result ≡ gate_of settings vault faulty booked }
 {
     if vault >= settings.n {
-        return Verdict::Fail(Refusal::NoVault);
+        return Err(Refusal::NoVault);
     }
     if sets::vaults::has(settings.faulty, vault) != faulty {
-        return Verdict::Fail(Refusal::WrongVault);
+        return Err(Refusal::WrongVault);
     }
     if booked {
-        return Verdict::Pass;
+        return Ok(());
     }
-    Verdict::Fail(Refusal::NotBooked)
+    Err(Refusal::NotBooked)
 }
 
 // A faulty vault's vote.
@@ -73,8 +73,8 @@ pub fn cast(gate: Verdict, votes: Votes, column: Column, vault: u8) -> Decision
     ensures { result ≡ gated gate (voting (column_of column votes) vault (Record column)) }
 {
     match gate {
-        Verdict::Pass => vote(votes.of(column), vault, Change::Record(column)),
-        Verdict::Fail(why) => refuse(why),
+        Ok(()) => vote(votes.of(column), vault, Change::Record(column)),
+        Err(why) => refuse(why),
     }
 }
 
@@ -96,8 +96,8 @@ pub fn show(gate: Verdict, settings: Settings, votes: Votes) -> Decision
     ensures { result ≡ gated gate (answering (status_of settings votes)) }
 {
     match gate {
-        Verdict::Pass => answer(status(settings, votes)),
-        Verdict::Fail(why) => refuse(why),
+        Ok(()) => answer(status(settings, votes)),
+        Err(why) => refuse(why),
     }
 }
 
@@ -107,7 +107,7 @@ pub fn snapshot(settings: Settings, next: u8, seen: JobSet, held: JobSet) -> Dec
 {
     let all = snapshot::seen_after(settings, next, seen, held);
     Decision {
-        outcome: Outcome::Done(all.count()),
+        outcome: Ok(all.count()),
         change: Change::See(all),
     }
 }

@@ -11,7 +11,7 @@ pub fn list(jobs: JobSet) -> Listing
     ensures { result ≡ listing jobs }
 {
     Listing {
-        outcome: Outcome::Done(jobs.count()),
+        outcome: Ok(jobs.count()),
         members: jobs,
     }
 }
@@ -20,7 +20,7 @@ pub fn unlist(why: Refusal) -> Listing
     ensures { result ≡ unlisted why }
 {
     Listing {
-        outcome: Outcome::Refused(why),
+        outcome: Err(why),
         members: JobSet::empty(),
     }
 }

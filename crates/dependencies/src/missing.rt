@@ -43,8 +43,8 @@ fn if_admitted(admission: Verdict, jobs: JobSet) -> Listing
     ensures { result ≡ if_admitted admission jobs }
 {
     match admission {
-        Verdict::Pass => decisions::list(jobs),
-        Verdict::Fail(_) => decisions::unlist(Refusal::NoSetWorks),
+        Ok(()) => decisions::list(jobs),
+        Err(_) => decisions::unlist(Refusal::NoSetWorks),
     }
 }
 
@@ -110,9 +110,9 @@ pub fn dependencies(
     ensures { result ≡ gated_listing gate (requiring state (held_somewhere settings vaults) version journal.now booked job) }
 {
     match gate {
-        Verdict::Pass => require(
+        Ok(()) => require(
             settings, vaults, state, numbers, sets, version, journal, booked, job,
         ),
-        Verdict::Fail(why) => decisions::unlist(why),
+        Err(why) => decisions::unlist(why),
     }
 }

@@ -31,14 +31,14 @@ pub fn draw(settings: Settings, u: u8) -> Outcome
     ensures { result ≡ draw_of settings u }
 {
     if !settings.is_lawful() {
-        return Outcome::Refused(Refusal::Settings);
+        return Err(Refusal::Settings);
     }
     let n = settings.n;
     if n < u {
-        return Outcome::Refused(Refusal::TooManyAbsent);
+        return Err(Refusal::TooManyAbsent);
     }
     let k = settings.threshold() as usize;
     let all = triangle::choose(n as usize, k);
     let good = triangle::choose((n - u) as usize, k);
-    Outcome::Done(thousandths(all - good, all) as u32)
+    Ok(thousandths(all - good, all) as u32)
 }

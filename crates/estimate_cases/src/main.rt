@@ -59,8 +59,8 @@ fn say_ranges(rt: &HostRuntime, ranges: [Range; 8]) -> io::Result<()> {
 
 pub(crate) fn tell(rt: &HostRuntime, e: Estimate) -> io::Result<()> {
     let told = estimates::tighten(e);
-    let number = told.outcome.number();
-    let value = told.outcome.value();
+    let number = outcome::number(told.outcome);
+    let value = outcome::value(told.outcome);
     print!(rt; "{number} {value}")?;
     say_ranges(rt, told.ranges)?;
     println!(rt)

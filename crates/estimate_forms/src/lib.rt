@@ -58,12 +58,12 @@ fn without_balance(verdict: Verdict) -> Verdict
     ensures { result ≡ without_balance verdict }
 {
     match verdict {
-        Verdict::Pass => Verdict::Pass,
-        Verdict::Fail(why) => {
+        Ok(()) => Ok(()),
+        Err(why) => {
             if why.number() == 9 {
-                return Verdict::Pass;
+                return Ok(());
             }
-            Verdict::Fail(why)
+            Err(why)
         }
     }
 }
@@ -75,5 +75,5 @@ pub fn check(e: Estimate) -> Verdict
     if all_bounded(e, job) {
         return without_balance(examination::check(job));
     }
-    Verdict::Fail(Refusal::Malformed)
+    Err(Refusal::Malformed)
 }

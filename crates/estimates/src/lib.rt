@@ -11,8 +11,8 @@ fn first_failing(earlier: Verdict, later: Verdict) -> Verdict
     ensures { result ≡ first_failing earlier later }
 {
     match earlier {
-        Verdict::Fail(why) => Verdict::Fail(why),
-        Verdict::Pass => later,
+        Err(why) => Err(why),
+        Ok(()) => later,
     }
 }
 
@@ -30,17 +30,17 @@ pub fn tighten(e: Estimate) -> Tightened
     ensures { result ≡ tighten_of e }
 {
     match check(e) {
-        Verdict::Fail(why) => {
+        Err(why) => {
             let ranges = e.ranges;
             Tightened {
-                outcome: Outcome::Refused(why),
+                outcome: Err(why),
                 ranges,
             }
         }
-        Verdict::Pass => {
+        Ok(()) => {
             let ranges = tightening::tightest(e);
             Tightened {
-                outcome: Outcome::Done(0),
+                outcome: Ok(0),
                 ranges,
             }
         }

@@ -87,20 +87,20 @@ pub fn check(job: Job) -> Verdict
     ensures { result ≡ check_of job }
 {
     if !forms::well_formed(job) {
-        return Verdict::Fail(Refusal::Malformed);
+        return Err(Refusal::Malformed);
     }
     let repeated = first_repeated(job);
     if repeated < 8 {
-        return Verdict::Fail(Refusal::Repeated(repeated));
+        return Err(Refusal::Repeated(repeated));
     }
     let unsupported = first_unsupported(job);
     if unsupported < 8 {
-        return Verdict::Fail(Refusal::Unsupported(unsupported));
+        return Err(Refusal::Unsupported(unsupported));
     }
     if balances::is_balanced(job) {
-        return Verdict::Pass;
+        return Ok(());
     }
-    Verdict::Fail(Refusal::Unbalanced)
+    Err(Refusal::Unbalanced)
 }
 
 // The same of a record's bytes; any other number of bytes than the version's records have is malformed.
@@ -110,5 +110,5 @@ pub fn examine(version: u16, bytes: &[u8]) -> Verdict
     if bytes.len() == codec::record_size(version) {
         return check(records::read(version, bytes));
     }
-    Verdict::Fail(Refusal::Malformed)
+    Err(Refusal::Malformed)
 }

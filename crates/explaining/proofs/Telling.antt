@@ -9,7 +9,7 @@ use Rattle.explanations.specs.Explained.{explained_from, next_text, step_text}
 use Rattle.index.proofs.Tables.{indexed_tables}
 use Rattle.index.specs.Sets.{Tables}
 use Rattle.ledger.specs.declared.Ledger.{Ledger}
-use Rattle.outcome.specs.declared.Outcome.{Outcome}
+use Rattle.outcome.specs.Figures.{Outcome}
 use Rattle.progress.specs.Kept.{Kept}
 use Rattle.progress.specs.Pieces.{Going, run_of}
 use Rattle.progress.specs.Turns.{Holds, TurnedOnce}

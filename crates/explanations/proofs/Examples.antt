@@ -5,7 +5,7 @@ use lib.Count.{ones}
 use Rattle.federation.specs.Federation.{threshold_of}
 use Rattle.federation.specs.declared.Settings.{Settings}
 use Rattle.ledger.specs.Decisions.{status_of}
-use Rattle.outcome.specs.declared.Outcome.TheVariants.{Done, Refused}
+use Rattle.std.specs.Prelude.{Ok, Err}
 use Rattle.outcome.specs.declared.Refusal.TheVariants.{NotCreated, TooFewSigners}
 use Rattle.rows.specs.Items.{form_of}
 use Rattle.rows.specs.Table.{letters}
@@ -22,18 +22,18 @@ abbrev settings : Settings
 settings = record { n = 4; b = 1; faulty = 8; version = 1 }
 
 -- step 7: two signers are named
-too_few : answer_text 3 (Refused TooFewSigners) no_jobs (threshold_of settings) [] ≡ letters "refused 16, fewer than 3 signers"
+too_few : answer_text 3 (Err TooFewSigners) no_jobs (threshold_of settings) [] ≡ letters "refused 16, fewer than 3 signers"
 unfolding answer_text refused_text reason text_by form_of le_at decimal digits threshold_of
 too_few = refl
 
 -- step 3: the label of entry 0 of the migration's record
-not_made : answer_text 2 (Refused (NotCreated 0)) no_jobs 3 (1 ∷ 7 ∷ 1 ∷ 1 ∷ letters "VAA001L5")
+not_made : answer_text 2 (Err (NotCreated 0)) no_jobs 3 (1 ∷ 7 ∷ 1 ∷ 1 ∷ letters "VAA001L5")
     ≡ letters "refused 11, no job that this vault holds made VAA001L5"
 unfolding answer_text refused_text reason text_by form_of le_at
 not_made = refl
 
 -- step 10: the state of job 0
-shown : answer_text 6 (Done 1) no_jobs 3 [] ≡ letters "certified"
+shown : answer_text 6 (Ok 1) no_jobs 3 [] ≡ letters "certified"
 unfolding answer_text done_text meaning figure status
 shown = refl
 

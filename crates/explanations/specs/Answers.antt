@@ -4,8 +4,7 @@ use Rattle.std.specs.Int.Count.{ones}
 use Rattle.codec.specs.Codec.{entry_size, head_size}
 use Rattle.federation.specs.declared.Settings.{Settings}
 use Rattle.ledger.specs.Decisions.{status_of}
-use Rattle.outcome.specs.Figures.{number_of, value_of}
-use Rattle.outcome.specs.declared.Outcome.{Outcome}
+use Rattle.outcome.specs.Figures.{number_of, value_of, Outcome}
 use Rattle.rows.specs.Table.{letters}
 use Rattle.rows.specs.Writing.{text_by}
 use Rattle.sets.specs.Bits.{has_bit}

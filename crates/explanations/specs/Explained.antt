@@ -7,7 +7,7 @@ use Rattle.ledger.specs.State.{votes_at}
 use Rattle.ledger.specs.declared.Ledger.{Ledger}
 use Rattle.notation.specs.Files.{bytes_at}
 use Rattle.notation.specs.Lines.{line_of}
-use Rattle.outcome.specs.declared.Outcome.{Outcome}
+use Rattle.outcome.specs.Figures.{Outcome}
 use Rattle.rows.specs.Table.{letters}
 use Rattle.runfile.specs.Run.{Run, begins, command_of, ended, opens, turn}
 use Rattle.runfile.specs.Steps.{is_unknown, kind_at, listed_by, reply_of}

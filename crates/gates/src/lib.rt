@@ -15,11 +15,11 @@ pub fn booked_gate(ledger: Ledger, journal: &[u8], job: u8) -> Verdict
     if books::is_sane(ledger) {
         let settings = ledger.settings;
         if journal::is_booked(settings.version, journal, ledger.booked, job as usize) {
-            return Verdict::Pass;
+            return Ok(());
         }
-        return Verdict::Fail(Refusal::NotBooked);
+        return Err(Refusal::NotBooked);
     }
-    Verdict::Fail(Refusal::Settings)
+    Err(Refusal::Settings)
 }
 
 // Checks 1, 3, 5 and 4, of a step that is for faulty vaults or for correct ones.
@@ -31,7 +31,7 @@ pub fn vault_gate(ledger: Ledger, journal: &[u8], vault: u8, job: u8, faulty: bo
         let booked = journal::is_booked(settings.version, journal, ledger.booked, job as usize);
         return decisions::gate(settings, vault, faulty, booked);
     }
-    Verdict::Fail(Refusal::Settings)
+    Err(Refusal::Settings)
 }
 
 pub fn carry(ledger: Ledger, decision: Decision, vault: u8, job: u8) -> Reply
@@ -50,7 +50,7 @@ pub fn turn_back(ledger: Ledger, why: Refusal) -> Reply
     ensures { result ≡ turned ledger why }
 {
     Reply {
-        outcome: Outcome::Refused(why),
+        outcome: Err(why),
         ledger,
     }
 }

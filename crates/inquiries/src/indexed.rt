@@ -68,7 +68,7 @@ pub(crate) fn dependencies(
         booked,
     );
     dependencies::dependencies(
-        Verdict::Pass,
+        Ok(()),
         settings,
         vaults,
         state,

@@ -26,13 +26,13 @@ pub fn show(ledger: Ledger, journal: &[u8], job: u8) -> Outcome
 {
     let gate = gates::booked_gate(ledger, journal, job);
     match gate {
-        Verdict::Pass => {
+        Ok(()) => {
             let j = job as usize;
             let settings = ledger.settings;
             let votes = ledger.votes[j];
             decisions::show(gate, settings, votes).outcome
         }
-        Verdict::Fail(why) => Outcome::Refused(why),
+        Err(why) => Err(why),
     }
 }
 
@@ -42,7 +42,7 @@ pub fn generations(ledger: Ledger, journal: &[u8], job: u8) -> Outcome
 {
     let gate = gates::booked_gate(ledger, journal, job);
     match gate {
-        Verdict::Pass => {
+        Ok(()) => {
             let settings = ledger.settings;
             let vaults = ledger.vaults;
             let order = ledger.order;
@@ -58,7 +58,7 @@ pub fn generations(ledger: Ledger, journal: &[u8], job: u8) -> Outcome
             )
             .outcome
         }
-        Verdict::Fail(why) => Outcome::Refused(why),
+        Err(why) => Err(why),
     }
 }
 
@@ -68,7 +68,7 @@ pub fn dependencies(ledger: Ledger, journal: &[u8], vault: u8, job: u8) -> Listi
 {
     let gate = gates::vault_gate(ledger, journal, vault, job, false);
     match gate {
-        Verdict::Pass => {
+        Ok(()) => {
             let v = vault as usize;
             let settings = ledger.settings;
             let vaults = ledger.vaults;
@@ -84,7 +84,7 @@ pub fn dependencies(ledger: Ledger, journal: &[u8], vault: u8, job: u8) -> Listi
                 j,
             )
         }
-        Verdict::Fail(why) => decisions::unlist(why),
+        Err(why) => decisions::unlist(why),
     }
 }
 
@@ -94,11 +94,11 @@ pub fn equivocating(ledger: Ledger, journal: &[u8]) -> Listing
 {
     let gate = books::whole_gate(ledger, journal);
     match gate {
-        Verdict::Pass => {
+        Ok(()) => {
             let settings = ledger.settings;
             let votes = ledger.votes;
             decisions::list(indexed::equivocating(settings, votes, journal, ledger.booked))
         }
-        Verdict::Fail(why) => decisions::unlist(why),
+        Err(why) => decisions::unlist(why),
     }
 }

@@ -7,7 +7,7 @@ use lib.Count.{ones, ones_in}
 use lib.ListN.{replicate}
 use Rattle.base.specs.Lists.{same_list}
 use Rattle.base.specs.Search.{all_below, any_below, first_below, sum_from}
-use Rattle.outcome.specs.declared.Outcome.TheVariants.{Done, Refused}
+use Rattle.std.specs.Prelude.{Ok, Err}
 use Rattle.outcome.specs.declared.Refusal.TheVariants.{NotCreated, NotSigned, TooFewSigners}
 use Rattle.checks.specs.Checks.{
   balanced,
@@ -83,7 +83,7 @@ run =
 -- what each step is answered; the register took job 0 alone, and runs
 pub whole_run :
     (outcomes (start 4 1 8 1) run
-    ≡ Done 0 ∷ Done 1 ∷ Refused (NotCreated 0) ∷ Done 1 ∷ Done 2 ∷ Done 3 ∷ Refused TooFewSigners ∷ Done 1 ∷ Refused NotSigned ∷ Done 1 ∷ Done 1 ∷ Done 0 ∷ [])
+    ≡ Ok 0 ∷ Ok 1 ∷ Err (NotCreated 0) ∷ Ok 1 ∷ Ok 2 ∷ Ok 3 ∷ Err TooFewSigners ∷ Ok 1 ∷ Err NotSigned ∷ Ok 1 ∷ Ok 1 ∷ Ok 0 ∷ [])
     × (feed_all (new_register 1) (log (start 4 1 8 1) run)
     ≡ record {
       version = 1;

@@ -11,7 +11,7 @@ use lib.Count.{ones, ones_in}
 use lib.ListN.{replicate}
 use Rattle.base.specs.Lists.{same_list}
 use Rattle.base.specs.Search.{all_below, any_below, first_below, sum_from}
-use Rattle.outcome.specs.declared.Outcome.TheVariants.{Done, Refused}
+use Rattle.std.specs.Prelude.{Ok, Err}
 use Rattle.outcome.specs.declared.Refusal.TheVariants.{NotSigned, NotSuperseded}
 use Rattle.checks.specs.Checks.{
   balanced,
@@ -153,7 +153,7 @@ pub premises :
     × Round Allowed (λ v. preflight v 1) world 7 1 preflights
     × Round Allowed (λ v. commit v 1 7) (after_all world preflights) 7 1 commits
     × (outcomes world (preflights ++ (commits ++ (lending (show 1) ∷ [])))
-    ≡ Done 1 ∷ Done 2 ∷ Done 2 ∷ Done 1 ∷ Done 1 ∷ Done 3 ∷ Done 1 ∷ Refused NotSigned ∷ Done 2 ∷ Done 2 ∷ Done 3 ∷ Done 2 ∷ [])
+    ≡ Ok 1 ∷ Ok 2 ∷ Ok 2 ∷ Ok 1 ∷ Ok 1 ∷ Ok 3 ∷ Ok 1 ∷ Err NotSigned ∷ Ok 2 ∷ Ok 2 ∷ Ok 3 ∷ Ok 2 ∷ [])
 unfolding same_list any_below all_below first_below sum_from has_bit with_bit with_member without_bit subset_of job_has job_with job_without inputs_formed
     counts_formed is_filled is_blank entry_formed trimmed_formed well_formed has_label_of repeated_at is_written unsupported_at balanced check_of examined
     record_size says_trimmed place_of whole_in le_at
@@ -232,7 +232,7 @@ pub premises_amid :
     Round Harmless (λ v. preflight v 1) world 7 1 preflights_amid
     × Round Harmless (λ v. commit v 1 7) (after_all world preflights_amid) 7 1 commits_amid
     × (outcomes world (preflights_amid ++ (commits_amid ++ (lending (show 1) ∷ [])))
-    ≡ Done 1 ∷ Refused NotSuperseded ∷ Done 2 ∷ Done 3 ∷ Done 1 ∷ Refused NotSuperseded ∷ Done 2 ∷ Done 3 ∷ Done 2 ∷ [])
+    ≡ Ok 1 ∷ Err NotSuperseded ∷ Ok 2 ∷ Ok 3 ∷ Ok 1 ∷ Err NotSuperseded ∷ Ok 2 ∷ Ok 3 ∷ Ok 2 ∷ [])
 unfolding same_list any_below all_below first_below sum_from has_bit with_bit with_member without_bit subset_of job_has job_with job_without inputs_formed
     counts_formed is_filled is_blank entry_formed trimmed_formed well_formed has_label_of repeated_at is_written unsupported_at balanced check_of examined
     record_size says_trimmed place_of whole_in le_at

@@ -8,7 +8,7 @@ use lib.Count.{ones, ones_in}
 use lib.ListN.{replicate}
 use Rattle.base.specs.Lists.{same_list}
 use Rattle.base.specs.Search.{all_below, any_below, first_below, sum_from}
-use Rattle.outcome.specs.declared.Outcome.TheVariants.{Done, Refused}
+use Rattle.std.specs.Prelude.{Ok, Err}
 use Rattle.outcome.specs.declared.Refusal.TheVariants.{NotSignedHere, NotSuperseded, OutputReserved}
 use Rattle.checks.specs.Checks.{
   balanced,
@@ -98,8 +98,8 @@ world = after_all (start 4 1 8 1) past
 -- the release comes too early, then in time, with the count of the signature that stays; it is made once, and a later preflight is turned back
 pub answers :
     (outcomes (start 4 1 8 1) (past ++ (lending (release 0 0 1) ∷ lending (release 0 0 1) ∷ lending (preflight 0 0) ∷ []))
-    ≡ Done 0 ∷ Done 1 ∷ Done 1 ∷ Done 1 ∷ Done 2 ∷ Done 3 ∷ Refused NotSuperseded ∷ Done 1 ∷ Done 1 ∷ Refused NotSignedHere ∷ Refused (OutputReserved 4) ∷ [])
-    × ((reply_to world (lending (release 0 0 1))).outcome ≡ Done 1)
+    ≡ Ok 0 ∷ Ok 1 ∷ Ok 1 ∷ Ok 1 ∷ Ok 2 ∷ Ok 3 ∷ Err NotSuperseded ∷ Ok 1 ∷ Ok 1 ∷ Err NotSignedHere ∷ Err (OutputReserved 4) ∷ [])
+    × ((reply_to world (lending (release 0 0 1))).outcome ≡ Ok 1)
 unfolding same_list any_below all_below first_below sum_from has_bit with_bit with_member without_bit subset_of job_has job_with job_without inputs_formed counts_formed
     is_filled is_blank entry_formed trimmed_formed well_formed has_label_of repeated_at is_written unsupported_at balanced check_of examined record_size says_trimmed
     place_of whole_in le_at entry_at entries_at job_of is_label_at label_in is_tape_at makes_tape shares_at shares_in conflicting is_drive supports label_of frames_of is_used

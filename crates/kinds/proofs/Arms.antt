@@ -7,10 +7,9 @@ use native.Mathlib.Omega.{arith}
 use lib.Dec.{ltb}
 use lib.ListN.{drop, get_or, length, take}
 use Rattle.federation.specs.declared.Settings.{Settings}
-use Rattle.outcome.specs.declared.Outcome.{Outcome}
+use Rattle.outcome.specs.Figures.{Outcome, Verdict}
+use Rattle.std.specs.Prelude.{Ok}
 use Rattle.outcome.specs.declared.Refusal.TheVariants.{NoVault, NotBooked, WrongVault}
-use Rattle.outcome.specs.declared.Verdict.{Verdict}
-use Rattle.outcome.specs.declared.Verdict.TheVariants.{Pass}
 use Rattle.sets.specs.Bits.{has_bit}
 use Rattle.codec.proofs.Sizes.{place_whole}
 use Rattle.codec.specs.Codec.{record_size}
@@ -56,7 +55,7 @@ known_behind s booked journal v faulty job g h = record {
   below = λ p.
       let vault = passed_rest (ltb v s.n) _ NoVault (sym h ∙ p) in
       let kind = passed_rest (beq (has_bit s.faulty v) faulty) _ WrongVault vault in
-      ((reflect_booked s.version journal booked job).sound (passed_test (is_booked s.version journal booked job) Pass NotBooked kind)).below;
+      ((reflect_booked s.version journal booked job).sound (passed_test (is_booked s.version journal booked job) (Ok (tt {0})) NotBooked kind)).below;
 }
 
 -- the command of a kind with this vault and this job

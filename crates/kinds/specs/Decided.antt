@@ -1,8 +1,7 @@
 -- A command decided from what it looks at: the settings, how many records are booked, a vault, the votes on a job, and a client's history.
-use Rattle.std.specs.Prelude.{Bool, cond, false, true, List, ℕ}
+use Rattle.std.specs.Prelude.{Bool, cond, false, true, List, ℕ, Ok, Err}
 use Rattle.outcome.specs.declared.Refusal.TheVariants.{NotBooked, NotHeld, Unreadable}
-use Rattle.outcome.specs.declared.Verdict.{Verdict}
-use Rattle.outcome.specs.declared.Verdict.TheVariants.{Fail, Pass}
+use Rattle.outcome.specs.Figures.{Verdict}
 use Rattle.federation.specs.declared.Settings.{Settings}
 use Rattle.journal.specs.Journal.{is_booked}
 use Rattle.binomials.specs.Draw.{draw_of}
@@ -20,7 +19,7 @@ use Rattle.kinds.specs.declared.View.{View}
 
 -- check 4 alone
 unfoldable pub booked_or : Bool → Verdict
-booked_or booked = cond booked Pass (Fail NotBooked)
+booked_or booked = cond booked (Ok tt) (Err NotBooked)
 
 -- checks 3, 5 and 4, of a step that is for faulty vaults or for correct ones
 abbrev pub gate_by : Settings → ℕ → List ℕ → ℕ → Bool → ℕ → Verdict

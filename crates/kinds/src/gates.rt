@@ -11,9 +11,9 @@ pub(crate) fn booked_or(version: u16, booked: usize, journal: &[u8], job: usize)
     ensures { result ≡ booked_or (is_booked version journal.now booked job) }
 {
     if journal::is_booked(version, journal, booked, job) {
-        return Verdict::Pass;
+        return Ok(());
     }
-    Verdict::Fail(Refusal::NotBooked)
+    Err(Refusal::NotBooked)
 }
 
 // Checks 3, 5 and 4, of a step that is for faulty vaults or for correct ones.

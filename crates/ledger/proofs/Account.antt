@@ -12,7 +12,7 @@ use lib.Pow.{split}
 use Rattle.base.proofs.Members.{distinct_append, distinct_apart, distinct_left, distinct_map, distinct_map_keep, distinct_right, image_once, in_append, in_keep, in_last, in_left, in_map, in_right, in_snoc, keep_in, keep_same, map_append, map_in, reflect_member, total_append, without_total}
 use Rattle.base.proofs.Reflect.{reflect_as, reflect_eq, reflect_not, reflects_same, refutes}
 use Rattle.base.specs.Lists.{Distinct, In, any_in}
-use Rattle.outcome.specs.declared.Verdict.TheVariants.{Pass}
+use Rattle.std.specs.Prelude.{Ok}
 use Rattle.conflicts.proofs.Tapes.{WellFormed, checked_well_formed, reflect_tape}
 use Rattle.checks.specs.Checks.{check_of, examined}
 use Rattle.codec.specs.Codec.{job_of, record_size}
@@ -25,7 +25,7 @@ use Rattle.ledger.proofs.Splits.{CutLast, CutBefore, cut as cut_last, empty_uncu
 use Rattle.ledger.specs.Demand3.{InTurn, OneCreator, accessioned_along, made_along, retire, standing_along, standing_from, trimmed_along}
 use Rattle.ledger.specs.Register.{Register, accession_of, entering, new_register, tabled, taking, without_inputs}
 
-pub examined_checked : (version : ℕ) (bytes : List ℕ) → examined version bytes ≡ Pass → check_of (job_of bytes) ≡ Pass
+pub examined_checked : (version : ℕ) (bytes : List ℕ) → examined version bytes ≡ Ok (tt {0}) → check_of (job_of bytes) ≡ Ok (tt {0})
 unfolding examined
 examined_checked version bytes e = passed_rest (eqb (length bytes) (record_size version)) (check_of (job_of bytes)) _ e
 

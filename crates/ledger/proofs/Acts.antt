@@ -5,11 +5,9 @@ use mathlib.Core.Path.{◌≡◌, refl, sym}
 use Prim.Native.Nat.{ℕ}
 use lib.Count.{ones}
 use Rattle.base.proofs.Reflect.{by_cases}
-use Rattle.outcome.specs.declared.Outcome.{Outcome}
-use Rattle.outcome.specs.declared.Outcome.TheVariants.{Done, Refused}
+use Rattle.outcome.specs.Figures.{Outcome, Verdict}
+use Rattle.std.specs.Prelude.{Ok, Err}
 use Rattle.outcome.specs.declared.Refusal.TheVariants.{NoClient, NotHeld}
-use Rattle.outcome.specs.declared.Verdict.{Verdict}
-use Rattle.outcome.specs.declared.Verdict.TheVariants.{Fail, Pass}
 use Rattle.job_sets.specs.Jobs.{job_has}
 use Rattle.journal.specs.Journal.{Booked, is_booked, job_at}
 use Rattle.generations.specs.Generations.{age_in}
@@ -47,10 +45,10 @@ pub data Act (l : Ledger) (journal : List ℕ) : Request → Decision → Type 0
   votes : (column : Column) (v k : ℕ) → Entered l journal v k true → Act l journal (faulty_vote column v k) (voting (votes_in l column k) v (Record column))
   visits : Act l journal snapshot (snapshotting l.settings l.next l.seen (vault_at l l.next).held)
   releases : (v k rival : ℕ) → Entered l journal v k false → job_has (vault_at l v).signed k ≡ true
-      → Act l journal (release v k rival) (record { outcome = Done (ones (signers_of l k)); change = Release (unsigning (vault_at l v) k) })
+      → Act l journal (release v k rival) (record { outcome = Ok (ones (signers_of l k)); change = Release (unsigning (vault_at l v) k) })
   asks_again : (v k client : ℕ) → Entered l journal v k false → is_client client ≡ true → job_has (vault_at l v).signed k ≡ true
       → Act l journal (client_preflight v k client)
-      (record { outcome = Done (ones (signers_of l k)); change = Count (history_with client (history_at l v client) false) })
+      (record { outcome = Ok (ones (signers_of l k)); change = Count (history_with client (history_at l v client) false) })
   asks : (v k client : ℕ) → Entered l journal v k false → is_client client ≡ true → job_has (vault_at l v).signed k ≡ false
       → Act l journal (client_preflight v k client)
       (voting (signers_of l k) v (Grant (record { vault = signing (vault_at l v) k; history = history_with client (history_at l v client) true })))
@@ -62,10 +60,10 @@ pub data Act (l : Ledger) (journal : List ℕ) : Request → Decision → Type 0
 
 module _ (l : Ledger) (journal : List ℕ) where
   -- a step that is answered 0 passed its row of checks
-  behind : (q : Request) (g : Verdict) (d : Decision) → is_done (gated g d).outcome ≡ true → (g ≡ Pass → is_done d.outcome ≡ true → Act l journal q d)
+  behind : (q : Request) (g : Verdict) (d : Decision) → is_done (gated g d).outcome ≡ true → (g ≡ Ok (tt {0}) → is_done d.outcome ≡ true → Act l journal q d)
       → Act l journal q (gated g d)
-  behind q Pass d e h = h refl e
-  behind q (Fail why) d e h = absurd (true≢false (sym e))
+  behind q (Ok (tt {0})) d e h = h refl e
+  behind q (Err why) d e h = absurd (true≢false (sym e))
 
   -- ---- preflight
   consents : (v k : ℕ) → Entered l journal v k false → (b : Bool) → job_has (vault_at l v).signed k ≡ b → (d : Verdict)
@@ -73,8 +71,8 @@ module _ (l : Ledger) (journal : List ℕ) where
       is_done (consenting answer.consent answer.vault (signers_of l k) v).outcome ≡ true
       → Act l journal (preflight v k) (consenting answer.consent answer.vault (signers_of l k) v)
   consents v k h true s d e = signs_again v k h s
-  consents v k h false s Pass e = signs v k h s
-  consents v k h false s (Fail why) e = absurd (true≢false (sym e))
+  consents v k h false s (Ok (tt {0})) e = signs v k h s
+  consents v k h false s (Err why) e = absurd (true≢false (sym e))
 
   pub act_preflight : (v k : ℕ) → is_done (preflight_decision l journal v k).outcome ≡ true → Act l journal (preflight v k) (preflight_decision l journal v k)
   unfolding preflight_decision preflighting consent vault_preflight
@@ -123,8 +121,8 @@ module _ (l : Ledger) (journal : List ℕ) where
       is_done (counting answer.consent answer.vault client (history_at l v client) (signers_of l k) v).outcome ≡ true
       → Act l journal (client_preflight v k client) (counting answer.consent answer.vault client (history_at l v client) (signers_of l k) v)
   counts v k client h c true s d e = asks_again v k client h c s
-  counts v k client h c false s Pass e = asks v k client h c s
-  counts v k client h c false s (Fail why) e = absurd (true≢false (sym e))
+  counts v k client h c false s (Ok (tt {0})) e = asks v k client h c s
+  counts v k client h c false s (Err why) e = absurd (true≢false (sym e))
 
   pub act_client : (v k client : ℕ) → is_done (client_preflight_decision l journal v k client).outcome ≡ true
       → Act l journal (client_preflight v k client) (client_preflight_decision l journal v k client)
@@ -155,8 +153,8 @@ module _ (l : Ledger) (journal : List ℕ) where
 
   reads : (q : Request) (o : Outcome) → is_done o ≡ true → ((value : ℕ) → Act l journal q (answering value))
       → Act l journal q (record { outcome = o; change = Nothing })
-  reads q (Done value) e f = f value
-  reads q (Refused why) e f = absurd (true≢false (sym e))
+  reads q (Ok value) e f = f value
+  reads q (Err why) e f = absurd (true≢false (sym e))
 
   pub act_dependencies : (v k : ℕ) → is_done (dependencies_decision l journal v k).outcome ≡ true
       → Act l journal (dependencies v k) (dependencies_decision l journal v k)

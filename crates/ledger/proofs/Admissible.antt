@@ -8,8 +8,8 @@ use Rattle.base.proofs.Members.{reflect_all_in, reflect_member}
 use Rattle.base.proofs.Reflect.{reflect_and, reflect_as, reflect_eq, reflect_not}
 use Rattle.base.specs.Lists.{In}
 use Rattle.base.specs.Reflect.{Reflects}
-use Rattle.outcome.specs.declared.Verdict.{Verdict}
-use Rattle.outcome.specs.declared.Verdict.TheVariants.{Fail, Pass}
+use Rattle.outcome.specs.Figures.{Verdict}
+use Rattle.std.specs.Prelude.{Ok, Err}
 use Rattle.conflicts.proofs.Tapes.{reflect_tape}
 use Rattle.checks.specs.Checks.{examined}
 use Rattle.codec.specs.Codec.{job_of}
@@ -18,13 +18,13 @@ use Rattle.record.specs.declared.Entry.{Entry}
 use Rattle.ledger.specs.Register.{Register, is_admissible, passes}
 
 pub record CanTake (r : Register) (bytes : List ℕ) : Type 0 where
-  pub fits : examined r.version bytes ≡ Pass
+  pub fits : examined r.version bytes ≡ Ok (tt {0})
   pub standing : (t : Entry) → In t (input_tapes (job_of bytes)) → In t r.standing
   pub new : (t : Entry) → In t (output_tapes (job_of bytes)) → In t.label r.made → ⊥
 
-reflect_passes : (v : Verdict) → Reflects (passes v) (v ≡ Pass)
-reflect_passes Pass = record { sound = λ e. refl; complete = λ e. refl }
-reflect_passes (Fail why) = record { sound = λ e. absurd (true≢false (sym e)); complete = λ e. let z : ◌≡◌ {A = ℕ} 0 1 = cc in absurd (omega arith) }
+reflect_passes : (v : Verdict) → Reflects (passes v) (v ≡ Ok (tt {0}))
+reflect_passes (Ok (tt {0})) = record { sound = λ e. refl; complete = λ e. refl }
+reflect_passes (Err why) = record { sound = λ e. absurd (true≢false (sym e)); complete = λ e. let z : ◌≡◌ {A = ℕ} 0 1 = cc in absurd (omega arith) }
 
 pub reflect_admissible : (r : Register) (bytes : List ℕ) → Reflects (is_admissible r bytes) (CanTake r bytes)
 unfolding is_admissible

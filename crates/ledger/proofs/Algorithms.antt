@@ -11,8 +11,8 @@ use Rattle.base.proofs.Members.{in_map}
 use Rattle.base.proofs.Reflect.{by_cases, not_true_false}
 use Rattle.base.specs.Reflect.{Reflects}
 use Rattle.outcome.specs.declared.Refusal.TheVariants.{NotSigned, TooFewSigners}
-use Rattle.outcome.specs.declared.Verdict.{Verdict}
-use Rattle.outcome.specs.declared.Verdict.TheVariants.{Fail, Pass}
+use Rattle.outcome.specs.Figures.{Verdict}
+use Rattle.std.specs.Prelude.{Ok, Err}
 use Rattle.conflicts.proofs.Tapes.{checked_well_formed}
 use Rattle.checks.specs.Checks.{check_of}
 use Rattle.conflicts.specs.Tapes.{output_tapes}
@@ -49,15 +49,15 @@ certificate_valid s recorded signers = record {
 }
   where
     by : (a : Bool) → subset_of signers recorded ≡ a → (b : Bool) → leb (threshold_of s) (ones signers) ≡ b
-        → passes (cond a (cond b Pass (Fail TooFewSigners)) (Fail NotSigned)) ≡ true → Certificate s recorded signers
+        → passes (cond a (cond b (Ok (tt {0})) (Err TooFewSigners)) (Err NotSigned)) ≡ true → Certificate s recorded signers
     by true t true q e = record { signed = λ u. subset_has signers recorded u t; enough = leb-true _ _ q }
     by true t false q e = absurd (true≢false (sym e))
     by false t b q e = absurd (true≢false (sym e))
 
 -- what is decided behind a row of checks is answered 0 exactly where they pass
 passed : (g : Verdict) (d : Decision) → is_done d.outcome ≡ true → is_done (gated g d).outcome ≡ passes g
-passed Pass d e = e
-passed (Fail why) d e = refl
+passed (Ok (tt {0})) d e = e
+passed (Err why) d e = refl
 
 module _ (l : Ledger) (journal : List ℕ) (v k : ℕ) (in_place : Entered l journal v k false) where
   abbrev vault : Vault
@@ -87,17 +87,17 @@ module _ (l : Ledger) (journal : List ℕ) (v k : ℕ) (in_place : Entered l jou
   algorithm_signs s a = asked s ∙ simp (signs_admission jobs l.booked vault.held (job_without vault.signed k) (jobs k) a)
 
   -- and only there; a booked record passed checks 6 to 9
-  pub by_verdict : (d : Verdict) → is_done (let s = consented d vault k in consenting s.consent s.vault (signers_of l k) v).outcome ≡ true → d ≡ Pass
-  by_verdict Pass e = refl
-  by_verdict (Fail why) e = absurd (true≢false (sym e))
+  pub by_verdict : (d : Verdict) → is_done (let s = consented d vault k in consenting s.consent s.vault (signers_of l k) v).outcome ≡ true → d ≡ Ok (tt {0})
+  by_verdict (Ok (tt {0})) e = refl
+  by_verdict (Err why) e = absurd (true≢false (sym e))
 
-  pub signs_algorithm : check_of (jobs k) ≡ Pass → job_has vault.signed k ≡ false → is_done (preflight_decision l journal v k).outcome ≡ true → Signs
+  pub signs_algorithm : check_of (jobs k) ≡ Ok (tt {0}) → job_has vault.signed k ≡ false → is_done (preflight_decision l journal v k).outcome ≡ true → Signs
   signs_algorithm h s e =
       admission_signs jobs l.booked vault.held (job_without vault.signed k) (jobs k) h
       (by_verdict _ (ap (λ (d : Decision). is_done d.outcome) (sym (asked s)) ∙ e))
 
   -- a job that is held but was not signed is refused: a held job made its outputs, namely it itself
-  pub held_refused : check_of (jobs k) ≡ Pass → job_has vault.held k ≡ true → job_has vault.signed k ≡ false
+  pub held_refused : check_of (jobs k) ≡ Ok (tt {0}) → job_has vault.held k ≡ true → job_has vault.signed k ≡ false
       → is_done (preflight_decision l journal v k).outcome ≡ false
   held_refused h m s = not_true_false _ (λ e.
       let made = in_map (λ (t : Entry). t.label) (output_tapes (jobs k)) _ (checked_well_formed (jobs k) h).made in

@@ -17,12 +17,10 @@ use borrow.Author.Tests.{eqb-false, eqb-true, leb-true}
 use Rattle.base.proofs.Members.{get_d_in, in_get_d}
 use Rattle.base.proofs.Reflect.{and_true, by_cases, reflect_false}
 use Rattle.base.specs.Lists.{In}
-use Rattle.outcome.specs.declared.Outcome.{Outcome}
-use Rattle.outcome.specs.declared.Outcome.TheVariants.{Done, Refused}
+use Rattle.outcome.specs.Figures.{Outcome, Verdict}
+use Rattle.std.specs.Prelude.{Ok, Err}
 use Rattle.outcome.specs.declared.Refusal.{Refusal}
 use Rattle.outcome.specs.declared.Refusal.TheVariants.{Full, NoClient, NotHeld, OverQuota, Settings as BadSettings}
-use Rattle.outcome.specs.declared.Verdict.{Verdict}
-use Rattle.outcome.specs.declared.Verdict.TheVariants.{Fail, Pass}
 use Rattle.checks.specs.Checks.{examined}
 use Rattle.codec.proofs.Sizes.{place_before, room_whole, whole_room}
 use Rattle.codec.specs.Codec.{place_of}
@@ -186,7 +184,7 @@ pub data Change (w : World) : Request → Bool → World → Type 0 where
   -- answered 0, and nothing changes
   idle : (q : Request) → Idle w q → Change w q true w
   -- answered 0, with one effect
-  appends : (bytes : List ℕ) → examined (version_of w.ledger) bytes ≡ Pass → w.ledger.booked < 128 → (In bytes (table_of w) → ⊥)
+  appends : (bytes : List ℕ) → examined (version_of w.ledger) bytes ≡ Ok (tt {0}) → w.ledger.booked < 128 → (In bytes (table_of w) → ⊥)
       → Change w (propose bytes) true (record { ledger = booking w.ledger; booked = w.booked ++ bytes })
   signs : (v k : ℕ) → Correct w.ledger.settings v → k < w.ledger.booked
       → Unblocked (tabled (table_of w)) w.ledger.booked (vault_at w.ledger v).held (job_without (vault_at w.ledger v).signed k) (tabled (table_of w) k)
@@ -239,9 +237,9 @@ module _ (w : World) (sh : Shape w.ledger w.booked) (size : ℕ) (beyond : List 
   answers q value v k i = moves q (carried l (answering value) v k) refl (idle q i)
 
   -- a row of checks, and what is decided behind it
-  behind : (q : Request) (g : Verdict) (d : Decision) (v k : ℕ) → (g ≡ Pass → Moves q (carried l d v k)) → Moves q (carried l (gated g d) v k)
-  behind q Pass d v k h = h refl
-  behind q (Fail why) d v k h = refuses q why v k
+  behind : (q : Request) (g : Verdict) (d : Decision) (v k : ℕ) → (g ≡ Ok (tt {0}) → Moves q (carried l d v k)) → Moves q (carried l (gated g d) v k)
+  behind q (Ok (tt {0})) d v k h = h refl
+  behind q (Err why) d v k h = refuses q why v k
 
   correct : (v k : ℕ) → Entered l journal v k false → Correct l.settings v
   correct v k h = record { below = h.vault; sound = h.role }
@@ -251,7 +249,7 @@ module _ (w : World) (sh : Shape w.ledger w.booked) (size : ℕ) (beyond : List 
   jobs h = jobs_read (version_of l) l.booked size bs beyond sh.records h.known.inside
 
   -- ---- preflight
-  unblocked : (v k : ℕ) → Entered l journal v k false → admission_at (vault_at l v) (version_of l) journal l.booked k ≡ Pass
+  unblocked : (v k : ℕ) → Entered l journal v k false → admission_at (vault_at l v) (version_of l) journal l.booked k ≡ Ok (tt {0})
       → Unblocked (tabled (table_of w)) l.booked (vault_at l v).held (job_without (vault_at l v).signed k) (tabled (table_of w) k)
   unfolding admission_at
   unblocked v k h e =
@@ -269,8 +267,8 @@ module _ (w : World) (sh : Shape w.ledger w.booked) (size : ℕ) (beyond : List 
       Moves (preflight v k) (carried l (consenting answer.consent answer.vault (signers_of l k) v) v k)
   unfolding applied
   consents v k true s d e h = answers (preflight v k) (ones (signers_of l k)) v k s
-  consents v k false s (Fail why) e h = refuses (preflight v k) why v k
-  consents v k false s Pass e h =
+  consents v k false s (Err why) e h = refuses (preflight v k) why v k
+  consents v k false s (Ok (tt {0})) e h =
       moves (preflight v k) (carried l (voting (signers_of l k) v (Sign (signing (vault_at l v) k))) v k) (signed_booked v k)
       (signs v k (correct v k h) h.known.below (unblocked v k h e))
 
@@ -282,10 +280,10 @@ module _ (w : World) (sh : Shape w.ledger w.booked) (size : ℕ) (beyond : List 
       (entered l journal v k false g))
 
   -- ---- a preflight from a client
-  within_pass : (history : ℕ) (d : Verdict) → within_quota history d ≡ Pass → d ≡ Pass
+  within_pass : (history : ℕ) (d : Verdict) → within_quota history d ≡ Ok (tt {0}) → d ≡ Ok (tt {0})
   unfolding within_quota
   within_pass history d e =
-      by_cases (λ b. cond b (Fail OverQuota) d ≡ Pass → d ≡ Pass) (is_spent history) (λ _ x. cc) (λ _ x. x) e
+      by_cases (λ b. cond b (Err OverQuota) d ≡ Ok (tt {0}) → d ≡ Ok (tt {0})) (is_spent history) (λ _ x. cc) (λ _ x. x) e
 
   counted_booked : (v k : ℕ) (h : History) → (counted (signed_by l v k) v h).booked ≡ l.booked
   unfolding counted voted with_vault
@@ -300,9 +298,9 @@ module _ (w : World) (sh : Shape w.ledger w.booked) (size : ℕ) (beyond : List 
       → let answer : Signing = cond b (record { consent = Already; vault = vault_at l v }) (consented d (vault_at l v) k) in
       Moves (client_preflight v k client) (carried l (counting answer.consent answer.vault client history (signers_of l k) v) v k)
   unfolding applied
-  consents_counted v k client history true d e h = quietly v k client _ (Done (ones (signers_of l k)))
-  consents_counted v k client history false (Fail why) e h = quietly v k client _ (Refused why)
-  consents_counted v k client history false Pass e h =
+  consents_counted v k client history true d e h = quietly v k client _ (Ok (ones (signers_of l k)))
+  consents_counted v k client history false (Err why) e h = quietly v k client _ (Err why)
+  consents_counted v k client history false (Ok (tt {0})) e h =
       let entry : History = history_with client history true in
       moves (client_preflight v k client)
       (carried l (voting (signers_of l k) v (Grant (record { vault = signing (vault_at l v) k; history = entry }))) v k) (counted_booked v k entry)
@@ -325,7 +323,7 @@ module _ (w : World) (sh : Shape w.ledger w.booked) (size : ℕ) (beyond : List 
       let q : bit_and signers (signers_of l k) ≡ signers = eqb-true (bit_and signers (signers_of l k)) signers e in
       ones_subset l.settings.n signers (signers_of l k) (omega (arith, and_le_r signers (signers_of l k), sh.votes_below Signatures k)) e
 
-  quorum : (k signers : ℕ) → certificate l.settings (signers_of l k) signers ≡ Pass → threshold_of l.settings ≤ ones (signers_of l k)
+  quorum : (k signers : ℕ) → certificate l.settings (signers_of l k) signers ≡ Ok (tt {0}) → threshold_of l.settings ≤ ones (signers_of l k)
   unfolding certificate
   quorum k signers e =
       let sub = passed_test (subset_of signers (signers_of l k)) _ _ e in
@@ -393,7 +391,7 @@ module _ (w : World) (sh : Shape w.ledger w.booked) (size : ℕ) (beyond : List 
       let lost = passed_test _ _ _ (passed_rest (job_has (vault_at l v).signed k) _ _ known) in
       let differ = and_true (not (eqb k rival)) _ lost in
       let kept = and_true (job_has (vault_at l v).held rival) _ differ.1 in
-      moves (release v k rival) (carried l (record { outcome = Done (ones (signers_of l k)); change = Release (unsigning (vault_at l v) k) }) v k) refl
+      moves (release v k rival) (carried l (record { outcome = Ok (ones (signers_of l k)); change = Release (unsigning (vault_at l v) k) }) v k) refl
       (releases v k rival (correct v k h) (passed_test (job_has (vault_at l v).signed k) _ _ known) kept.0 (record {
         other = λ e. eqb-false k rival ((reflect_false (eqb k rival)).sound differ.0) (sym e);
         conflicts = subst (λ (job : ℕ → Job). conflicting (job rival) (job k) ≡ true) (jobs h) (conflicting_sym _ _ kept.1);
@@ -401,8 +399,8 @@ module _ (w : World) (sh : Shape w.ledger w.booked) (size : ℕ) (beyond : List 
 
   -- ---- missing dependencies: whatever is answered, nothing changes
   reads : (q : Request) (o : Outcome) (v k : ℕ) → Idle w q → Moves q (carried l (record { outcome = o; change = Nothing }) v k)
-  reads q (Done value) v k i = answers q value v k i
-  reads q (Refused why) v k i = refuses q why v k
+  reads q (Ok value) v k i = answers q value v k i
+  reads q (Err why) v k i = refuses q why v k
 
   change_dependencies : (v k : ℕ) → Moves (dependencies v k) (carried l (dependencies_decision l journal v k) v k)
   unfolding dependencies_decision

@@ -5,9 +5,8 @@ use mathlib.Core.Path.{◌≡◌}
 use Prim.Native.Nat.{ℕ}
 use lib.Dec.{ltb}
 use Rattle.base.specs.Search.{first_below}
-use Rattle.outcome.specs.Figures.{refusal_number}
-use Rattle.outcome.specs.declared.Verdict.{Verdict}
-use Rattle.outcome.specs.declared.Verdict.TheVariants.{Fail, Pass}
+use Rattle.outcome.specs.Figures.{refusal_number, Verdict}
+use Rattle.std.specs.Prelude.{Ok, Err}
 use Rattle.sets.specs.Bits.{has_bit}
 use Rattle.job_sets.specs.Jobs.{job_without}
 use Rattle.queries.specs.Admission.{admission, consumed_at, not_created_at, remade_at}
@@ -20,8 +19,8 @@ use Rattle.vaults.specs.declared.Vault.{Vault}
 
 -- a test of the number that a row of checks refuses with
 abbrev pub Says : (ℕ → Bool) → Bool → Verdict → Type 0
-Says p b Pass = Unit {0}
-Says p b (Fail why) = p (refusal_number why) ≡ b
+Says p b (Ok (tt {0})) = Unit {0}
+Says p b (Err why) = p (refusal_number why) ≡ b
 
 module _ (p : ℕ → Bool) (b : Bool) where
   choose : (t : Bool) (x y : Verdict) → Says p b x → Says p b y → Says p b (cond t x y)

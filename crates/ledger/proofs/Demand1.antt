@@ -28,14 +28,11 @@ use Rattle.job_sets.specs.Jobs.{job_count, job_has, job_without, no_jobs}
 use Rattle.job_sets.specs.declared.job_set.JobSet.{JobSet}
 use Rattle.journal.proofs.Booked.{reflect_booked}
 use Rattle.journal.specs.Journal.{Booked, inside_of, is_booked, job_at}
-use Rattle.outcome.specs.Figures.{number_of, refusal_number, refusal_value, value_of}
-use Rattle.outcome.specs.declared.Outcome.{Outcome}
-use Rattle.outcome.specs.declared.Outcome.TheVariants.{Done, Refused}
+use Rattle.outcome.specs.Figures.{number_of, refusal_number, refusal_value, value_of, Outcome, Verdict}
+use Rattle.std.specs.Prelude.{Ok, Err}
 use Rattle.outcome.specs.declared.Refusal.{Refusal}
 use Rattle.outcome.specs.declared.Refusal.TheVariants.{Malformed, NoClient, NoVault, NotBooked, NotHeld, NotSigned, OverQuota, Settings as BadSettings}
 use Rattle.outcome.specs.declared.Refusal.TheVariants.{TooFewSigners, WrongVault}
-use Rattle.outcome.specs.declared.Verdict.{Verdict}
-use Rattle.outcome.specs.declared.Verdict.TheVariants.{Fail, Pass}
 use Rattle.quota.specs.Asks.{Ask, news, spends}
 use Rattle.quota.specs.Quota.{is_client, is_spent}
 use Rattle.record.specs.declared.Job.{Job}
@@ -115,27 +112,27 @@ right_one true false e = absurd (true≢false (sym e))
 right_one false true e = absurd (true≢false (sym e))
 right_one false false e = refl
 
-differ : {value : ℕ} {why : Refusal} → Done value ≡ Refused why → ⊥
+differ : {value : ℕ} {why : Refusal} → Ok value ≡ Err why → ⊥
 differ e = true≢false (ap is_done e)
 
 clash : {b : Bool} → b ≡ true → b ≡ false → ⊥
 clash t f = true≢false (sym t ∙ f)
 
-fails : {why : Refusal} → Fail why ≡ Pass → ⊥
+fails : {why : Refusal} → Err why ≡ Ok (tt {0}) → ⊥
 fails p = true≢false (sym (ap is_pass p))
   where
     is_pass : Verdict → Bool
-    is_pass Pass = true
-    is_pass (Fail why) = false
+    is_pass (Ok (tt {0})) = true
+    is_pass (Err why) = false
 
 -- the figures of a row of checks: those of its refusal, or these
 abbrev number_or : ℕ → Verdict → ℕ
-number_or number Pass = number
-number_or number (Fail why) = refusal_number why
+number_or number (Ok (tt {0})) = number
+number_or number (Err why) = refusal_number why
 
 abbrev value_or : ℕ → Verdict → ℕ
-value_or value Pass = value
-value_or value (Fail why) = refusal_value why
+value_or value (Ok (tt {0})) = value
+value_or value (Err why) = refusal_value why
 
 -- ---- votes afterwards
 vote_joins : (l : Ledger) (c : Column) (v k : ℕ) → k < length l.votes → votes_in (voted l c v k) c k ≡ with_member 16 (votes_in l c k) v
@@ -202,7 +199,7 @@ module _ {w : World} {r : Register} (i : Inv w r) (e : Event) where
       → Gate v (not right) k rest (number_of (gated (vault_gate l journal v k right) d).outcome) (value_of (gated (vault_gate l journal v k right) d).outcome)
   unfolding vault_gate gate_of
   gate_row v k right rest d next =
-      subst (λ (b : Bool). Shown (cond b (gate_of l.settings v right (is_booked (version_of l) journal l.booked k)) (Fail BadSettings))) (sym sane)
+      subst (λ (b : Bool). Shown (cond b (gate_of l.settings v right (is_booked (version_of l) journal l.booked k)) (Err BadSettings))) (sym sane)
       (by (ltb v l.settings.n) refl (beq (has_bit l.settings.faulty v) right) refl (is_booked (version_of l) journal l.booked k) refl)
     where
       Shown : Verdict → Type 0
@@ -210,7 +207,7 @@ module _ {w : World} {r : Register} (i : Inv w r) (e : Event) where
 
       by : (a : Bool) → ltb v l.settings.n ≡ a → (b : Bool) → beq (has_bit l.settings.faulty v) right ≡ b → (c : Bool)
           → is_booked (version_of l) journal l.booked k ≡ c
-          → Shown (cond a (cond b (cond c Pass (Fail NotBooked)) (Fail WrongVault)) (Fail NoVault))
+          → Shown (cond a (cond b (cond c (Ok (tt {0})) (Err NotBooked)) (Err WrongVault)) (Err NoVault))
       by false p b q c r = inl (ltb-false v l.settings.n p, (refl, refl))
       by true p false q c r =
           inr (λ h. omega (arith, h, ltb-true v l.settings.n p), inl (wrong_one (has_bit l.settings.faulty v) right q, (refl, refl)))
@@ -244,13 +241,13 @@ module _ {w : World} {r : Register} (i : Inv w r) (e : Event) where
       → First (Unbooked w e k) 4 rest (number_of (gated (booked_gate l journal k) d).outcome) (value_of (gated (booked_gate l journal k) d).outcome)
   unfolding booked_gate
   booked_row k rest d next =
-      subst (λ (b : Bool). Shown (cond b (cond (is_booked (version_of l) journal l.booked k) Pass (Fail NotBooked)) (Fail BadSettings))) (sym sane)
+      subst (λ (b : Bool). Shown (cond b (cond (is_booked (version_of l) journal l.booked k) (Ok (tt {0})) (Err NotBooked)) (Err BadSettings))) (sym sane)
       (by (is_booked (version_of l) journal l.booked k) refl)
     where
       Shown : Verdict → Type 0
       Shown g = First (Unbooked w e k) 4 rest (number_of (gated g d).outcome) (value_of (gated g d).outcome)
 
-      by : (c : Bool) → is_booked (version_of l) journal l.booked k ≡ c → Shown (cond c Pass (Fail NotBooked))
+      by : (c : Bool) → is_booked (version_of l) journal l.booked k ≡ c → Shown (cond c (Ok (tt {0})) (Err NotBooked))
       by false r = inl (is_unbooked k (refuted (booked? k) r), (refl, refl))
       by true r = inr (not_unbooked k ((booked? k).sound r), next ((booked? k).sound r))
 
@@ -266,7 +263,7 @@ module _ {w : World} {r : Register} (i : Inv w r) (e : Event) where
       (admission_answers (job_at (version_of l) journal l.booked) l.booked (vault_at l v).held (job_without (vault_at l v).signed k)
       (job_at (version_of l) journal l.booked k))
 
-  admitted_row : (v k value : ℕ) (rest : CheckRow) (d : Verdict) → AdmissionAt v k (booked_job w) d → (d ≡ Pass → rest 0 value)
+  admitted_row : (v k value : ℕ) (rest : CheckRow) (d : Verdict) → AdmissionAt v k (booked_job w) d → (d ≡ Ok (tt {0}) → rest 0 value)
       → Admitted w e v k rest (number_or 0 d) (value_or value d)
   admitted_row v k value rest d (admitted a b c f) next = inr (a, inr (b, inr (c, inr (f, next refl))))
   admitted_row v k value rest d (missing x m) next = inl (refl, m)
@@ -299,13 +296,13 @@ module _ {w : World} {r : Register} (i : Inv w r) (e : Event) where
           ones (signers_of (applied l decision.change v k) k) ≡ total
           → Where (SignedHere w e v k) (Value total) (Admitted w e v k (Value total)) (number_of decision.outcome) (value_of decision.outcome)
       by h true s d a q = inl (s, (refl, q))
-      by h false s Pass a q =
+      by h false s (Ok (tt {0})) a q =
           inr (
             λ t. clash t s,
-            admitted_row v k (ones (with_member 16 (signers_of l k) v)) (Value total) Pass a
+            admitted_row v k (ones (with_member 16 (signers_of l k) v)) (Value total) (Ok (tt {0})) a
                 (λ _. (refl, ap ones (sym (signature_joins v k (signing (vault_at l v) k) (in_votes h))) ∙ q)),
           )
-      by h false s (Fail why) a q = inr (λ t. clash t s, admitted_row v k 0 (Value total) (Fail why) a (λ p. absurd (fails p)))
+      by h false s (Err why) a q = inr (λ t. clash t s, admitted_row v k 0 (Value total) (Err why) a (λ p. absurd (fails p)))
 
   -- ---- kinds 4 and 5
   vote_row : (c : Column) (v k total : ℕ) → ones (votes_in (applied l (faulty_vote_decision l journal c v k).change v k) c k) ≡ total
@@ -336,7 +333,7 @@ module _ {w : World} {r : Register} (i : Inv w r) (e : Event) where
           absurd (clash ((reflect_subset signers signers (signers_of l k) (below_power signers)).complete (λ u h b. not_false_true (has_bit (signers_of l k) u)
           (λ m. refuted lacking p (record { which = u; below = h; has = (b, m) })))) f)
 
-  certified_row : (k signers : ℕ) (d : Decision) (rest : CheckRow) → (certificate l.settings (signers_of l k) signers ≡ Pass
+  certified_row : (k signers : ℕ) (d : Decision) (rest : CheckRow) → (certificate l.settings (signers_of l k) signers ≡ Ok (tt {0})
       → rest (number_of d.outcome) (value_of d.outcome))
       → First (Unsigned signers (signers_of l k)) 15 (First (ones signers < l.settings.n - l.settings.b) 16 rest)
       (number_of (gated (certificate l.settings (signers_of l k) signers) d).outcome)
@@ -346,8 +343,8 @@ module _ {w : World} {r : Register} (i : Inv w r) (e : Event) where
     where
       by : (a : Bool) → subset_of signers (signers_of l k) ≡ a → (b : Bool) → leb (threshold_of l.settings) (ones signers) ≡ b
           → First (Unsigned signers (signers_of l k)) 15 (First (ones signers < l.settings.n - l.settings.b) 16 rest)
-          (number_of (gated (cond a (cond b Pass (Fail TooFewSigners)) (Fail NotSigned)) d).outcome)
-          (value_of (gated (cond a (cond b Pass (Fail TooFewSigners)) (Fail NotSigned)) d).outcome)
+          (number_of (gated (cond a (cond b (Ok (tt {0})) (Err TooFewSigners)) (Err NotSigned)) d).outcome)
+          (value_of (gated (cond a (cond b (Ok (tt {0})) (Err TooFewSigners)) (Err NotSigned)) d).outcome)
       by false p b q = inl ((unsigned? k signers).sound (ap not p), (refl, refl))
       by true p false q =
           inr (refuted (unsigned? k signers) (ap not p), inl (leb-false (threshold_of l.settings) (ones signers) q, (refl, refl)))
@@ -356,7 +353,7 @@ module _ {w : World} {r : Register} (i : Inv w r) (e : Event) where
             refuted (unsigned? k signers) (ap not p),
             inr (
               λ h. omega (arith, h, leb-true (threshold_of l.settings) (ones signers) q),
-              next (ap₂ (λ (x y : Bool). cond x (cond y Pass (Fail TooFewSigners)) (Fail NotSigned)) p q),
+              next (ap₂ (λ (x y : Bool). cond x (cond y (Ok (tt {0})) (Err TooFewSigners)) (Err NotSigned)) p q),
             ),
           )
 
@@ -427,7 +424,7 @@ module _ {w : World} {r : Register} (i : Inv w r) (e : Event) where
       by (is_sane l) sane t
     where
       by : (b : Bool) → b ≡ true
-          → let decision : Decision = gated (cond b Pass (Fail BadSettings)) (snapshotting l.settings l.next l.seen (vault_at l l.next).held) in
+          → let decision : Decision = gated (cond b (Ok (tt {0})) (Err BadSettings)) (snapshotting l.settings l.next l.seen (vault_at l l.next).held) in
           job_count (applied l decision.change 0 0).seen ≡ total → Value total (number_of decision.outcome) (value_of decision.outcome)
       by true p q = (refl, q)
       by false p q = absurd (true≢false (sym p))
@@ -468,7 +465,7 @@ module _ {w : World} {r : Register} (i : Inv w r) (e : Event) where
       (sym (passing (λ d. ones (signers_of (applied l d.change v k) k)) v k false _ h) ∙ t))
     where
       by : Entered l journal v k false → (d : Verdict) → Supersession (vault_at l v) (version_of l) journal l.booked k rival d
-          → let decision : Decision = gated d (record { outcome = Done (ones (signers_of l k)); change = Release (unsigning (vault_at l v) k) }) in
+          → let decision : Decision = gated d (record { outcome = Ok (ones (signers_of l k)); change = Release (unsigning (vault_at l v) k) }) in
           ones (signers_of (applied l decision.change v k) k) ≡ total
           → Released v k rival total (number_of decision.outcome) (value_of decision.outcome)
       by h d (unbooked n) q = inl (is_unbooked rival n, (refl, refl))
@@ -509,15 +506,15 @@ module _ {w : World} {r : Register} (i : Inv w r) (e : Event) where
       (FirstAmong 8 (UnsupportedAt takes (job_of bytes)) 8
       (First (Balanced (job_of bytes) → ⊥) 9 rest)))
 
-  checked_row : (bytes : List ℕ) (rest : CheckRow) (number value : ℕ) → (examined (version_of l) bytes ≡ Pass → rest number value)
+  checked_row : (bytes : List ℕ) (rest : CheckRow) (number value : ℕ) → (examined (version_of l) bytes ≡ Ok (tt {0}) → rest number value)
       → Checked bytes rest (number_or number (examined (version_of l) bytes)) (value_or value (examined (version_of l) bytes))
   unfolding examined
   checked_row bytes rest number value next =
       by (eqb (length bytes) (record_size (version_of l))) refl (check_of (job_of bytes)) (check_answers (job_of bytes)) next
     where
       by : (b : Bool) → eqb (length bytes) (record_size (version_of l)) ≡ b → (d : Verdict) → Answer (job_of bytes) d
-          → (cond b d (Fail Malformed) ≡ Pass → rest number value)
-          → Checked bytes rest (number_or number (cond b d (Fail Malformed))) (value_or value (cond b d (Fail Malformed)))
+          → (cond b d (Err Malformed) ≡ Ok (tt {0}) → rest number value)
+          → Checked bytes rest (number_or number (cond b d (Err Malformed))) (value_or value (cond b d (Err Malformed)))
       by false p d a next = inl (λ h. eqb-false (length bytes) (record_size (version_of l)) p h.0, (refl, refl))
       by true p d (malformed n) next = inl (λ h. n h.1, (refl, refl))
       by true p d (repeated x f m) next = inr (λ n. n (eqb-true (length bytes) (record_size (version_of l)) p, f), inl (refl, m))
@@ -546,7 +543,7 @@ module _ {w : World} {r : Register} (i : Inv w r) (e : Event) where
       (value_of (propose_decision l journal bytes).outcome)
   propose_row bytes = by (propose_decision l journal bytes) (proposed l journal bytes)
     where
-      passed : (number value : ℕ) → examined (version_of l) bytes ≡ Pass → Placed bytes number value → Checked bytes (Placed bytes) number value
+      passed : (number value : ℕ) → examined (version_of l) bytes ≡ Ok (tt {0}) → Placed bytes number value → Checked bytes (Placed bytes) number value
       passed number value p next =
           subst (λ (d : Verdict). Checked bytes (Placed bytes) (number_or number d) (value_or value d)) p
           (checked_row bytes (Placed bytes) number value (λ _. next))
@@ -614,8 +611,8 @@ module _ {w : World} {r : Register} (i : Inv w r) (e : Event) where
       found = requiring (vault_at l v) (held_somewhere l.settings l.vaults) (version_of l) journal l.booked k
 
       gate_listing : (g : Verdict) → (gated g (record { outcome = found.outcome; change = Nothing })).outcome ≡ (gated_listing g found).outcome
-      gate_listing Pass = refl
-      gate_listing (Fail why) = refl
+      gate_listing (Ok (tt {0})) = refl
+      gate_listing (Err why) = refl
 
       sized : (s : JobSet) → Smallest w e.size e.beyond v k (listing s) → First (NoSet v k) 21 (Gives (SmallestSize w e v k)) 0 (job_count s)
       sized s t =
@@ -637,8 +634,8 @@ module _ {w : World} {r : Register} (i : Inv w r) (e : Event) where
       by : (b : Bool) (d : Verdict) (s : JobSet) → let a : Listing = cond b (listing no_jobs) (if_admitted d s) in Smallest w e.size e.beyond v k a
           → First (NoSet v k) 21 (Gives (SmallestSize w e v k)) (number_of a.outcome) (value_of a.outcome)
       by true d s t = sized no_jobs t
-      by false Pass s t = sized s t
-      by false (Fail why) s t = inl (t.none.0 refl, (refl, refl))
+      by false (Ok (tt {0})) s t = sized s t
+      by false (Err why) s t = inl (t.none.0 refl, (refl, refl))
 
   -- ---- kind 12
   -- the history that is kept decides what the requests seen from outside say
@@ -657,13 +654,13 @@ module _ {w : World} {r : Register} (i : Inv w r) (e : Event) where
     where
       said : Bool → Verdict → Outcome
       said b d =
-          let answer : Signing = consented (cond b (Fail OverQuota) d) (vault_at l v) k in
+          let answer : Signing = consented (cond b (Err OverQuota) d) (vault_at l v) k in
           (counting answer.consent answer.vault client (history_at l v client) (signers_of l k) v).outcome
 
       over : (b : Bool) (d : Verdict) → Says is_counted true d → Says (λ n. eqb n 23) false d → (counts (said b d) ≡ true) × (is_over (said b d) ≡ b)
       over true d a c = (refl, refl)
-      over false Pass a c = (refl, refl)
-      over false (Fail why) a c = (a, c)
+      over false (Ok (tt {0})) a c = (refl, refl)
+      over false (Err why) a c = (a, c)
 
   -- a new signature, and a request that enters the history alone
   grant_joins : (v k : ℕ) (state : Vault) (h : History) → k < length l.votes
@@ -698,7 +695,7 @@ module _ {w : World} {r : Register} (i : Inv w r) (e : Event) where
 
       by : Entered l journal v k false → (a : Bool) → ltb client 8 ≡ a → (b : Bool) → job_has (vault_at l v).signed k ≡ b → (c : Bool)
           → is_spent (history_at l v client) ≡ c → (d : Verdict) → AdmissionAt v k (booked_job w) d
-          → let answer : Signing = cond b (record { consent = Already; vault = vault_at l v }) (consented (cond c (Fail OverQuota) d) (vault_at l v) k) in
+          → let answer : Signing = cond b (record { consent = Already; vault = vault_at l v }) (consented (cond c (Err OverQuota) d) (vault_at l v) k) in
           let decision : Decision = cond a (counting answer.consent answer.vault client (history_at l v client) (signers_of l k) v) (refusing NoClient) in
           ones (signers_of (applied l decision.change v k) k) ≡ total
           → Asked past v k client total (number_of decision.outcome) (value_of decision.outcome)
@@ -706,26 +703,26 @@ module _ {w : World} {r : Register} (i : Inv w r) (e : Event) where
       by h true p true s c x d a q = inr (λ f. omega (arith, f, ltb-true client 8 p), inl (s, (refl, ap ones (unasked v k _) ∙ q)))
       by h true p false s true x d a q =
           inr (λ f. omega (arith, f, ltb-true client 8 p), inr (λ f. clash f s, inl ((within true (sym x ∙ spent h p s)).sound refl, (refl, refl))))
-      by h true p false s false x Pass a q =
+      by h true p false s false x (Ok (tt {0})) a q =
           inr (
             λ f. omega (arith, f, ltb-true client 8 p),
             inr (
               λ f. clash f s,
               inr (
                 refuted (within false (sym x ∙ spent h p s)) refl,
-                admitted_row v k (ones (with_member 16 (signers_of l k) v)) (Value total) Pass a
+                admitted_row v k (ones (with_member 16 (signers_of l k) v)) (Value total) (Ok (tt {0})) a
                     (λ _. (refl, ap ones (sym (grant_joins v k (signing (vault_at l v) k) _ (in_votes h))) ∙ q)),
               ),
             ),
           )
-      by h true p false s false x (Fail why) a q =
+      by h true p false s false x (Err why) a q =
           inr (
             λ f. omega (arith, f, ltb-true client 8 p),
             inr (
               λ f. clash f s,
               inr (
                 refuted (within false (sym x ∙ spent h p s)) refl,
-                admitted_row v k 0 (Value total) (Fail why) a (λ f. absurd (fails f)),
+                admitted_row v k 0 (Value total) (Err why) a (λ f. absurd (fails f)),
               ),
             ),
           )

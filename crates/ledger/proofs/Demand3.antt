@@ -10,9 +10,8 @@ use lib.ListN.{get_or, replicate}
 use lib.Pow.{pow_pos}
 use Rattle.base.proofs.Members.{in_get_d}
 use Rattle.base.specs.Lists.{In, total}
-use Rattle.outcome.specs.Figures.{number_of}
-use Rattle.outcome.specs.declared.Outcome.{Outcome}
-use Rattle.outcome.specs.declared.Verdict.TheVariants.{Pass}
+use Rattle.outcome.specs.Figures.{number_of, Outcome}
+use Rattle.std.specs.Prelude.{Ok}
 use Rattle.checks.specs.Checks.{examined}
 use Rattle.codec.proofs.RoundTrip.{plain_untrimmed}
 use Rattle.codec.proofs.Sizes.{place_first}
@@ -198,7 +197,7 @@ module _ {w : World} {r : Register} (i : Inv w r) where
     once = i.once;
     known = i.books.known;
     records_once = i.unique;
-    checked = λ x m. subst (λ (v : ℕ). examined v x ≡ Pass) i.version (i.fit x m);
+    checked = λ x m. subst (λ (v : ℕ). examined v x ≡ Ok (tt {0})) i.version (i.fit x m);
     in_turn = of_order InTurns i.books.in_turn;
     standing = subst (λ (ks : List ℕ). r.standing ≡ standing_along (tabled r.table) ks) i.taken i.books.along;
     made = subst (λ (ks : List ℕ). r.made ≡ made_along (tabled r.table) ks) i.taken i.books.marks;
@@ -239,7 +238,7 @@ unfolding says_trimmed
 untrimmed {s} {w} {r} h v =
     no_total (λ k. (tabled r.table k).trimmed) r.taken
     (λ k m. plain_untrimmed 1 (get_or r.table k []) refl (examined_length 1 _
-    (subst (λ (v : ℕ). examined v (get_or r.table k []) ≡ Pass) v (h.checked _ (in_get_d r.table [] k (h.known k m))))))
+    (subst (λ (v : ℕ). examined v (get_or r.table k []) ≡ Ok (tt {0})) v (h.checked _ (in_get_d r.table [] k (h.known k m))))))
 
 pub first_version : FirstVersion
 first_version n b faulty lawful es =

@@ -18,7 +18,7 @@ use Rattle.federation.specs.declared.Settings.{Settings}
 use Rattle.journal.proofs.Booked.{reflect_whole}
 use Rattle.journal.specs.Journal.{is_whole, job_at}
 use Rattle.outcome.specs.declared.Refusal.TheVariants.{NotBooked, Settings as BadSettings}
-use Rattle.outcome.specs.declared.Verdict.TheVariants.{Fail, Pass}
+use Rattle.std.specs.Prelude.{Ok, Err}
 use Rattle.record.specs.declared.Job.{Job}
 use Rattle.job_sets.proofs.Jobs.{has_jobs_below, job_below, jobs_below_words, jobs_same}
 use Rattle.sets.specs.Bits.{has_bit}
@@ -140,7 +140,7 @@ module _ (l : Ledger) (journal : List ℕ) where
   answers = by (is_sane l) sane? (is_whole (version_of l) journal l.booked) whole?
     where
       by : (a : Bool) → Reflects a (Sane l) → (c : Bool) → Reflects c (Whole l journal)
-          → Answers l journal (gated_listing (cond a (cond c Pass (Fail NotBooked)) (Fail BadSettings)) (listing found))
+          → Answers l journal (gated_listing (cond a (cond c (Ok (tt {0})) (Err NotBooked)) (Err BadSettings)) (listing found))
       by false p c q = insane (refuted p refl)
       by true p false q = short (p.sound refl) (refuted q refl)
       by true p true q =

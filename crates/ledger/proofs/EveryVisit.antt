@@ -12,7 +12,7 @@ use lib.Dec.{ltb}
 use borrow.Author.Tests.{ltb-false, ltb-true}
 use Rattle.base.proofs.Reflect.{by_cases, by_test}
 use Rattle.federation.specs.declared.Settings.{Settings}
-use Rattle.outcome.specs.declared.Outcome.TheVariants.{Done}
+use Rattle.std.specs.Prelude.{Ok}
 use Rattle.job_sets.proofs.Jobs.{has_no_jobs}
 use Rattle.job_sets.specs.Jobs.{job_count, job_has}
 use Rattle.job_sets.specs.declared.job_set.JobSet.{JobSet}
@@ -35,7 +35,7 @@ use Rattle.ledger.specs.Worlds.{Event, World, after, after_all, reply_to, snapsh
 use Rattle.ledger.specs.declared.Ledger.{Ledger}
 
 -- a sane ledger answers a visit with the number of jobs seen
-pub answered : (w : World) → Shape w.ledger w.booked → (e : Event) → e.request ≡ snapshot → (reply_to w e).outcome ≡ Done (job_count (seen_next w.ledger))
+pub answered : (w : World) → Shape w.ledger w.booked → (e : Event) → e.request ≡ snapshot → (reply_to w e).outcome ≡ Ok (job_count (seen_next w.ledger))
 unfolding snapshot_decision snapshotting sane_gate
 answered w sh e q = simp (q, (reflect_sane w.ledger).complete (shape_sane sh))
 

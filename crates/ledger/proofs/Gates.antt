@@ -10,10 +10,9 @@ use lib.ListN.{length}
 use borrow.Author.Tests.{lt-ltb, ltb-true}
 use Rattle.base.proofs.Reflect.{reflect_and, reflect_as, reflect_le, reflect_lt}
 use Rattle.base.specs.Reflect.{Reflects}
-use Rattle.outcome.specs.declared.Outcome.TheVariants.{Refused}
+use Rattle.outcome.specs.Figures.{Verdict}
+use Rattle.std.specs.Prelude.{Ok, Err}
 use Rattle.outcome.specs.declared.Refusal.{Refusal}
-use Rattle.outcome.specs.declared.Verdict.{Verdict}
-use Rattle.outcome.specs.declared.Verdict.TheVariants.{Fail, Pass}
 use Rattle.sets.specs.Bits.{has_bit}
 use Rattle.federation.proofs.Lawful.{reflect_lawful}
 use Rattle.codec.specs.Codec.{place_of}
@@ -46,37 +45,37 @@ reflect_beq false true = record { sound = λ e. absurd (true≢false (sym e)); c
 reflect_beq false false = record { sound = λ e. refl; complete = λ e. refl }
 
 -- a row of checks that passes passed its first
-pub passed_test : (b : Bool) (v : Verdict) (why : Refusal) → cond b v (Fail why) ≡ Pass → b ≡ true
+pub passed_test : (b : Bool) (v : Verdict) (why : Refusal) → cond b v (Err why) ≡ Ok (tt {0}) → b ≡ true
 passed_test true v why e = refl
 passed_test false v why e = cc
 
-pub passed_rest : (b : Bool) (v : Verdict) (why : Refusal) → cond b v (Fail why) ≡ Pass → v ≡ Pass
+pub passed_rest : (b : Bool) (v : Verdict) (why : Refusal) → cond b v (Err why) ≡ Ok (tt {0}) → v ≡ Ok (tt {0})
 passed_rest true v why e = e
 passed_rest false v why e = cc
 
 -- a step that is answered 0 passed its gate
-pub done_gate : (g : Verdict) (d : Decision) → is_done (gated g d).outcome ≡ true → g ≡ Pass
-done_gate Pass d e = refl
-done_gate (Fail why) d e = absurd (true≢false (sym e))
+pub done_gate : (g : Verdict) (d : Decision) → is_done (gated g d).outcome ≡ true → g ≡ Ok (tt {0})
+done_gate (Ok (tt {0})) d e = refl
+done_gate (Err why) d e = absurd (true≢false (sym e))
 
-pub booked_entered : (l : Ledger) (journal : List ℕ) (job : ℕ) → booked_gate l journal job ≡ Pass → Sane l × Booked (version_of l) journal l.booked job
+pub booked_entered : (l : Ledger) (journal : List ℕ) (job : ℕ) → booked_gate l journal job ≡ Ok (tt {0}) → Sane l × Booked (version_of l) journal l.booked job
 unfolding booked_gate
 booked_entered l journal job e =
     let sane = passed_test (is_sane l) _ _ e in
     let rest = passed_rest (is_sane l) _ _ e in
     ((reflect_sane l).sound sane, (reflect_booked (version_of l) journal l.booked job).sound (passed_test _ _ _ rest))
 
-pub whole_entered : (l : Ledger) (journal : List ℕ) → whole_gate l journal ≡ Pass → Sane l × (place_of (version_of l) l.booked ≤ length journal)
+pub whole_entered : (l : Ledger) (journal : List ℕ) → whole_gate l journal ≡ Ok (tt {0}) → Sane l × (place_of (version_of l) l.booked ≤ length journal)
 unfolding whole_gate
 whole_entered l journal e =
     let rest = passed_rest (is_sane l) _ _ e in
     ((reflect_sane l).sound (passed_test (is_sane l) _ _ e), (reflect_whole (version_of l) journal l.booked).sound (passed_test _ _ _ rest))
 
-pub whole_passes : (l : Ledger) (journal : List ℕ) → Sane l → place_of (version_of l) l.booked ≤ length journal → whole_gate l journal ≡ Pass
+pub whole_passes : (l : Ledger) (journal : List ℕ) → Sane l → place_of (version_of l) l.booked ≤ length journal → whole_gate l journal ≡ Ok (tt {0})
 unfolding whole_gate
 whole_passes l journal s h = simp ((reflect_sane l).complete s, (reflect_whole (version_of l) journal l.booked).complete h)
 
-pub entered : (l : Ledger) (journal : List ℕ) (v job : ℕ) (faulty : Bool) → vault_gate l journal v job faulty ≡ Pass
+pub entered : (l : Ledger) (journal : List ℕ) (v job : ℕ) (faulty : Bool) → vault_gate l journal v job faulty ≡ Ok (tt {0})
     → Entered l journal v job faulty
 unfolding vault_gate gate_of
 entered l journal v job faulty e =
@@ -91,7 +90,7 @@ entered l journal v job faulty e =
     }
 
 pub enters : (l : Ledger) (journal : List ℕ) (v job : ℕ) (faulty : Bool) → Entered l journal v job faulty
-    → vault_gate l journal v job faulty ≡ Pass
+    → vault_gate l journal v job faulty ≡ Ok (tt {0})
 unfolding vault_gate gate_of
 enters l journal v job faulty h =
     simp (
@@ -112,51 +111,51 @@ module _ (l : Ledger) (journal : List ℕ) (v job : ℕ) (faulty : Bool) where
     arrivals = h.sane.arrivals;
   }
 
-  pub placed : (r : Verdict) → r ≡ vault_gate l journal v job faulty → r ≡ Pass → Placed l v job
+  pub placed : (r : Verdict) → r ≡ vault_gate l journal v job faulty → r ≡ Ok (tt {0}) → Placed l v job
   placed r p q = in_place (entered l journal v job faulty (sym p ∙ q))
 
-  pub placed_vault : (r : Verdict) → r ≡ vault_gate l journal v job faulty → r ≡ Pass → v < 16
+  pub placed_vault : (r : Verdict) → r ≡ vault_gate l journal v job faulty → r ≡ Ok (tt {0}) → v < 16
   placed_vault r p q = (placed r p q).vault
 
-  pub placed_known : (r : Verdict) → r ≡ vault_gate l journal v job faulty → r ≡ Pass → Booked (version_of l) journal l.booked job
+  pub placed_known : (r : Verdict) → r ≡ vault_gate l journal v job faulty → r ≡ Ok (tt {0}) → Booked (version_of l) journal l.booked job
   placed_known r p q = (entered l journal v job faulty (sym p ∙ q)).known
 
-  pub placed_few : (r : Verdict) → r ≡ vault_gate l journal v job faulty → r ≡ Pass → l.booked ≤ capacity
+  pub placed_few : (r : Verdict) → r ≡ vault_gate l journal v job faulty → r ≡ Ok (tt {0}) → l.booked ≤ capacity
   placed_few r p q = (placed r p q).booked
 
-  pub placed_job : (r : Verdict) → r ≡ vault_gate l journal v job faulty → r ≡ Pass → job < 128
+  pub placed_job : (r : Verdict) → r ≡ vault_gate l journal v job faulty → r ≡ Ok (tt {0}) → job < 128
   placed_job r p q = (placed r p q).job
 
-  pub placed_vaults : (r : Verdict) → r ≡ vault_gate l journal v job faulty → r ≡ Pass → l.settings.n ≤ 16
+  pub placed_vaults : (r : Verdict) → r ≡ vault_gate l journal v job faulty → r ≡ Ok (tt {0}) → l.settings.n ≤ 16
   placed_vaults r p q = (entered l journal v job faulty (sym p ∙ q)).sane.lawful.vaults
 
 module _ (l : Ledger) (journal : List ℕ) (job : ℕ) where
-  pub known_job : (r : Verdict) → r ≡ booked_gate l journal job → r ≡ Pass → job < 128
+  pub known_job : (r : Verdict) → r ≡ booked_gate l journal job → r ≡ Ok (tt {0}) → job < 128
   known_job r p q = let h = booked_entered l journal job (sym p ∙ q) in omega (arith, h.1.below, h.0.booked)
 
-  pub known_booked : (r : Verdict) → r ≡ booked_gate l journal job → r ≡ Pass → Booked (version_of l) journal l.booked job
+  pub known_booked : (r : Verdict) → r ≡ booked_gate l journal job → r ≡ Ok (tt {0}) → Booked (version_of l) journal l.booked job
   known_booked r p q = (booked_entered l journal job (sym p ∙ q)).1
 
-  pub known_sane : (r : Verdict) → r ≡ booked_gate l journal job → r ≡ Pass → Sane l
+  pub known_sane : (r : Verdict) → r ≡ booked_gate l journal job → r ≡ Ok (tt {0}) → Sane l
   known_sane r p q = (booked_entered l journal job (sym p ∙ q)).0
 
-  pub known_few : (r : Verdict) → r ≡ booked_gate l journal job → r ≡ Pass → l.booked ≤ capacity
+  pub known_few : (r : Verdict) → r ≡ booked_gate l journal job → r ≡ Ok (tt {0}) → l.booked ≤ capacity
   known_few r p q = (known_sane r p q).booked
 
-  pub known_arrivals : (r : Verdict) → r ≡ booked_gate l journal job → r ≡ Pass → l.arrivals ≤ capacity
+  pub known_arrivals : (r : Verdict) → r ≡ booked_gate l journal job → r ≡ Ok (tt {0}) → l.arrivals ≤ capacity
   known_arrivals r p q = (known_sane r p q).arrivals
 
-  pub known_vaults : (r : Verdict) → r ≡ booked_gate l journal job → r ≡ Pass → l.settings.n ≤ 16
+  pub known_vaults : (r : Verdict) → r ≡ booked_gate l journal job → r ≡ Ok (tt {0}) → l.settings.n ≤ 16
   known_vaults r p q = (known_sane r p q).lawful.vaults
 
 module _ (l : Ledger) (journal : List ℕ) where
-  pub whole_few : (r : Verdict) → r ≡ whole_gate l journal → r ≡ Pass → l.booked ≤ capacity
+  pub whole_few : (r : Verdict) → r ≡ whole_gate l journal → r ≡ Ok (tt {0}) → l.booked ≤ capacity
   whole_few r p q = (whole_entered l journal (sym p ∙ q)).0.booked
 
-  pub whole_vaults : (r : Verdict) → r ≡ whole_gate l journal → r ≡ Pass → l.settings.n ≤ 16
+  pub whole_vaults : (r : Verdict) → r ≡ whole_gate l journal → r ≡ Ok (tt {0}) → l.settings.n ≤ 16
   whole_vaults r p q = (whole_entered l journal (sym p ∙ q)).0.lawful.vaults
 
-  pub whole_inside : (r : Verdict) → r ≡ whole_gate l journal → r ≡ Pass → place_of (version_of l) l.booked ≤ length journal
+  pub whole_inside : (r : Verdict) → r ≡ whole_gate l journal → r ≡ Ok (tt {0}) → place_of (version_of l) l.booked ≤ length journal
   whole_inside r p q = (whole_entered l journal (sym p ∙ q)).1
 
 module _ (l : Ledger) where
@@ -191,32 +190,32 @@ pub ruleset entering = (
 
 -- ---- the two ways of a step: its gate passes and what was decided is carried, or its gate fails
 module _ (l : Ledger) (v job : ℕ) where
-  pub opened : (g r : Verdict) (d e : Decision) (z : Reply) → r ≡ g → r ≡ Pass → e ≡ gated r d → z ≡ carried l e v job → z ≡ carried l (gated g d) v job
+  pub opened : (g r : Verdict) (d e : Decision) (z : Reply) → r ≡ g → r ≡ Ok (tt {0}) → e ≡ gated r d → z ≡ carried l e v job → z ≡ carried l (gated g d) v job
   opened g r d e z p q u w = simp (← p, ← u) w
 
-  pub shut : (g r : Verdict) (d : Decision) (why : Refusal) (z : Reply) → r ≡ g → r ≡ Fail why → z ≡ turned l why → z ≡ carried l (gated g d) v job
+  pub shut : (g r : Verdict) (d : Decision) (why : Refusal) (z : Reply) → r ≡ g → r ≡ Err why → z ≡ turned l why → z ≡ carried l (gated g d) v job
   unfolding applied
   shut g r d why z p q w = simp (sym p ∙ q) w
 
   -- what was decided behind the open gate
-  pub passed : (g r : Verdict) (d e : Decision) (z : Reply) → r ≡ g → r ≡ Pass → e ≡ d → z ≡ carried l e v job → z ≡ carried l (gated g d) v job
+  pub passed : (g r : Verdict) (d e : Decision) (z : Reply) → r ≡ g → r ≡ Ok (tt {0}) → e ≡ d → z ≡ carried l e v job → z ≡ carried l (gated g d) v job
   passed g r d e z p q u w = simp (sym p ∙ q, ← u) w
 
 -- the same of a step that only reads
-pub read_opened : (g r : Verdict) (d e : Decision) → r ≡ g → r ≡ Pass → e ≡ gated r d → e.outcome ≡ (gated g d).outcome
+pub read_opened : (g r : Verdict) (d e : Decision) → r ≡ g → r ≡ Ok (tt {0}) → e ≡ gated r d → e.outcome ≡ (gated g d).outcome
 read_opened g r d e p q u = simp (← p, ← u)
 
-pub read_shut : (g r : Verdict) (d : Decision) (why : Refusal) → r ≡ g → r ≡ Fail why → Refused why ≡ (gated g d).outcome
+pub read_shut : (g r : Verdict) (d : Decision) (why : Refusal) → r ≡ g → r ≡ Err why → Err why ≡ (gated g d).outcome
 read_shut g r d why p q = simp (sym p ∙ q)
 
-pub read_passed : (g r : Verdict) (d e : Decision) → r ≡ g → r ≡ Pass → e ≡ d → e.outcome ≡ (gated g d).outcome
+pub read_passed : (g r : Verdict) (d e : Decision) → r ≡ g → r ≡ Ok (tt {0}) → e ≡ d → e.outcome ≡ (gated g d).outcome
 read_passed g r d e p q u = simp (sym p ∙ q, ← u)
 
 -- and of one that lists
-pub list_passed : (g r : Verdict) (d e : Listing) → r ≡ g → r ≡ Pass → e ≡ d → e ≡ gated_listing g d
+pub list_passed : (g r : Verdict) (d e : Listing) → r ≡ g → r ≡ Ok (tt {0}) → e ≡ d → e ≡ gated_listing g d
 list_passed g r d e p q u = simp (sym p ∙ q) u
 
-pub list_shut : (g r : Verdict) (d : Listing) (why : Refusal) (e : Listing) → r ≡ g → r ≡ Fail why → e ≡ unlisted why → e ≡ gated_listing g d
+pub list_shut : (g r : Verdict) (d : Listing) (why : Refusal) (e : Listing) → r ≡ g → r ≡ Err why → e ≡ unlisted why → e ≡ gated_listing g d
 list_shut g r d why e p q u = simp (sym p ∙ q) u
 
 pub ruleset ways = (opened, passed, shut, read_opened, read_passed, read_shut, list_passed, list_shut, entering)

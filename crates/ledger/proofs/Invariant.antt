@@ -18,7 +18,7 @@ use Rattle.base.proofs.Members.{any_in_lem, distinct_snoc, in_get_d, in_last, in
 use Rattle.base.proofs.Reflect.{by_cases, reflect_eq, refuted, refutes}
 use Rattle.base.specs.Lists.{Distinct, In, any_in, same_list}
 use Rattle.base.specs.Reflect.{Reflects}
-use Rattle.outcome.specs.declared.Verdict.TheVariants.{Pass}
+use Rattle.std.specs.Prelude.{Ok}
 use Rattle.checks.specs.Checks.{examined}
 use Rattle.codec.specs.Codec.{job_of, record_size}
 use Rattle.conflicts.specs.Tapes.{input_tapes, output_tapes}
@@ -98,7 +98,7 @@ pub record Inv (w : World) (r : Register) : Type 0 where
   pub safe : Safe w.ledger.settings w.ledger.booked (tabled r.table) (held_at w.ledger) (signed_at w.ledger) (recorded_at w.ledger)
       (acked_at w.ledger) (signers_of w.ledger)
   pub version : r.version ≡ version_of w.ledger
-  pub fit : (x : List ℕ) → In x r.table → examined r.version x ≡ Pass
+  pub fit : (x : List ℕ) → In x r.table → examined r.version x ≡ Ok (tt {0})
   pub books : Books r
   pub running : r.running ≡ true
   pub table : r.table ≡ table_of w
@@ -260,12 +260,12 @@ module _ {w : World} {r : Register} (i : Inv w r) where
       i.safe
 
   -- ---- a record is booked
-  inv_book : (bytes : List ℕ) → examined (version_of l) bytes ≡ Pass → l.booked < 128 → (In bytes (table_of w) → ⊥)
+  inv_book : (bytes : List ℕ) → examined (version_of l) bytes ≡ Ok (tt {0}) → l.booked < 128 → (In bytes (table_of w) → ⊥)
       → Inv (record { ledger = booking l; booked = w.booked ++ bytes }) (entering r bytes)
   unfolding booking entering held_at signed_at voted_at votes_in
   inv_book bytes e h n =
       let size : length bytes ≡ record_size (version_of l) = examined_length (version_of l) bytes e in
-      let passes : examined r.version bytes ≡ Pass = subst (λ (v : ℕ). examined v bytes ≡ Pass) (sym i.version) e in
+      let passes : examined r.version bytes ≡ (Ok (tt {0})) = subst (λ (v : ℕ). examined v bytes ≡ Ok (tt {0})) (sym i.version) e in
       record {
         shape = shape_book i.shape bytes h size;
         safe = safe_book i.safe tally (λ k b. ap job_of (get_or-append r.table (bytes ∷ []) [] k (omega (arith, table_length i))));

@@ -17,7 +17,7 @@ use Rattle.base.proofs.Reflect.{reflect_eq, refuted}
 use Rattle.base.specs.Lists.{In, any_in}
 use Rattle.base.specs.Reflect.{Reflects}
 use Rattle.outcome.specs.Figures.{value_of}
-use Rattle.outcome.specs.declared.Outcome.TheVariants.{Done, Refused}
+use Rattle.std.specs.Prelude.{Ok, Err}
 use Rattle.outcome.specs.declared.Refusal.{Refusal}
 use Rattle.outcome.specs.declared.Refusal.TheVariants.{Full, Settings as BadSettings}
 use Rattle.codec.specs.Codec.{place_of}
@@ -66,7 +66,7 @@ use Rattle.ledger.specs.declared.History.{History}
 use Rattle.ledger.specs.declared.Ledger.{Ledger}
 
 -- the value that an answer carries
-answered : (a value : ℕ) → Done a ≡ Done value → value ≡ a
+answered : (a value : ℕ) → Ok a ≡ Ok value → value ≡ a
 answered a value e = sym (ap value_of e)
 
 module _ {w : World} {r : Register} (i : Inv w r) where
@@ -103,7 +103,7 @@ module _ {w : World} {r : Register} (i : Inv w r) where
     unfolding with_vault votes_in
     sign_count = ap ones (sym (stored (with_vault l v (signing (vault_at l v) k)) Signatures v k (in_votes i k hk)))
 
-    by_preflight : (value : ℕ) → has_signed w v k ≡ false → Done (ones (with_member 16 (votes_in l Signatures k) v)) ≡ Done value
+    by_preflight : (value : ℕ) → has_signed w v k ≡ false → Ok (ones (with_member 16 (votes_in l Signatures k) v)) ≡ Ok value
         → ByPreflight w signing_world v k value
     by_preflight value s e = record {
       signs = sign_joins;
@@ -118,7 +118,7 @@ module _ {w : World} {r : Register} (i : Inv w r) where
   unfolding signed_at voted_at
   signed_recorded v k s = i.safe.backed v k s
 
-  by_preflight_again : (v k value : ℕ) → has_signed w v k ≡ true → Done (votes_on w Signatures k) ≡ Done value → ByPreflight w w v k value
+  by_preflight_again : (v k value : ℕ) → has_signed w v k ≡ true → Ok (votes_on w Signatures k) ≡ Ok value → ByPreflight w w v k value
   by_preflight_again v k value s e = record {
     signs = joins_same (has_signed w) v k s;
     recorded = joins_same (has_voted w Signatures) v k (signed_recorded v k s);
@@ -154,7 +154,7 @@ module _ {w : World} {r : Register} (i : Inv w r) where
   sign_histories v k = refl
 
   by_client : (v k client value : ℕ) → v < l.settings.n → k < l.booked → is_client client ≡ true → has_signed w v k ≡ false
-      → Done (ones (with_member 16 (votes_in l Signatures k) v)) ≡ Done value
+      → Ok (ones (with_member 16 (votes_in l Signatures k) v)) ≡ Ok value
       → ByClientPreflight w (with_ledger w (counted (signed_by l v k) v (history_with client (history_at l v client) true))) v k client value
   unfolding counted votes_in
   by_client v k client value hv hk hc s e =
@@ -173,7 +173,7 @@ module _ {w : World} {r : Register} (i : Inv w r) where
       }
 
   by_client_again : (v k client value : ℕ) → v < l.settings.n → is_client client ≡ true → has_signed w v k ≡ true
-      → Done (votes_on w Signatures k) ≡ Done value
+      → Ok (votes_on w Signatures k) ≡ Ok value
       → ByClientPreflight w (with_ledger w (counted l v (history_with client (history_at l v client) false))) v k client value
   unfolding counted votes_in
   by_client_again v k client value hv hc s e =
@@ -244,7 +244,7 @@ module _ {w : World} {r : Register} (i : Inv w r) where
         ap ones (sym (stored receiving_vault Acknowledgements v k (in_votes i k hk)))
         ∙ ap (λ (xs : List Votes). ones (get_or xs k no_votes).acknowledgements) (sym (arrives acknowledging k).votes)
 
-    by_commit : (signers value : ℕ) → has_held w v k ≡ false → Done (ones (with_member 16 (votes_in l Acknowledgements k) v)) ≡ Done value
+    by_commit : (signers value : ℕ) → has_held w v k ≡ false → Ok (ones (with_member 16 (votes_in l Acknowledgements k) v)) ≡ Ok value
         → Inv holding_world (feed r (commit v k signers) true) → ByCommit w holding_world v k value
     by_commit signers value s e j = record {
       holds = hold_joins;
@@ -256,7 +256,7 @@ module _ {w : World} {r : Register} (i : Inv w r) where
     }
 
   -- a held job has arrived
-  by_commit_again : (v k value : ℕ) → has_voted w Acknowledgements v k ≡ true → has_held w v k ≡ true → Done (votes_on w Acknowledgements k) ≡ Done value
+  by_commit_again : (v k value : ℕ) → has_voted w Acknowledgements v k ≡ true → has_held w v k ≡ true → Ok (votes_on w Acknowledgements k) ≡ Ok value
       → ByCommit w w v k value
   unfolding held_at
   by_commit_again v k value a s e = record {
@@ -269,7 +269,7 @@ module _ {w : World} {r : Register} (i : Inv w r) where
   }
 
   -- ---- a faulty vault votes
-  by_vote : (c : Column) (v k value : ℕ) → v < l.settings.n → k < l.booked → Done (ones (with_member 16 (votes_in l c k) v)) ≡ Done value
+  by_vote : (c : Column) (v k value : ℕ) → v < l.settings.n → k < l.booked → Ok (ones (with_member 16 (votes_in l c k) v)) ≡ Ok value
       → ByFaultyVote w (with_ledger w (voted l c v k)) c v k value
   unfolding voted_at
   by_vote c v k value hv hk e = record {
@@ -279,7 +279,7 @@ module _ {w : World} {r : Register} (i : Inv w r) where
   }
 
   -- ---- a snapshot's visit
-  by_snapshot : (value : ℕ) → Done (job_count (seen_next l)) ≡ Done value → BySnapshot w (with_ledger w (visited l (seen_next l))) value
+  by_snapshot : (value : ℕ) → Ok (job_count (seen_next l)) ≡ Ok value → BySnapshot w (with_ledger w (visited l (seen_next l))) value
   unfolding visited
   by_snapshot value e =
       let shown = (vault_at l l.next).held in
@@ -301,7 +301,7 @@ module _ {w : World} {r : Register} (i : Inv w r) where
       nonzero h e = omega (arith, h, e)
 
   -- ---- a release
-  by_release : (v k value : ℕ) → v < l.settings.n → has_signed w v k ≡ true → Done (votes_on w Signatures k) ≡ Done value
+  by_release : (v k value : ℕ) → v < l.settings.n → has_signed w v k ≡ true → Ok (votes_on w Signatures k) ≡ Ok value
       → ByRelease w (with_ledger w (released_by l v k)) v k value
   unfolding with_vault unsigning signed_at votes_in
   by_release v k value hv s e =
@@ -324,7 +324,7 @@ module _ {w : World} {r : Register} (i : Inv w r) where
     abbrev ledger_left : Request → Decision → Ledger
     ledger_left q d = applied l d.change (vault_in q) (job_in q)
 
-    leave : (q : Request) (d : Decision) → Act l journal q d → (value : ℕ) → d.outcome ≡ Done value → Inv (with_ledger w (ledger_left q d)) (feed r q true)
+    leave : (q : Request) (d : Decision) → Act l journal q d → (value : ℕ) → d.outcome ≡ Ok value → Inv (with_ledger w (ledger_left q d)) (feed r q true)
         → Leaves w (with_ledger w (ledger_left q d)) q value
     unfolding applied snapshotting held_here
     leave q d (signs_again v k h s) value e j = by_preflight_again v k value s e
@@ -380,7 +380,7 @@ module _ {w : World} {r : Register} (i : Inv w r) where
         ∙ kept_bytes size w.booked beyond)
 
     abbrev Left : Request → Decision → Type 0
-    Left q d = (value : ℕ) → d.outcome ≡ Done value → Inv (world_left (ledger_left acknowledged journal read q d) journal) (feed r q true)
+    Left q d = (value : ℕ) → d.outcome ≡ Ok value → Inv (world_left (ledger_left acknowledged journal read q d) journal) (feed r q true)
         → Leaves w (world_left (ledger_left acknowledged journal read q d) journal) q value
 
     acted : (q : Request) (d : Decision) → Act l journal q d → Left q d
@@ -393,10 +393,10 @@ module _ {w : World} {r : Register} (i : Inv w r) where
     unfolding inside_of
     numbered bytes k h = (omega (arith, h.first.below), sym (slot_tabled w i.shape size beyond k h.first.below) ∙ h.first.has)
 
-    refused : {A : Type 0} (why : Refusal) (value : ℕ) → Refused why ≡ Done value → A
+    refused : {A : Type 0} (why : Refusal) (value : ℕ) → Err why ≡ Ok value → A
     refused why value e = absurd (true≢false (sym (ap is_done e)))
 
-    proposed_left : (bytes : List ℕ) (d : Decision) → Proposed l journal bytes d → (value : ℕ) → d.outcome ≡ Done value
+    proposed_left : (bytes : List ℕ) (d : Decision) → Proposed l journal bytes d → (value : ℕ) → d.outcome ≡ Ok value
         → Leaves w (world_left (applied l d.change 0 0) (journal_with d.change l.booked (version_of l) journal bytes)) (propose bytes) value
     unfolding applied booking
     proposed_left bytes d (insane n) value e = refused BadSettings value e
@@ -416,7 +416,7 @@ module _ {w : World} {r : Register} (i : Inv w r) where
           value = answered _ value e;
         })
 
-    leaves_by : (q : Request) (value : ℕ) → (step_of l journal q).outcome ≡ Done value
+    leaves_by : (q : Request) (value : ℕ) → (step_of l journal q).outcome ≡ Ok value
         → Inv (world_left (step_of l journal q).ledger (left_by l journal q)) (feed r q true)
         → Leaves w (world_left (step_of l journal q).ledger (left_by l journal q)) q value
     unfolding journal_after
@@ -433,7 +433,7 @@ module _ {w : World} {r : Register} (i : Inv w r) where
         acted (client_preflight v k client) _ (act_client l journal v k client (ap is_done e)) value e j
     leaves_by equivocating value e j = acted equivocating _ (act_equivocating l journal (ap is_done e)) value e j
 
-  pub leaves : ((v k : ℕ) → has_held w v k ≡ true → has_voted w Acknowledgements v k ≡ true) → (e : Event) (value : ℕ) → (reply_to w e).outcome ≡ Done value
+  pub leaves : ((v k : ℕ) → has_held w v k ≡ true → has_voted w Acknowledgements v k ≡ true) → (e : Event) (value : ℕ) → (reply_to w e).outcome ≡ Ok value
       → Leaves w (after w e) e.request value
   unfolding after
   leaves acknowledged e value h =

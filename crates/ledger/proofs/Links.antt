@@ -6,10 +6,9 @@ use Prim.Native.Nat.{ℕ}
 use lib.ListN.{get_or}
 use Rattle.base.proofs.Reflect.{by_cases}
 use Rattle.federation.specs.Federation.{is_lawful}
-use Rattle.outcome.specs.declared.Outcome.{Outcome}
+use Rattle.outcome.specs.Figures.{Outcome, Verdict}
+use Rattle.std.specs.Prelude.{Ok, Err}
 use Rattle.outcome.specs.declared.Refusal.TheVariants.{NotHeld}
-use Rattle.outcome.specs.declared.Verdict.{Verdict}
-use Rattle.outcome.specs.declared.Verdict.TheVariants.{Fail, Pass}
 use Rattle.journal.specs.Journal.{record_at}
 use Rattle.ledger.proofs.Changes.{shape_sane}
 use Rattle.ledger.proofs.Demand3.{along, first}
@@ -43,15 +42,15 @@ use Rattle.ledger.specs.declared.Ledger.{Ledger}
 
 answered : (l : Ledger) (g : Verdict) (value v k : ℕ) → carried l (gated g (answering value)) v k ≡ reading l (gated g (answering value)).outcome
 unfolding applied
-answered l Pass value v k = refl
-answered l (Fail why) value v k = refl
+answered l (Ok (tt {0})) value v k = refl
+answered l (Err why) value v k = refl
 
 aged : (l : Ledger) (g : Verdict) (held : Bool) (age v k : ℕ) → carried l (gated g (ageing held age)) v k ≡ reading l (gated g (ageing held age)).outcome
 unfolding applied ageing
-aged l Pass held age v k =
+aged l (Ok (tt {0})) held age v k =
     by_cases (λ b. carried l (cond b (answering age) (refusing NotHeld)) v k ≡ reading l (cond b (answering age) (refusing NotHeld)).outcome) held (λ e. refl)
     (λ e. refl)
-aged l (Fail why) held age v k = refl
+aged l (Err why) held age v k = refl
 
 linked : (l : Ledger) (journal : List ℕ) → Linked l journal
 unfolding propose_of journal_after preflight_of commit_of faulty_vote_of snapshot_of release_of client_preflight_of show_decision generations_decision dependencies_decision

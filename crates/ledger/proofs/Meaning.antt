@@ -12,8 +12,8 @@ use Rattle.base.proofs.Search.{first_complete, first_end_complete, first_end_sou
 use Rattle.base.specs.Reflect.{Reflects}
 use Rattle.base.specs.Search.{first_below}
 use Rattle.outcome.specs.declared.Refusal.TheVariants.{InputReserved, NotBooked, NotCreated, NotSignedHere, NotSuperseded, OutputReserved, Retired}
-use Rattle.outcome.specs.declared.Verdict.{Verdict}
-use Rattle.outcome.specs.declared.Verdict.TheVariants.{Fail, Pass}
+use Rattle.outcome.specs.Figures.{Verdict}
+use Rattle.std.specs.Prelude.{Ok, Err}
 use Rattle.record.proofs.Meaning.{reflect_used}
 use Rattle.conflicts.proofs.Meaning.{reflect_conflicting}
 use Rattle.conflicts.proofs.Tapes.{label_listed, listed_label, made_tape, tape_made}
@@ -84,8 +84,8 @@ module _ (job : ℕ → Job) (booked : ℕ) where
 
     answer : Bool → Bool → Bool → Bool → Verdict
     answer a b c d =
-        cond a (Fail (NotCreated first11))
-        (cond b (Fail (Retired first12)) (cond c (Fail (InputReserved first13)) (cond d (Fail (OutputReserved first14)) Pass)))
+        cond a (Err (NotCreated first11))
+        (cond b (Err (Retired first12)) (cond c (Err (InputReserved first13)) (cond d (Err (OutputReserved first14)) (Ok (tt {0})))))
 
     answered : (a b c d : Bool) → ltb first11 8 ≡ a → ltb first12 8 ≡ b → ltb first13 8 ≡ c → ltb first14 8 ≡ d
         → Admission job booked held others j (answer a b c d)
@@ -150,7 +150,7 @@ module _ (state : Vault) (version : ℕ) (journal : List ℕ) (booked job rival 
     where
       by : (a : Bool) → is_booked version journal booked rival ≡ a → (b : Bool) → job_has state.signed job ≡ b → (c : Bool)
           → superseded_at state version journal booked job rival ≡ c
-          → Supersession state version journal booked job rival (cond a (cond b (cond c Pass (Fail NotSuperseded)) (Fail NotSignedHere)) (Fail NotBooked))
+          → Supersession state version journal booked job rival (cond a (cond b (cond c (Ok (tt {0})) (Err NotSuperseded)) (Err NotSignedHere)) (Err NotBooked))
       by false ea b eb c ec = unbooked (refuted booked? ea)
       by true ea false eb c ec = unsigned (booked?.sound ea) eb
       by true ea true eb false ec = standing (booked?.sound ea) eb (refuted reflect_superseded ec)

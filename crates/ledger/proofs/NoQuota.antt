@@ -5,10 +5,9 @@ use mathlib.Core.Path.{◌≡◌, refl}
 use Prim.Native.Nat.{ℕ}
 use lib.Count.{ones}
 use lib.Dec.{ltb}
-use Rattle.outcome.specs.declared.Outcome.TheVariants.{Done}
+use Rattle.outcome.specs.Figures.{Verdict}
+use Rattle.std.specs.Prelude.{Ok, Err}
 use Rattle.outcome.specs.declared.Refusal.TheVariants.{Full, NotHeld}
-use Rattle.outcome.specs.declared.Verdict.{Verdict}
-use Rattle.outcome.specs.declared.Verdict.TheVariants.{Fail, Pass}
 use Rattle.checks.specs.Checks.{examined}
 use Rattle.generations.specs.Generations.{age_in}
 use Rattle.journal.specs.Journal.{equal_in, job_at}
@@ -110,8 +109,8 @@ leaves l v k (Grant grant) p = absurd p
 
 -- ---- what is decided
 behind : (g : Verdict) (d : Decision) → Plain d.change → Plain (gated g d).change
-behind Pass d p = p
-behind (Fail why) d p = tt
+behind (Ok (tt {0})) d p = p
+behind (Err why) d p = tt
 
 either : (b : Bool) (d e : Decision) → Plain d.change → Plain e.change → Plain (cond b d e).change
 either true d e p q = p
@@ -120,7 +119,7 @@ either false d e p q = q
 placed : (equal inside booked : ℕ) (room : Bool) → Plain (placing equal inside booked room).change
 unfolding placing
 placed equal inside booked room =
-    either (ltb equal inside) (answering equal) _ tt (either room (record { outcome = Done booked; change = Book }) (refusing Full) tt tt)
+    either (ltb equal inside) (answering equal) _ tt (either room (record { outcome = Ok booked; change = Book }) (refusing Full) tt tt)
 
 consents : (c : Consent) (state : Vault) (signers v : ℕ) → Plain (consenting c state signers v).change
 consents Already state signers v = tt

@@ -11,7 +11,7 @@ use Rattle.base.proofs.Members.{in_get_d}
 use Rattle.base.proofs.Reflect.{reflect_as}
 use Rattle.base.specs.Reflect.{Reflects}
 use Rattle.checks.specs.Checks.{check_of}
-use Rattle.outcome.specs.declared.Verdict.TheVariants.{Pass}
+use Rattle.std.specs.Prelude.{Ok}
 use Rattle.record.specs.declared.Job.{Job}
 use Rattle.job_sets.specs.Jobs.{job_has, job_without}
 use Rattle.journal.specs.Journal.{job_at}
@@ -31,7 +31,7 @@ use Rattle.ledger.specs.declared.Decision.{Decision}
 use Rattle.ledger.specs.declared.Ledger.{Ledger}
 
 -- a booked record passed checks 6 to 9
-pub booked_valid : {w : World} {r : Register} → Inv w r → (k : ℕ) → k < w.ledger.booked → check_of (booked_job w k) ≡ Pass
+pub booked_valid : {w : World} {r : Register} → Inv w r → (k : ℕ) → k < w.ledger.booked → check_of (booked_job w k) ≡ Ok (tt {0})
 booked_valid {w} {r} i k h =
     ap (λ (t : List (List ℕ)). check_of (tabled t k)) (sym i.table)
     ∙ examined_checked r.version (get_or r.table k []) (i.fit _ (in_get_d r.table [] k (omega (arith, h, table_length i))))
@@ -54,7 +54,7 @@ module _ {w : World} {r : Register} (i : Inv w r) (size : ℕ) (beyond : List �
   jobs : job_at (version_of l) journal l.booked ≡ booked_job w
   jobs = jobs_read (version_of l) l.booked size w.booked beyond i.shape.records p.whole
 
-  checked : check_of (job_at (version_of l) journal l.booked k) ≡ Pass
+  checked : check_of (job_at (version_of l) journal l.booked k) ≡ Ok (tt {0})
   checked = ap (λ (job : ℕ → Job). check_of (job k)) jobs ∙ booked_valid i k p.booked
 
   -- Algorithm 1 over the jobs of a book

@@ -9,8 +9,8 @@ use lib.ListN.{set}
 use Rattle.base.proofs.Members.{distinct_apart, distinct_left, distinct_right, in_map, map_append, map_in}
 use Rattle.base.proofs.Reflect.{decided}
 use Rattle.base.specs.Lists.{Distinct, In}
-use Rattle.outcome.specs.declared.Verdict.{Verdict}
-use Rattle.outcome.specs.declared.Verdict.TheVariants.{Pass}
+use Rattle.outcome.specs.Figures.{Verdict}
+use Rattle.std.specs.Prelude.{Ok}
 use Rattle.record.proofs.Meaning.{reflect_used}
 use Rattle.conflicts.proofs.Tapes.{at_used, checked_well_formed, used_at_lem}
 use Rattle.checks.specs.Checks.{check_of}
@@ -68,18 +68,18 @@ module _ (job : ℕ → Job) (booked : ℕ) (held others : JobSet) (j : Job) whe
     unblocked : Unblocked job booked held others j
     unblocked = record { created = created; unconsumed = unconsumed held n12; unmarked = unconsumed others n13; unmade = unmade }
 
-  admitted_unblocked : (v : Verdict) → v ≡ Pass → Admission job booked held others j v → Unblocked job booked held others j
+  admitted_unblocked : (v : Verdict) → v ≡ Ok (tt {0}) → Admission job booked held others j v → Unblocked job booked held others j
   admitted_unblocked v e (admitted a b c d) = unblocked a b c d
   admitted_unblocked v e (missing i m) = let z : ◌≡◌ {A = ℕ} 0 1 = cc in absurd (omega arith)
   admitted_unblocked v e (consumed i a m) = let z : ◌≡◌ {A = ℕ} 0 1 = cc in absurd (omega arith)
   admitted_unblocked v e (reserved i a b m) = let z : ◌≡◌ {A = ℕ} 0 1 = cc in absurd (omega arith)
   admitted_unblocked v e (remade i a b c m) = let z : ◌≡◌ {A = ℕ} 0 1 = cc in absurd (omega arith)
 
-  pub admission_unblocked : admission job booked held others j ≡ Pass → Unblocked job booked held others j
+  pub admission_unblocked : admission job booked held others j ≡ Ok (tt {0}) → Unblocked job booked held others j
   admission_unblocked e = admitted_unblocked (admission job booked held others j) e (admission_answers job booked held others j)
 
   -- checks 11 to 14 pass exactly where Algorithm 1 signs
-  pub admission_signs : check_of j ≡ Pass → admission job booked held others j ≡ Pass → Algorithm1 job booked held others j
+  pub admission_signs : check_of j ≡ Ok (tt {0}) → admission job booked held others j ≡ Ok (tt {0}) → Algorithm1 job booked held others j
   admission_signs h e =
       let s = checked_well_formed j h in
       let u = admission_unblocked e in
@@ -106,16 +106,16 @@ module _ (job : ℕ → Job) (booked : ℕ) (held others : JobSet) (j : Job) whe
   unfolding label_of
   output_in i h l u = in_map (λ (t : Entry). t.label) (output_tapes j) _ (at_used j 4 4 i l (omega arith) ((reflect_used j i).complete u))
 
-  pub unblocked_admission : Unblocked job booked held others j → admission job booked held others j ≡ Pass
+  pub unblocked_admission : Unblocked job booked held others j → admission job booked held others j ≡ Ok (tt {0})
   unblocked_admission u =
-      answers_admission job booked held others j Pass
+      answers_admission job booked held others j (Ok (tt {0}))
       (admitted
       (λ i h n. n.1.1 (u.created _ (input_in i n.0 n.1.0)))
       (λ i h n. u.unconsumed (label_of j i) (in_map (λ (t : Entry). t.label) (input_tapes j) _ (input_in i n.0 n.1.0)) n.1.1)
       (λ i h n. u.unmarked (label_of j i) (in_map (λ (t : Entry). t.label) (input_tapes j) _ (input_in i n.0 n.1.0)) n.1.1)
       (λ i h n. u.unmade (label_of j i) (output_in i h n.0 n.1.0) n.1.1))
 
-  pub signs_admission : Algorithm1 job booked held others j → admission job booked held others j ≡ Pass
+  pub signs_admission : Algorithm1 job booked held others j → admission job booked held others j ≡ Ok (tt {0})
   signs_admission a = unblocked_admission (record {
     created = λ t m. (a.admissible.frontier t m).created;
     unconsumed = λ x m c.

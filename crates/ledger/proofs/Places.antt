@@ -14,8 +14,8 @@ use Rattle.base.proofs.Search.{first_complete, first_end_complete, first_end_sou
 use Rattle.base.specs.Reflect.{Reflects}
 use Rattle.base.specs.Search.{Least}
 use Rattle.outcome.specs.declared.Refusal.TheVariants.{Settings as BadSettings}
-use Rattle.outcome.specs.declared.Verdict.{Verdict}
-use Rattle.outcome.specs.declared.Verdict.TheVariants.{Fail, Pass}
+use Rattle.outcome.specs.Figures.{Verdict}
+use Rattle.std.specs.Prelude.{Ok, Err}
 use Rattle.checks.specs.Checks.{examined}
 use Rattle.codec.proofs.Sizes.{room_whole, whole_room, whole_short}
 use Rattle.codec.specs.Codec.{place_of, record_size}
@@ -28,7 +28,7 @@ use Rattle.ledger.specs.Steps.{propose_decision, sane_gate}
 use Rattle.ledger.specs.declared.Decision.{Decision}
 use Rattle.ledger.specs.declared.Ledger.{Ledger}
 
-pub examined_length : (version : ℕ) (bytes : List ℕ) → examined version bytes ≡ Pass → length bytes ≡ record_size version
+pub examined_length : (version : ℕ) (bytes : List ℕ) → examined version bytes ≡ Ok (tt {0}) → length bytes ≡ record_size version
 unfolding examined
 examined_length version bytes e = eqb-true _ _ (passed_test _ _ _ e)
 
@@ -69,7 +69,7 @@ module _ (l : Ledger) (journal bytes : List ℕ) where
       by true p true q h = absurd (true≢false h)
       by true p false q h = inr (whole_short (version_of l) l.booked (length journal) (ltb-false l.booked (slots (version_of l) journal) q))
 
-  placed : Sane l → examined (version_of l) bytes ≡ Pass → Proposed l journal bytes
+  placed : Sane l → examined (version_of l) bytes ≡ Ok (tt {0}) → Proposed l journal bytes
       (placing equal inside l.booked (has_room (version_of l) journal l.booked))
   unfolding placing
   placed s p = by (ltb equal inside) refl (has_room (version_of l) journal l.booked) refl
@@ -86,9 +86,9 @@ module _ (l : Ledger) (journal bytes : List ℕ) where
     where
       by : (a : Bool) → is_sane l ≡ a → (v : Verdict) → examined (version_of l) bytes ≡ v
           → Proposed l journal bytes
-          (gated (cond a Pass (Fail BadSettings)) (gated v (placing equal inside l.booked (has_room (version_of l) journal l.booked))))
-      by true e Pass f = placed ((reflect_sane l).sound e) f
-      by true e (Fail why) f = failed why ((reflect_sane l).sound e) f
+          (gated (cond a (Ok (tt {0})) (Err BadSettings)) (gated v (placing equal inside l.booked (has_room (version_of l) journal l.booked))))
+      by true e (Ok (tt {0})) f = placed ((reflect_sane l).sound e) f
+      by true e (Err why) f = failed why ((reflect_sane l).sound e) f
       by false e v f = insane (refuted (reflect_sane l) e)
 
   -- and no other answer is meant

@@ -12,11 +12,9 @@ use lib.ListN.{get_or, set}
 use lib.Seq.{get_or-set_other, get_or-set_same}
 use borrow.Author.Tests.{eq-eqb, eqb-true, ltb-true, ne_eqb}
 use Rattle.base.proofs.Reflect.{and_true, by_cases, not_true_false}
-use Rattle.outcome.specs.Figures.{number_of}
-use Rattle.outcome.specs.declared.Outcome.{Outcome}
+use Rattle.outcome.specs.Figures.{number_of, Outcome, Verdict}
+use Rattle.std.specs.Prelude.{Ok, Err}
 use Rattle.outcome.specs.declared.Refusal.TheVariants.{NoClient, OverQuota}
-use Rattle.outcome.specs.declared.Verdict.{Verdict}
-use Rattle.outcome.specs.declared.Verdict.TheVariants.{Fail, Pass}
 use Rattle.quota.proofs.Windows.{Ruled, bits, patience, recovers, remembers, spent_is, window}
 use Rattle.quota.specs.Asks.{Ask, spends}
 use Rattle.quota.specs.Quota.{history_place, is_client, is_spent, remembered}
@@ -112,7 +110,7 @@ module _ (l : Ledger) (bs : List ℕ) (sh : Shape l bs) (journal : List ℕ) (v 
 
   enters : Entered l journal v k false → c < 8 → (signed : Bool) → signs l v k ≡ signed → (spent : Bool) → is_spent history ≡ spent
       → (d : Verdict) → Says is_counted true d → Says is_quota false d
-      → let answer : Signing = cond signed (record { consent = Already; vault = vault_at l v }) (consented (cond spent (Fail OverQuota) d) (vault_at l v) k) in
+      → let answer : Signing = cond signed (record { consent = Already; vault = vault_at l v }) (consented (cond spent (Err OverQuota) d) (vault_at l v) k) in
       (a : Ask) × Entry a (carried l (counting answer.consent answer.vault c history (signers_of l k) v) v k)
   unfolding applied counted voted with_vault signed_at
   enters h hc true s spent t d i j = (
@@ -141,7 +139,7 @@ module _ (l : Ledger) (bs : List ℕ) (sh : Shape l bs) (journal : List ℕ) (v 
       decides = rw (s, t) refl;
     },
   )
-  enters h hc false s false t (Fail why) i j = (
+  enters h hc false s false t (Err why) i j = (
     record { fresh = false; over = false },
     record {
       vault = omega (arith, h.vault, sh.lawful.vaults);
@@ -154,7 +152,7 @@ module _ (l : Ledger) (bs : List ℕ) (sh : Shape l bs) (journal : List ℕ) (v 
       decides = rw (s, t) refl;
     },
   )
-  enters h hc false s false t Pass i j = (
+  enters h hc false s false t (Ok (tt {0})) i j = (
     record { fresh = true; over = false },
     record {
       vault = omega (arith, h.vault, sh.lawful.vaults);
@@ -169,10 +167,10 @@ module _ (l : Ledger) (bs : List ℕ) (sh : Shape l bs) (journal : List ℕ) (v 
     },
   )
 
-  turns : (g : Verdict) → Says is_counted false g → (d : Decision) → (g ≡ Pass → Comes (carried l d v k)) → Comes (carried l (gated g d) v k)
+  turns : (g : Verdict) → Says is_counted false g → (d : Decision) → (g ≡ Ok (tt {0}) → Comes (carried l d v k)) → Comes (carried l (gated g d) v k)
   unfolding applied
-  turns Pass s d h = h refl
-  turns (Fail why) s d h = inl (record { uncounted = s; histories = refl })
+  turns (Ok (tt {0})) s d h = h refl
+  turns (Err why) s d h = inl (record { uncounted = s; histories = refl })
 
   known : (b : Bool) (d : Decision) → (b ≡ true → Comes (carried l d v k)) → Comes (carried l (cond b d (refusing NoClient)) v k)
   unfolding applied
@@ -364,18 +362,18 @@ module _ (l : Ledger) (journal : List ℕ) (v k c : ℕ) where
       go (vault_gate l journal v k false) (is_client c) (signs l v k) (is_spent (history_at l v c)) (admission_at (vault_at l v) (version_of l) journal l.booked k)
     where
       go : (g : Verdict) (known signed spent : Bool) (d : Verdict)
-          → let asked : Signing = cond signed (record { consent = Already; vault = vault_at l v }) (consented (cond spent (Fail OverQuota) d) (vault_at l v) k) in
+          → let asked : Signing = cond signed (record { consent = Already; vault = vault_at l v }) (consented (cond spent (Err OverQuota) d) (vault_at l v) k) in
           let usual : Signing = cond signed (record { consent = Already; vault = vault_at l v }) (consented d (vault_at l v) k) in
           is_done (gated g (cond known (counting asked.consent asked.vault c (history_at l v c) (signers_of l k) v) (refusing NoClient))).outcome
           ≡ (known && (is_done (gated g (consenting usual.consent usual.vault (signers_of l k) v)).outcome && (signed || not spent)))
-      go (Fail why) true signed spent d = refl
-      go (Fail why) false signed spent d = refl
-      go Pass false signed spent d = refl
-      go Pass true true spent d = refl
-      go Pass true false true Pass = refl
-      go Pass true false true (Fail why) = refl
-      go Pass true false false Pass = refl
-      go Pass true false false (Fail why) = refl
+      go (Err why) true signed spent d = refl
+      go (Err why) false signed spent d = refl
+      go (Ok (tt {0})) false signed spent d = refl
+      go (Ok (tt {0})) true true spent d = refl
+      go (Ok (tt {0})) true false true (Ok (tt {0})) = refl
+      go (Ok tt) true false true (Err why) = refl
+      go (Ok (tt {0})) true false false (Ok (tt {0})) = refl
+      go (Ok tt) true false false (Err why) = refl
 
   -- a vault that signs is one of the vaults
   is_vault : Sane l → plain ≡ true → v < 16

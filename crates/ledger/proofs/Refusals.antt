@@ -9,9 +9,8 @@ use lib.Dec.{eqb, leb, ltb}
 use lib.ListN.{length}
 use Rattle.base.proofs.Reflect.{by_cases}
 use Rattle.base.specs.Search.{first_below}
-use Rattle.outcome.specs.Figures.{number_of, refusal_number}
-use Rattle.outcome.specs.declared.Outcome.{Outcome}
-use Rattle.outcome.specs.declared.Outcome.TheVariants.{Done, Refused}
+use Rattle.outcome.specs.Figures.{number_of, refusal_number, Outcome, Verdict}
+use Rattle.std.specs.Prelude.{Ok, Err}
 use Rattle.outcome.specs.declared.Refusal.{Refusal}
 use Rattle.outcome.specs.declared.Refusal.TheVariants.{
   Full,
@@ -35,8 +34,6 @@ use Rattle.outcome.specs.declared.Refusal.TheVariants.{
   Unsupported,
   WrongVault,
 }
-use Rattle.outcome.specs.declared.Verdict.{Verdict}
-use Rattle.outcome.specs.declared.Verdict.TheVariants.{Fail, Pass}
 use Rattle.checks.specs.Checks.{balanced, check_of, examined, repeated_at, unsupported_at, well_formed}
 use Rattle.codec.specs.Codec.{job_of, record_size}
 use Rattle.checks.specs.Meaning.{repeated, unsupported}
@@ -111,8 +108,8 @@ use Rattle.vaults.specs.declared.Signing.{Signing}
 use Rattle.vaults.specs.declared.Vault.{Vault}
 
 abbrev verdict_number : Verdict → ℕ
-verdict_number Pass = 0
-verdict_number (Fail why) = refusal_number why
+verdict_number (Ok (tt {0})) = 0
+verdict_number (Err why) = refusal_number why
 
 -- a verdict and an outcome that do not say 1
 record NotOne (v : Verdict) : Type 0 where
@@ -121,16 +118,16 @@ record NotOne (v : Verdict) : Type 0 where
 record Fine (o : Outcome) : Type 0 where
   other : number_of o ≡ 1 → ⊥
 
-pass : NotOne Pass
+pass : NotOne (Ok (tt {0}))
 pass = record { other = λ e. omega (arith, e) }
 
-fails : (why : Refusal) → eqb (refusal_number why) 1 ≡ false → NotOne (Fail why)
+fails : (why : Refusal) → eqb (refusal_number why) 1 ≡ false → NotOne (Err why)
 fails why h = record { other = λ e. true≢false (sym (ap (λ (n : ℕ). eqb n 1) e) ∙ h) }
 
-done : (value : ℕ) → Fine (Done value)
+done : (value : ℕ) → Fine (Ok value)
 done value = record { other = λ e. omega (arith, e) }
 
-refuses : (why : Refusal) → NotOne (Fail why) → Fine (Refused why)
+refuses : (why : Refusal) → NotOne (Err why) → Fine (Err why)
 refuses why n = record { other = n.other }
 
 choose : (b : Bool) (x y : Verdict) → NotOne x → NotOne y → NotOne (cond b x y)
@@ -139,8 +136,8 @@ choose false x y p q = q
 
 -- a decision behind a row of checks
 behind : (g : Verdict) (d : Decision) → NotOne g → Fine d.outcome → Fine (gated g d).outcome
-behind Pass d p q = q
-behind (Fail why) d p q = refuses why p
+behind (Ok (tt {0})) d p q = q
+behind (Err why) d p q = refuses why p
 
 either : (b : Bool) (d e : Decision) → Fine d.outcome → Fine e.outcome → Fine (cond b d e).outcome
 either true d e p q = p
@@ -195,7 +192,7 @@ unfolding within_quota
 within history admission n = choose (is_spent history) _ _ (fails OverQuota refl) n
 
 module _ (l : Ledger) (journal : List ℕ) (sane : is_sane l ≡ true) where
-  booked_or_lem : (k : ℕ) → NotOne (cond (is_booked (version_of l) journal l.booked k) Pass (Fail NotBooked))
+  booked_or_lem : (k : ℕ) → NotOne (cond (is_booked (version_of l) journal l.booked k) (Ok (tt {0})) (Err NotBooked))
   booked_or_lem k = choose (is_booked (version_of l) journal l.booked k) _ _ pass (fails NotBooked refl)
 
   gate : (k : ℕ) → NotOne (booked_gate l journal k)
@@ -231,8 +228,8 @@ module _ (l : Ledger) (journal : List ℕ) (sane : is_sane l ≡ true) where
           → let answer : Signing = cond b (record { consent = Already; vault = state }) (consented d state k) in
           Fine (consenting answer.consent answer.vault signers v).outcome
       by true d n = done _
-      by false Pass n = done _
-      by false (Fail why) n = refuses why n
+      by false (Ok (tt {0})) n = done _
+      by false (Err why) n = refuses why n
 
   consents_counted : (state : Vault) (d : Verdict) (client history signers v k : ℕ) → NotOne d
       → Fine (counted_consent state d client history signers v k).outcome
@@ -243,8 +240,8 @@ module _ (l : Ledger) (journal : List ℕ) (sane : is_sane l ≡ true) where
           → let answer : Signing = cond b (record { consent = Already; vault = state }) (consented d state k) in
           Fine (counting answer.consent answer.vault client history signers v).outcome
       by true d n = done _
-      by false Pass n = done _
-      by false (Fail why) n = refuses why n
+      by false (Ok (tt {0})) n = done _
+      by false (Err why) n = refuses why n
 
   receives : (state : Vault) (acknowledgers v k : ℕ) → Fine (receiving state acknowledgers v k).outcome
   unfolding receiving
@@ -255,12 +252,12 @@ module _ (l : Ledger) (journal : List ℕ) (sane : is_sane l ≡ true) where
   ages b age = either b _ _ (done age) (refuses NotHeld (fails NotHeld refl))
 
   listed : (g : Verdict) (r : Listing) → NotOne g → Fine r.outcome → Fine (gated_listing g r).outcome
-  listed Pass r p q = q
-  listed (Fail why) r p q = refuses why p
+  listed (Ok (tt {0})) r p q = q
+  listed (Err why) r p q = refuses why p
 
   admitted : (d : Verdict) (jobs : JobSet) → Fine (if_admitted d jobs).outcome
-  admitted Pass jobs = done (job_count jobs)
-  admitted (Fail why) jobs = refuses NoSetWorks (fails NoSetWorks refl)
+  admitted (Ok (tt {0})) jobs = done (job_count jobs)
+  admitted (Err why) jobs = refuses NoSetWorks (fails NoSetWorks refl)
 
   requires : (state : Vault) (elsewhere : JobSet) (k : ℕ) → Fine (requiring state elsewhere (version_of l) journal l.booked k).outcome
   unfolding requiring supplying

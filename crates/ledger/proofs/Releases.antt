@@ -13,10 +13,8 @@ use Rattle.conflicts.specs.Conflicts.{conflicting}
 use Rattle.conflicts.specs.Tapes.{input_tapes}
 use Rattle.federation.specs.Federation.{Lawful}
 use Rattle.federation.specs.declared.Settings.{Settings}
-use Rattle.outcome.specs.declared.Outcome.{Outcome}
-use Rattle.outcome.specs.declared.Outcome.TheVariants.{Done, Refused}
-use Rattle.outcome.specs.declared.Verdict.{Verdict}
-use Rattle.outcome.specs.declared.Verdict.TheVariants.{Fail, Pass}
+use Rattle.outcome.specs.Figures.{Outcome, Verdict}
+use Rattle.std.specs.Prelude.{Ok, Err}
 use Rattle.record.specs.declared.Entry.{Entry}
 use Rattle.job_sets.specs.Jobs.{job_has, job_without}
 use Rattle.ledger.proofs.Changes.{Change, appends, changes, counts, grants, holds, idle, nothing, released_by, releases, sees, signs, votes}
@@ -166,9 +164,9 @@ released_for_good n b faulty version lawful es fs v k c x =
     (still, turned_back_lem z (feed_all r (log w fs)) j v k d' still)
 
 -- ---- a release that is answered 0: the job is unsigned there, and its signature is recorded as it was
-done_value : (o : Outcome) → is_done o ≡ true → (value : ℕ) × (o ≡ Done value)
-done_value (Done value) e = (value, refl)
-done_value (Refused why) e = absurd (true≢false (sym e))
+done_value : (o : Outcome) → is_done o ≡ true → (value : ℕ) × (o ≡ Ok value)
+done_value (Ok value) e = (value, refl)
+done_value (Err why) e = absurd (true≢false (sym e))
 
 pub after_release : AfterRelease
 unfolding release_decision signed_at voted_at
@@ -222,8 +220,8 @@ module _ (l : Ledger) (v k : ℕ) where
 
   only_behind : (g : Verdict) (d : Decision) → OnlySigned l (carried l d v k).ledger v k → OnlySigned l (carried l (gated g d) v k).ledger v k
   unfolding applied
-  only_behind Pass d h = h
-  only_behind (Fail why) d h = only_same
+  only_behind (Ok (tt {0})) d h = h
+  only_behind (Err why) d h = only_same
 
 pub release_takes : ReleaseTakes
 unfolding release_of release_decision releasing applied

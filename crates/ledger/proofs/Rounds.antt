@@ -10,7 +10,7 @@ use native.Mathlib.Omega.{arith}
 use lib.Dec.{ltb}
 use borrow.Author.Tests.{ltb-false, ltb-true}
 use Rattle.base.proofs.Reflect.{by_cases}
-use Rattle.outcome.specs.declared.Outcome.TheVariants.{Done}
+use Rattle.std.specs.Prelude.{Ok}
 use Rattle.sets.specs.Bits.{has_bit}
 use Rattle.job_sets.specs.Jobs.{job_count, job_has}
 use Rattle.job_sets.specs.declared.job_set.JobSet.{JobSet}
@@ -123,11 +123,11 @@ ended n w r i size z rs c =
     (omega (arith, c))
 
 -- the last visit's answer
-closing : (w : World) (r : Register) → Inv w r → (e : Event) → e.request ≡ snapshot → (reply_to w e).outcome ≡ Done (job_count (after w e).ledger.seen)
+closing : (w : World) (r : Register) → Inv w r → (e : Event) → e.request ≡ snapshot → (reply_to w e).outcome ≡ Ok (job_count (after w e).ledger.seen)
 unfolding visited
 closing w r i e q =
     answered w i.shape e q
-    ∙ ap (λ (l : Ledger). Done (job_count l.seen)) (sym (made w i.shape e (ap is_snapshot q)))
+    ∙ ap (λ (l : Ledger). Ok (job_count l.seen)) (sym (made w i.shape e (ap is_snapshot q)))
 
 pub rounds : Rounds
 rounds n b faulty version lawful es z rs round =
@@ -144,6 +144,6 @@ rounds n b faulty version lawful es z rs round =
       genuine = m.genuine (omega (arith, lawful.few));
       value =
           closing (after_all w round.before) _ (along round.before w _ i) round.last round.closes
-          ∙ ap (λ (x : World). Done (job_count x.ledger.seen)) (sym whole);
+          ∙ ap (λ (x : World). Ok (job_count x.ledger.seen)) (sym whole);
       anew = m.over (le_refl n);
     }

@@ -6,13 +6,10 @@ use mathlib.Core.Path.{◌∙◌, ◌≡◌, ap, refl, sym}
 use Prim.Native.Nat.{ℕ}
 use lib.Count.{ones}
 use lib.Dec.{ltb}
-use Rattle.outcome.specs.Figures.{number_of, refusal_number}
-use Rattle.outcome.specs.declared.Outcome.{Outcome}
-use Rattle.outcome.specs.declared.Outcome.TheVariants.{Done, Refused}
+use Rattle.outcome.specs.Figures.{number_of, refusal_number, Outcome, Verdict}
+use Rattle.std.specs.Prelude.{Ok, Err}
 use Rattle.outcome.specs.declared.Refusal.{Refusal}
 use Rattle.outcome.specs.declared.Refusal.TheVariants.{Full, NoClient, NotHeld, OverQuota}
-use Rattle.outcome.specs.declared.Verdict.{Verdict}
-use Rattle.outcome.specs.declared.Verdict.TheVariants.{Fail, Pass}
 use Rattle.checks.specs.Checks.{examined}
 use Rattle.quota.specs.Quota.{is_client, is_spent}
 use Rattle.job_sets.specs.Jobs.{job_has}
@@ -75,18 +72,18 @@ use Rattle.vaults.specs.declared.Vault.{Vault}
 
 -- a decision that changes nothing where it refuses
 record Quiet (d : Decision) : Type 0 where
-  refused : (why : Refusal) → d.outcome ≡ Refused why → d.change ≡ Nothing
+  refused : (why : Refusal) → d.outcome ≡ Err why → d.change ≡ Nothing
 
 quiet : (d : Decision) → d.change ≡ Nothing → Quiet d
 quiet d e = record { refused = λ why r. e }
 
 -- what is carried out is not refused
-done : (value : ℕ) (c : Change) → Quiet (record { outcome = Done value; change = c })
+done : (value : ℕ) (c : Change) → Quiet (record { outcome = Ok value; change = c })
 done value c = record { refused = λ why r. absurd (true≢false (ap is_done r)) }
 
 behind : (g : Verdict) (d : Decision) → Quiet d → Quiet (gated g d)
-behind Pass d q = q
-behind (Fail why) d q = quiet (refusing why) refl
+behind (Ok (tt {0})) d q = q
+behind (Err why) d q = quiet (refusing why) refl
 
 either : (b : Bool) (d e : Decision) → Quiet d → Quiet e → Quiet (cond b d e)
 either true d e p q = p
@@ -120,33 +117,33 @@ module _ (client history : ℕ) where
   noting why = cond (is_counted (refusal_number why)) (Count (history_with client history false)) Nothing
 
   record Notes (d : Decision) : Type 0 where
-    refused : (why : Refusal) → d.outcome ≡ Refused why → d.change ≡ noting why
+    refused : (why : Refusal) → d.outcome ≡ Err why → d.change ≡ noting why
 
-  notes_done : (value : ℕ) (c : Change) → Notes (record { outcome = Done value; change = c })
+  notes_done : (value : ℕ) (c : Change) → Notes (record { outcome = Ok value; change = c })
   notes_done value c = record { refused = λ why r. absurd (true≢false (ap is_done r)) }
 
   -- of a refusal, by whether it counts
   notes_refused : (why : Refusal) (b : Bool) → is_counted (refusal_number why) ≡ b
-      → Notes (record { outcome = Refused why; change = cond b (Count (history_with client history false)) Nothing })
+      → Notes (record { outcome = Err why; change = cond b (Count (history_with client history false)) Nothing })
   notes_refused why b s = record {
     refused = λ r e. ap (λ (x : Bool). cond x (Count (history_with client history false)) Nothing) (sym s ∙ ap (λ (o : Outcome). is_counted (number_of o)) e);
   }
 
   noted : (g : Verdict) (d : Decision) → Says is_counted false g → Notes d → Notes (gated g d)
-  noted Pass d s n = n
-  noted (Fail why) d s n = notes_refused why false s
+  noted (Ok (tt {0})) d s n = n
+  noted (Err why) d s n = notes_refused why false s
 
   counts : (state : Vault) (d : Verdict) (signers v k : ℕ) → Says is_counted true d → Notes (counted_consent state d client history signers v k)
   unfolding counted_consent vault_preflight within_quota
   counts state d signers v k s = by (job_has state.signed k) (is_spent history) d s
     where
       by : (signed spent : Bool) (d : Verdict) → Says is_counted true d
-          → let answer : Signing = cond signed (record { consent = Already; vault = state }) (consented (cond spent (Fail OverQuota) d) state k) in
+          → let answer : Signing = cond signed (record { consent = Already; vault = state }) (consented (cond spent (Err OverQuota) d) state k) in
           Notes (counting answer.consent answer.vault client history signers v)
       by true spent d s = notes_done _ _
       by false true d s = notes_refused OverQuota true refl
-      by false false Pass s = notes_done _ _
-      by false false (Fail why) s = notes_refused why true s
+      by false false (Ok (tt {0})) s = notes_done _ _
+      by false false (Err why) s = notes_refused why true s
 
   known : (b : Bool) (d : Decision) → Notes d → Notes (cond b d (refusing NoClient))
   known true d n = n
@@ -204,7 +201,7 @@ module _ (l : Ledger) (journal : List ℕ) where
   noting_applied v k client true = refl
   noting_applied v k client false = refl
 
-  pub unchanged : (q : Request) (why : Refusal) → (step_of l journal q).outcome ≡ Refused why
+  pub unchanged : (q : Request) (why : Refusal) → (step_of l journal q).outcome ≡ Err why
       → ((step_of l journal q).ledger ≡ refused_ledger l q why) × (left_by l journal q ≡ journal)
   unfolding journal_after
   unchanged (propose bytes) why e =

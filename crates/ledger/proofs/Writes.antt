@@ -8,10 +8,9 @@ use lib.Dec.{ltb}
 use lib.ListN.{length}
 use borrow.Author.Tests.{ltb-true}
 use Rattle.base.proofs.Reflect.{and_true}
-use Rattle.outcome.specs.declared.Outcome.TheVariants.{Done, Refused}
+use Rattle.outcome.specs.Figures.{Verdict}
+use Rattle.std.specs.Prelude.{Ok, Err}
 use Rattle.outcome.specs.declared.Refusal.TheVariants.{Full}
-use Rattle.outcome.specs.declared.Verdict.{Verdict}
-use Rattle.outcome.specs.declared.Verdict.TheVariants.{Fail, Pass}
 use Rattle.checks.specs.Checks.{examined}
 use Rattle.codec.proofs.Sizes.{whole_place, whole_room}
 use Rattle.codec.specs.Codec.{place_of, record_size}
@@ -61,7 +60,7 @@ module _ (version : ℕ) (journal : List ℕ) (booked : ℕ) (bytes : List ℕ) 
   room e = let r = and_true _ _ e in (ltb-true _ _ r.0, whole_room version booked (length journal) (ltb-true booked (slots version journal) r.1))
 
   -- it passes checks 6 to 9, and there is room
-  books : (proposal version journal booked bytes).change ≡ Book → (examined version bytes ≡ Pass) × (has_room version journal booked ≡ true)
+  books : (proposal version journal booked bytes).change ≡ Book → (examined version bytes ≡ Ok (tt {0})) × (has_room version journal booked ≡ true)
   unfolding proposal settling placing
   books e =
       by (examined version bytes) refl (ltb (equal_in version journal booked bytes) (inside_of version journal booked)) (has_room version journal booked) refl e
@@ -70,13 +69,13 @@ module _ (version : ℕ) (journal : List ℕ) (booked : ℕ) (bytes : List ℕ) 
       no q = absurd (true≢false (sym (ap is_book q)))
 
       by : (v : Verdict) → examined version bytes ≡ v → (a b : Bool) → has_room version journal booked ≡ b
-          → (gated v (cond a (record { outcome = Done (equal_in version journal booked bytes); change = Nothing })
-          (cond b (record { outcome = Done booked; change = Book }) (record { outcome = Refused Full; change = Nothing })))).change ≡ Book
-          → (examined version bytes ≡ Pass) × (has_room version journal booked ≡ true)
-      by (Fail why) p a b q h = no h
-      by Pass p true b q h = no h
-      by Pass p false false q h = no h
-      by Pass p false true q h = (p, q)
+          → (gated v (cond a (record { outcome = Ok (equal_in version journal booked bytes); change = Nothing })
+          (cond b (record { outcome = Ok booked; change = Book }) (record { outcome = Err Full; change = Nothing })))).change ≡ Book
+          → (examined version bytes ≡ Ok (tt {0})) × (has_room version journal booked ≡ true)
+      by (Err why) p a b q h = no h
+      by (Ok (tt {0})) p true b q h = no h
+      by (Ok (tt {0})) p false false q h = no h
+      by (Ok (tt {0})) p false true q h = (p, q)
 
   pub writes : (d : Decision) → d ≡ proposal version journal booked bytes → Writable d.change booked version journal bytes
   writes d e = record {

@@ -1,8 +1,8 @@
 -- What a step decides behind checks 3 to 5, from the pieces that it names: an outcome, and what it changes. A refusal changes nothing, but
 -- for the history of a client whose request it was (kind 12).
-use Rattle.std.specs.Prelude.{Bool, ◌&&◌, cond, false, not, true, List, ℕ, eqb, leb, ltb}
+use Rattle.std.specs.Prelude.{Bool, ◌&&◌, cond, false, not, true, List, ℕ, eqb, leb, ltb, Ok, Err}
 use Rattle.std.specs.Int.Count.{ones}
-use Rattle.outcome.specs.declared.Outcome.TheVariants.{Done, Refused}
+use Rattle.outcome.specs.Figures.{Verdict}
 use Rattle.outcome.specs.declared.Refusal.{Refusal}
 use Rattle.outcome.specs.declared.Refusal.TheVariants.{
   Full,
@@ -16,8 +16,6 @@ use Rattle.outcome.specs.declared.Refusal.TheVariants.{
   OverQuota,
   TooFewSigners,
 }
-use Rattle.outcome.specs.declared.Verdict.{Verdict}
-use Rattle.outcome.specs.declared.Verdict.TheVariants.{Pass, Fail}
 use Rattle.sets.specs.Bits.{subset_of, with_member}
 use Rattle.job_sets.specs.Jobs.{job_count, job_has, job_union, job_without, no_jobs}
 use Rattle.job_sets.specs.declared.job_set.JobSet.{JobSet}
@@ -43,26 +41,26 @@ use Rattle.vaults.specs.Vaults.{holding, unsigning, vault_preflight}
 
 -- "A refusal alters no set, book or order."
 abbrev pub refusing : Refusal → Decision
-refusing why = record { outcome = Refused why; change = Nothing }
+refusing why = record { outcome = Err why; change = Nothing }
 
 -- answered 0 with a value, and nothing changes
 abbrev pub answering : ℕ → Decision
-answering value = record { outcome = Done value; change = Nothing }
+answering value = record { outcome = Ok value; change = Nothing }
 
 -- a vault's vote on a job joins those of the set: "the job's signatures afterwards", or "its acknowledgements"
 abbrev pub voting : ℕ → ℕ → Change → Decision
-voting votes v change = record { outcome = Done (ones (with_member 16 votes v)); change = change }
+voting votes v change = record { outcome = Ok (ones (with_member 16 votes v)); change = change }
 
 -- a row of checks, and what is decided where it passes
 abbrev pub gated : Verdict → Decision → Decision
-gated Pass d = d
-gated (Fail why) d = refusing why
+gated (Ok tt) d = d
+gated (Err why) d = refusing why
 
 -- ---- kind 1, a proposal: "6 to 9, then a booked equal, then 10". The value is the job's number.
 unfoldable pub placing : ℕ → ℕ → ℕ → Bool → Decision
 placing equal inside booked room =
     cond (ltb equal inside) (answering equal)
-    (cond room (record { outcome = Done booked; change = Book }) (refusing Full))
+    (cond room (record { outcome = Ok booked; change = Book }) (refusing Full))
 
 unfoldable pub settling : ℕ → List ℕ → ℕ → List ℕ → Decision
 settling version journal booked bytes = placing (equal_in version journal booked bytes) (inside_of version journal booked) booked (has_room version journal booked)
@@ -96,8 +94,8 @@ preflighting state version journal booked signers v job = consent state (admissi
 unfoldable pub certificate : Settings → ℕ → ℕ → Verdict
 certificate s recorded signers =
     cond (subset_of signers recorded)
-    (cond (leb (threshold_of s) (ones signers)) Pass (Fail TooFewSigners))
-    (Fail NotSigned)
+    (cond (leb (threshold_of s) (ones signers)) (Ok tt) (Err TooFewSigners))
+    (Err NotSigned)
 
 -- "the vault holds the job and its acknowledgement is recorded. Repeating changes nothing."
 unfoldable pub receiving : Vault → ℕ → ℕ → ℕ → Decision
@@ -122,7 +120,7 @@ ageing held age = cond held (answering age) (refusing NotHeld)
 unfoldable pub snapshotting : Settings → ℕ → JobSet → JobSet → Decision
 snapshotting s next seen held =
     let all = seen_after s next seen held in
-    record { outcome = Done (job_count all); change = See all }
+    record { outcome = Ok (job_count all); change = See all }
 
 -- ---- kind 10, a release (document 02)
 
@@ -136,26 +134,26 @@ unfoldable pub supersession : Vault → ℕ → List ℕ → ℕ → ℕ → ℕ
 supersession state version journal booked job rival =
     cond (is_booked version journal booked rival)
     (cond (job_has state.signed job)
-    (cond (superseded_at state version journal booked job rival) Pass (Fail NotSuperseded))
-    (Fail NotSignedHere))
-    (Fail NotBooked)
+    (cond (superseded_at state version journal booked job rival) (Ok tt) (Err NotSuperseded))
+    (Err NotSignedHere))
+    (Err NotBooked)
 
 -- "The signature already given stays valid and keeps its count." "The value is the job's signature count."
 unfoldable pub releasing : Vault → ℕ → List ℕ → ℕ → ℕ → ℕ → ℕ → Decision
 releasing state version journal booked signers job rival =
-    gated (supersession state version journal booked job rival) (record { outcome = Done (ones signers); change = Release (unsigning state job) })
+    gated (supersession state version journal booked job rival) (record { outcome = Ok (ones signers); change = Release (unsigning state job) })
 
 -- ---- kind 11, a job's missing dependencies (document 02): "the smallest set of them which, once held by this vault too, makes preflight accept the job"
 
 abbrev pub listing : JobSet → Listing
-listing jobs = record { outcome = Done (job_count jobs); members = jobs }
+listing jobs = record { outcome = Ok (job_count jobs); members = jobs }
 
 abbrev pub unlisted : Refusal → Listing
-unlisted why = record { outcome = Refused why; members = no_jobs }
+unlisted why = record { outcome = Err why; members = no_jobs }
 
 abbrev pub gated_listing : Verdict → Listing → Listing
-gated_listing Pass r = r
-gated_listing (Fail why) r = unlisted why
+gated_listing (Ok tt) r = r
+gated_listing (Err why) r = unlisted why
 
 -- the vault, once it holds these jobs too
 unfoldable pub receiving_all : Vault → JobSet → Vault
@@ -163,8 +161,8 @@ receiving_all state jobs = record { held = job_union state.held jobs; signed = s
 
 -- "then 21 exactly if no set works"
 abbrev pub if_admitted : Verdict → JobSet → Listing
-if_admitted Pass jobs = listing jobs
-if_admitted (Fail why) jobs = unlisted NoSetWorks
+if_admitted (Ok tt) jobs = listing jobs
+if_admitted (Err why) jobs = unlisted NoSetWorks
 
 -- the jobs that make its missing inputs, where checks 11 to 14 pass with them
 unfoldable pub supplying : Vault → JobSet → ℕ → List ℕ → ℕ → ℕ → Listing
@@ -185,13 +183,13 @@ history_with client history fresh = record { client = client; requests = remembe
 
 -- "then 23 if four of the desk's previous fifteen requests there brought a new signature; then 11 to 14"
 unfoldable pub within_quota : ℕ → Verdict → Verdict
-within_quota history admission = cond (is_spent history) (Fail OverQuota) admission
+within_quota history admission = cond (is_spent history) (Err OverQuota) admission
 
 -- "every other one counts, 23 included": the vault's answer, and the request in the client's history
 abbrev pub counting : Consent → Vault → ℕ → ℕ → ℕ → ℕ → Decision
-counting Already state client history signers v = record { outcome = Done (ones signers); change = Count (history_with client history false) }
+counting Already state client history signers v = record { outcome = Ok (ones signers); change = Count (history_with client history false) }
 counting Fresh state client history signers v = voting signers v (Grant (record { vault = state; history = history_with client history true }))
-counting (Denied why) state client history signers v = record { outcome = Refused why; change = Count (history_with client history false) }
+counting (Denied why) state client history signers v = record { outcome = Err why; change = Count (history_with client history false) }
 
 -- "then a job already signed is accepted", which comes before 23 as it comes before 11 to 14 in a preflight
 unfoldable pub counted_consent : Vault → Verdict → ℕ → ℕ → ℕ → ℕ → ℕ → Decision

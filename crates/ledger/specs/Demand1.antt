@@ -4,7 +4,7 @@
 -- is. Kind 7, which asks nothing of a ledger, and refusals 1 and 2 of a run file stand in `runfile`'s page of the same name.
 -- That every step ends is no theorem: a step is a function of the ledger, the journal and the request, and each function of specs/ is total, as is the code
 -- that is held to it.
-use Rattle.std.specs.Prelude.{false, true, List, [], ◌⊎◌, ◌≡◌, ◌+◌, ◌-◌, ◌<◌, ◌≤◌, ℕ, length, take}
+use Rattle.std.specs.Prelude.{false, true, List, [], ◌⊎◌, ◌≡◌, ◌+◌, ◌-◌, ◌<◌, ◌≤◌, ℕ, length, take, Err}
 use Rattle.std.specs.Int.Count.{ones}
 use Rattle.base.specs.Reflect.{Reflects}
 use Rattle.base.specs.Search.{Every, Least, Some}
@@ -16,7 +16,6 @@ use Rattle.job_sets.specs.Jobs.{InWords, job_count, job_has, job_without}
 use Rattle.job_sets.specs.declared.job_set.JobSet.{JobSet}
 use Rattle.journal.specs.Journal.{slot_at}
 use Rattle.outcome.specs.Figures.{number_of, value_of}
-use Rattle.outcome.specs.declared.Outcome.TheVariants.{Refused}
 use Rattle.outcome.specs.declared.Refusal.{Refusal}
 use Rattle.quota.specs.Asks.{Ask, news}
 use Rattle.record.specs.Meaning.{Label}
@@ -269,4 +268,4 @@ abbrev pub RefusedUnchanged : Type 0
 RefusedUnchanged =
     (n b faulty version : ℕ) → Lawful (record { n = n; b = b; faulty = faulty; version = version }) → (es : List Event) (e : Event) (why : Refusal)
     → let w = after_all (start n b faulty version) es in
-    (reply_to w e).outcome ≡ Refused why → after w e ≡ record { ledger = refused_ledger w.ledger e.request why; booked = w.booked }
+    (reply_to w e).outcome ≡ Err why → after w e ≡ record { ledger = refused_ledger w.ledger e.request why; booked = w.booked }

@@ -1,9 +1,8 @@
 -- Demand 2: a correct vault signs where the rules allow it, and only there. Wherever a list of steps has led: preflight and commit are answered 0 exactly where
 -- the paper's Algorithms 1 and 2 accept, with document 01's mends; a step that is answered 0 leaves what its kind says, nothing else, and is answered with
 -- what is then recorded; and no other step makes a correct vault sign, hold or acknowledge. The only premise is that the settings are lawful.
-use Rattle.std.specs.Prelude.{Bool, false, not, true, List, [], ◌++◌, ◌∷◌, ◌≢◌, ◌⊎◌, ◌≡◌, ◌<◌, ◌≤◌, suc, ℕ, get_or, length}
+use Rattle.std.specs.Prelude.{Bool, false, not, true, List, [], ◌++◌, ◌∷◌, ◌≢◌, ◌⊎◌, ◌≡◌, ◌<◌, ◌≤◌, suc, ℕ, get_or, length, Ok}
 use Rattle.base.specs.Reflect.{Reflects}
-use Rattle.outcome.specs.declared.Outcome.TheVariants.{Done}
 use Rattle.codec.specs.Codec.{place_of}
 use Rattle.job_sets.specs.Jobs.{job_count, job_has, job_without}
 use Rattle.federation.specs.Federation.{Lawful}
@@ -179,7 +178,7 @@ pub record OnlyThen (w w' : World) (q : Request) (v k : ℕ) : Type 0 where
 -- ---- the demand, of a world
 pub record Rules (w : World) : Type 0 where
   pub when : (size : ℕ) (beyond : List ℕ) (v k : ℕ) → InPlace w size beyond v k → Obeys w size beyond v k
-  pub leaves : (e : Event) (value : ℕ) → (reply_to w e).outcome ≡ Done value → Leaves w (after w e) e.request value
+  pub leaves : (e : Event) (value : ℕ) → (reply_to w e).outcome ≡ Ok value → Leaves w (after w e) e.request value
   pub only_then : (e : Event) (v k : ℕ) → Correct w.ledger.settings v → OnlyThen w (after w e) e.request v k
   -- a correct vault has acknowledged what it holds, and nothing else
   pub acknowledged : (v k : ℕ) → Correct w.ledger.settings v → has_voted w Acknowledgements v k ≡ has_held w v k

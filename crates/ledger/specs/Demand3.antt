@@ -1,12 +1,10 @@
 -- Demand 3: after any list of steps, with any arguments and any lent journal, the jobs held by correct vaults are exactly those that the
 -- single register has taken; the register never stops; frames standing and frames trimmed equal frames accessioned. The only premise is that the
 -- settings are lawful.
-use Rattle.std.specs.Prelude.{false, not, true, List, [], ◌++◌, ◌∷◌, ◌≢◌, ◌≡◌, ◌+◌, ◌<◌, ◌≤◌, suc, zero, ℕ, eqb, drop, length, take}
+use Rattle.std.specs.Prelude.{false, not, true, List, [], ◌++◌, ◌∷◌, ◌≢◌, ◌≡◌, ◌+◌, ◌<◌, ◌≤◌, suc, zero, ℕ, eqb, drop, length, take, Ok}
 use Rattle.std.specs.Int.Count.{ones}
 use Rattle.base.specs.Lists.{Distinct, In, any_in, keep_if, total}
-use Rattle.outcome.specs.Figures.{number_of}
-use Rattle.outcome.specs.declared.Outcome.{Outcome}
-use Rattle.outcome.specs.declared.Verdict.TheVariants.{Pass}
+use Rattle.outcome.specs.Figures.{number_of, Outcome}
 use Rattle.checks.specs.Checks.{examined}
 use Rattle.codec.specs.Codec.{record_size}
 use Rattle.conflicts.specs.Tapes.{frames_in, input_tapes, labels, output_tapes}
@@ -112,7 +110,7 @@ pub record Besides (s : Settings) (w : World) (r : Register) : Type 0 where
   pub known : (k : ℕ) → In k r.taken → k < length r.table
   -- no record is booked twice, and each passes checks 6 to 9
   pub records_once : Distinct r.table
-  pub checked : (bytes : List ℕ) → In bytes r.table → examined (version_of w.ledger) bytes ≡ Pass
+  pub checked : (bytes : List ℕ) → In bytes r.table → examined (version_of w.ledger) bytes ≡ Ok tt
   -- along the arrival order, wherever it is cut: each job finds its inputs standing and its output labels unmade
   pub in_turn : (earlier later : List ℕ) (k : ℕ) → arrived w.ledger ≡ earlier ++ (k ∷ later) → InTurn (booked_job w) earlier k
   -- the tapes standing, the labels made and the frames accessioned are those that are defined along it

@@ -1,7 +1,6 @@
 -- Kind 11 (document 02, "Which papers must a vault see first"): wherever a list of steps has led, what is answered is the smallest set of jobs, each held by a
 -- correct vault, with which preflight accepts; and the refusal is given exactly where no set works. The sets are compared by their members alone.
-use Rattle.std.specs.Prelude.{true, List, ◌↔◌, ◌≡◌, ◌≤◌, ℕ}
-use Rattle.outcome.specs.declared.Outcome.TheVariants.{Refused}
+use Rattle.std.specs.Prelude.{true, List, ◌↔◌, ◌≡◌, ◌≤◌, ℕ, Err}
 use Rattle.outcome.specs.declared.Refusal.TheVariants.{NoSetWorks}
 use Rattle.job_sets.specs.Jobs.{InWords, job_count, job_has, no_jobs}
 use Rattle.job_sets.specs.declared.job_set.JobSet.{JobSet}
@@ -34,7 +33,7 @@ module _ (w : World) (size : ℕ) (beyond : List ℕ) (v k : ℕ) where
     pub only : (jobs : JobSet) → Works jobs → job_count jobs ≤ job_count answer.members → jobs ≡ answer.members
     -- then the size is answered; "21 exactly if no set works"
     pub found : (jobs : JobSet) → Works jobs → answer ≡ listing answer.members
-    pub none : (answer.outcome ≡ Refused NoSetWorks) ↔ ((jobs : JobSet) → Works jobs → ⊥)
+    pub none : (answer.outcome ≡ Err NoSetWorks) ↔ ((jobs : JobSet) → Works jobs → ⊥)
     -- "A job already signed there needs the empty set."
     pub signed : job_has (vault_at w.ledger v).signed k ≡ true → answer ≡ listing no_jobs
     pub few : job_count answer.members ≤ (booked_job w k).inputs

@@ -1,8 +1,7 @@
 -- What functions ask of their arguments that the checks before them, or whoever keeps the index, have given.
-use Rattle.std.specs.Prelude.{List, ◌≡◌, ℕ, ◌+◌, ◌<◌, ◌≤◌, length}
+use Rattle.std.specs.Prelude.{List, ◌≡◌, ℕ, ◌+◌, ◌<◌, ◌≤◌, length, Ok}
 use Rattle.codec.specs.Codec.{place_of, record_size}
-use Rattle.outcome.specs.declared.Verdict.{Verdict}
-use Rattle.outcome.specs.declared.Verdict.TheVariants.{Pass}
+use Rattle.outcome.specs.Figures.{Verdict}
 use Rattle.federation.specs.declared.Settings.{Settings}
 use Rattle.journal.specs.Journal.{capacity, inside_of, job_at}
 use Rattle.generations.specs.Generations.{age_in}
@@ -31,7 +30,7 @@ pub record Writable (change : Change) (booked version : ℕ) (journal bytes : Li
 
 -- where the checks before pass, the job is booked
 pub record Known (gate : Verdict) (booked job : ℕ) : Type 0 where
-  pub below : gate ≡ Pass → job < booked
+  pub below : gate ≡ Ok tt → job < booked
 
 -- the index is that of the booked records that lie inside
 pub record Searchable (version : ℕ) (journal : List ℕ) (booked : ℕ) (records : List ℕ) : Type 0 where

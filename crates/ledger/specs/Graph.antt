@@ -1,9 +1,8 @@
 -- A vault's jobs as the paper's local graph (paper 2.2 and 2.3): who created a tape and who consumed a label. Over it Algorithms 1 and 2, line by line. What
 -- stands in quotation marks is the paper's, and behind the word mend document 01's; where the paper leaves something open, a reading says how it is taken.
-use Rattle.std.specs.Prelude.{true, ◌⊎◌, ◌≡◌, ◌<◌, ◌≤◌, ℕ}
+use Rattle.std.specs.Prelude.{true, ◌⊎◌, ◌≡◌, ◌<◌, ◌≤◌, ℕ, Ok}
 use Rattle.std.specs.Int.Count.{ones}
 use Rattle.base.specs.Lists.{Distinct, In}
-use Rattle.outcome.specs.declared.Verdict.TheVariants.{Pass}
 use Rattle.checks.specs.Checks.{check_of}
 use Rattle.conflicts.specs.Tapes.{input_tapes, labels, output_tapes, used_from}
 use Rattle.record.specs.declared.Entry.{Entry}
@@ -44,7 +43,7 @@ module _ (job : ℕ → Job) (booked : ℕ) where
   -- "admissible over G", clause by clause
   pub record Admissible (held : JobSet) (j : Job) : Type 0 where
     -- 1: "PoBValid(t)". Document 01 puts the drive and frame rules in its place: checks 6 to 9
-    pub valid : check_of j ≡ Pass
+    pub valid : check_of j ≡ Ok tt
     -- 2: "In(t) has no duplicates". A reading, here and below: a tape is known by its label, so no label stands twice
     pub inputs_once : Distinct (labels (input_tapes j))
     -- 3: "Out(t) has no duplicates"
@@ -86,4 +85,4 @@ pub record Algorithm2 (s : Settings) (recorded signers : ℕ) (j : Job) : Type 0
   -- "verify σ is a valid threshold signature on t"
   pub signature : Certificate s recorded signers
   -- "verify PoBValid(t)": checks 6 to 9. A reading: of a job already held too; a booked record passed them
-  pub valid : check_of j ≡ Pass
+  pub valid : check_of j ≡ Ok tt

@@ -4,7 +4,7 @@
 use Rattle.std.specs.Prelude.{List, [], ◌≡◌, ◌≤◌, ℕ, get_or, length}
 use Rattle.codec.specs.Codec.{place_of}
 use Rattle.federation.specs.Federation.{Lawful}
-use Rattle.outcome.specs.declared.Outcome.{Outcome}
+use Rattle.outcome.specs.Figures.{Outcome}
 use Rattle.vaults.specs.declared.Column.{Column}
 use Rattle.ledger.specs.Demand3.{records_in}
 use Rattle.ledger.specs.State.{version_of}

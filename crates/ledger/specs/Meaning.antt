@@ -1,12 +1,10 @@
 -- What the checks of specs/ mean, said without a search. proofs/Meaning.antt shows that they decide these claims.
-use Rattle.std.specs.Prelude.{Bool, false, true, List, ◌≢◌, ◌⊎◌, ◌≡◌, ◌+◌, ◌<◌, ◌≤◌, ℕ, length}
+use Rattle.std.specs.Prelude.{Bool, false, true, List, ◌≢◌, ◌⊎◌, ◌≡◌, ◌+◌, ◌<◌, ◌≤◌, ℕ, length, Ok, Err}
 use Rattle.base.specs.Search.{Every, Least}
-use Rattle.outcome.specs.declared.Outcome.TheVariants.{Done}
+use Rattle.outcome.specs.Figures.{Verdict}
 use Rattle.outcome.specs.declared.Refusal.{Refusal}
 use Rattle.outcome.specs.declared.Refusal.TheVariants.{Full, InputReserved, NotBooked, NotCreated, NotSignedHere, NotSuperseded, OutputReserved, Retired}
 use Rattle.outcome.specs.declared.Refusal.TheVariants.{Settings as BadSettings}
-use Rattle.outcome.specs.declared.Verdict.{Verdict}
-use Rattle.outcome.specs.declared.Verdict.TheVariants.{Fail, Pass}
 use Rattle.checks.specs.Checks.{examined}
 use Rattle.codec.specs.Codec.{place_of, record_size}
 use Rattle.record.specs.Entries.{frames_of, label_of}
@@ -49,7 +47,7 @@ pub record Entered (l : Ledger) (journal : List ℕ) (v job : ℕ) (faulty : Boo
 -- it is answered with the first booked record inside the journal that has these bytes
 pub record KnownAt (l : Ledger) (journal bytes : List ℕ) (k : ℕ) : Type 0 where
   pub sane : Sane l
-  pub passes : examined (version_of l) bytes ≡ Pass
+  pub passes : examined (version_of l) bytes ≡ Ok tt
   pub first : Least (inside_of (version_of l) journal l.booked) (λ i. slot_at (version_of l) journal i ≡ bytes) k
 
 -- no booked record inside the journal has these bytes
@@ -59,7 +57,7 @@ Unknown l journal bytes = Every (inside_of (version_of l) journal l.booked) (λ 
 -- it is booked: checks 6 to 9 pass, it is unknown, and there is room for one more
 pub record NewAt (l : Ledger) (journal bytes : List ℕ) : Type 0 where
   pub sane : Sane l
-  pub passes : examined (version_of l) bytes ≡ Pass
+  pub passes : examined (version_of l) bytes ≡ Ok tt
   pub unknown : Unknown l journal bytes
   pub below : l.booked < capacity
   pub fits : place_of (version_of l) l.booked + record_size (version_of l) ≤ length journal
@@ -67,16 +65,16 @@ pub record NewAt (l : Ledger) (journal bytes : List ℕ) : Type 0 where
 -- there is no room for it
 pub record FullAt (l : Ledger) (journal bytes : List ℕ) : Type 0 where
   pub sane : Sane l
-  pub passes : examined (version_of l) bytes ≡ Pass
+  pub passes : examined (version_of l) bytes ≡ Ok tt
   pub unknown : Unknown l journal bytes
   pub full : (capacity ≤ l.booked) ⊎ (length journal < place_of (version_of l) l.booked + record_size (version_of l))
 
 -- what each decision on a proposal means
 pub data Proposed (l : Ledger) (journal bytes : List ℕ) : Decision → Type 0 where
   insane : (Sane l → ⊥) → Proposed l journal bytes (refusing BadSettings)
-  failed : (why : Refusal) → Sane l → examined (version_of l) bytes ≡ Fail why → Proposed l journal bytes (refusing why)
+  failed : (why : Refusal) → Sane l → examined (version_of l) bytes ≡ Err why → Proposed l journal bytes (refusing why)
   known : (k : ℕ) → KnownAt l journal bytes k → Proposed l journal bytes (answering k)
-  new : NewAt l journal bytes → Proposed l journal bytes (record { outcome = Done l.booked; change = Book })
+  new : NewAt l journal bytes → Proposed l journal bytes (record { outcome = Ok l.booked; change = Book })
   full : FullAt l journal bytes → Proposed l journal bytes (refusing Full)
 
 -- ---- checks 11 to 14, at entry i, by creators and consumers
@@ -93,13 +91,13 @@ module _ (job : ℕ → Job) (booked : ℕ) where
   -- what each answer of checks 11 to 14 means: the first check that fails, at the first entry that offends
   pub data Admission (held others : JobSet) (j : Job) : Verdict → Type 0 where
     admitted : Nowhere (NotCreatedAt held j) → Nowhere (ConsumedAt held j) → Nowhere (ConsumedAt others j) → Nowhere (RemadeAt held others j)
-        → Admission held others j Pass
-    missing : (e : ℕ) → Least 8 (NotCreatedAt held j) e → Admission held others j (Fail (NotCreated e))
-    consumed : (e : ℕ) → Nowhere (NotCreatedAt held j) → Least 8 (ConsumedAt held j) e → Admission held others j (Fail (Retired e))
+        → Admission held others j (Ok tt)
+    missing : (e : ℕ) → Least 8 (NotCreatedAt held j) e → Admission held others j (Err (NotCreated e))
+    consumed : (e : ℕ) → Nowhere (NotCreatedAt held j) → Least 8 (ConsumedAt held j) e → Admission held others j (Err (Retired e))
     reserved : (e : ℕ) → Nowhere (NotCreatedAt held j) → Nowhere (ConsumedAt held j) → Least 8 (ConsumedAt others j) e
-        → Admission held others j (Fail (InputReserved e))
+        → Admission held others j (Err (InputReserved e))
     remade : (e : ℕ) → Nowhere (NotCreatedAt held j) → Nowhere (ConsumedAt held j) → Nowhere (ConsumedAt others j) → Least 8 (RemadeAt held others j) e
-        → Admission held others j (Fail (OutputReserved e))
+        → Admission held others j (Err (OutputReserved e))
 
 -- ---- kind 6, by vaults: n − b of them have signed the job, or have acknowledged it
 abbrev pub Quorum : Settings → ℕ → Type 0
@@ -118,9 +116,9 @@ pub record Supersedes (state : Vault) (version : ℕ) (journal : List ℕ) (book
 
 -- what each answer of checks 4, of the rival, 19 and 20 means
 pub data Supersession (state : Vault) (version : ℕ) (journal : List ℕ) (booked job rival : ℕ) : Verdict → Type 0 where
-  unbooked : (Booked version journal booked rival → ⊥) → Supersession state version journal booked job rival (Fail NotBooked)
-  unsigned : Booked version journal booked rival → job_has state.signed job ≡ false → Supersession state version journal booked job rival (Fail NotSignedHere)
+  unbooked : (Booked version journal booked rival → ⊥) → Supersession state version journal booked job rival (Err NotBooked)
+  unsigned : Booked version journal booked rival → job_has state.signed job ≡ false → Supersession state version journal booked job rival (Err NotSignedHere)
   standing : Booked version journal booked rival → job_has state.signed job ≡ true → (Supersedes state version journal booked job rival → ⊥)
-      → Supersession state version journal booked job rival (Fail NotSuperseded)
+      → Supersession state version journal booked job rival (Err NotSuperseded)
   superseded : Booked version journal booked rival → job_has state.signed job ≡ true → Supersedes state version journal booked job rival
-      → Supersession state version journal booked job rival Pass
+      → Supersession state version journal booked job rival (Ok tt)

@@ -2,8 +2,7 @@
 -- whether the job was signed there before and after.
 use Rattle.std.specs.Prelude.{Bool, ◌&&◌, ◌||◌, cond, false, not, true, List, [], ◌++◌, ◌∷◌, ◌≡◌, ◌≤◌, ℕ, eqb, length}
 use Rattle.federation.specs.Federation.{Lawful}
-use Rattle.outcome.specs.Figures.{number_of}
-use Rattle.outcome.specs.declared.Outcome.{Outcome}
+use Rattle.outcome.specs.Figures.{number_of, Outcome}
 use Rattle.quota.specs.Asks.{AllOver, Ask, NoNews, Stretch, news, spends}
 use Rattle.quota.specs.Quota.{is_client}
 use Rattle.job_sets.specs.Jobs.{job_has}

@@ -1,11 +1,8 @@
 -- "The single register starts empty and takes jobs one at a time. It is fed the steps with their arguments and, of each answer,
 -- only whether it was 0 or a refusal."
-use Rattle.std.specs.Prelude.{Bool, ◌&&◌, cond, false, not, true, List, [], ◌++◌, ◌∷◌, ◌+◌, ℕ, eqb, ltb, get_or, length}
+use Rattle.std.specs.Prelude.{Bool, ◌&&◌, cond, false, not, true, List, [], ◌++◌, ◌∷◌, ◌+◌, ℕ, eqb, ltb, get_or, length, Ok, Err}
 use Rattle.base.specs.Lists.{all_in, any_in, keep_if, same_list}
-use Rattle.outcome.specs.declared.Outcome.{Outcome}
-use Rattle.outcome.specs.declared.Outcome.TheVariants.{Done, Refused}
-use Rattle.outcome.specs.declared.Verdict.{Verdict}
-use Rattle.outcome.specs.declared.Verdict.TheVariants.{Fail, Pass}
+use Rattle.outcome.specs.Figures.{Outcome, Verdict}
 use Rattle.checks.specs.Checks.{examined}
 use Rattle.codec.specs.Codec.{job_of}
 use Rattle.conflicts.specs.Tapes.{frames_in, input_tapes, labels, output_tapes, same_tape}
@@ -29,8 +26,8 @@ abbrev pub new_register : ℕ → Register
 new_register version = record { version = version; running = true; table = []; taken = []; standing = []; made = []; accessioned = 0 }
 
 abbrev pub passes : Verdict → Bool
-passes Pass = true
-passes (Fail why) = false
+passes (Ok tt) = true
+passes (Err why) = false
 
 -- the job of a number in the table
 abbrev pub tabled : List (List ℕ) → ℕ → Job
@@ -127,8 +124,8 @@ feed r request is_done = cond (is_done && r.running) (feed_done r request) r
 
 -- whether the answer was 0
 abbrev pub is_done : Outcome → Bool
-is_done (Done value) = true
-is_done (Refused why) = false
+is_done (Ok value) = true
+is_done (Err why) = false
 
 -- ---- what the register is fed of a list of steps
 pub record Fed : Type 0 where

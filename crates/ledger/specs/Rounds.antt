@@ -1,10 +1,9 @@
 -- A round of the snapshot (document 02, "Stock-take while jobs go on"): each vault is visited once, and other steps may come between. "At the end of a round
 -- the jobs seen include all that sound vaults held when it began, and none that no sound vault holds when it ends." And of every visit: "The value is the
 -- number of different jobs seen in this round."
-use Rattle.std.specs.Prelude.{Bool, cond, false, true, List, [], ◌++◌, ◌∷◌, ◌↔◌, ◌≡◌, ◌%◌, ◌+◌, ◌<◌, suc, ℕ, length}
+use Rattle.std.specs.Prelude.{Bool, cond, false, true, List, [], ◌++◌, ◌∷◌, ◌↔◌, ◌≡◌, ◌%◌, ◌+◌, ◌<◌, suc, ℕ, length, Ok}
 use Rattle.base.specs.Lists.{Distinct, In}
-use Rattle.outcome.specs.declared.Outcome.{Outcome}
-use Rattle.outcome.specs.declared.Outcome.TheVariants.{Done}
+use Rattle.outcome.specs.Figures.{Outcome}
 use Rattle.job_sets.specs.Jobs.{job_count, job_has}
 use Rattle.federation.specs.Federation.{Lawful}
 use Rattle.ledger.specs.Demand3.{Held, HeldBy}
@@ -41,7 +40,7 @@ pub record Round (n : ℕ) (es : List Event) : Type 0 where
 pub record Counted (w w' : World) (answer : Outcome) : Type 0 where
   pub included : (k : ℕ) → Held w.ledger k → job_has w'.ledger.seen k ≡ true
   pub genuine : (k : ℕ) → job_has w'.ledger.seen k ≡ true → Held w'.ledger k
-  pub value : answer ≡ Done (job_count w'.ledger.seen)
+  pub value : answer ≡ Ok (job_count w'.ledger.seen)
   -- the following visit begins anew
   pub anew : w'.ledger.next ≡ 0
 
@@ -83,5 +82,5 @@ abbrev pub EveryVisit : Type 0
 EveryVisit =
     (n b faulty version : ℕ) → Lawful (record { n = n; b = b; faulty = faulty; version = version }) → (es : List Event) (e : Event)
     → e.request ≡ snapshot
-    → (value : ℕ) × ((reply_to (after_all (start n b faulty version) es) e).outcome ≡ Done value)
+    → (value : ℕ) × ((reply_to (after_all (start n b faulty version) es) e).outcome ≡ Ok value)
     × CountOf (SeenAlong (start n b faulty version) (es ++ (e ∷ []))) value

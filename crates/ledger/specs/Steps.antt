@@ -1,11 +1,8 @@
 -- The steps. Each is a row of checks, in the order that document 01 gives for its kind, a decision where they pass, and what it changes
 -- applied. A state that no run can reach is turned back with 1, settings wrong, before every other check.
-use Rattle.std.specs.Prelude.{Bool, true, false, cond, List, [], ℕ, ltb}
+use Rattle.std.specs.Prelude.{Bool, true, false, cond, List, [], ℕ, ltb, Ok, Err}
 use Rattle.std.specs.Bool.{beq}
-use Rattle.outcome.specs.declared.Outcome.{Outcome}
-use Rattle.outcome.specs.declared.Outcome.TheVariants.{Done, Refused}
-use Rattle.outcome.specs.declared.Verdict.{Verdict}
-use Rattle.outcome.specs.declared.Verdict.TheVariants.{Pass, Fail}
+use Rattle.outcome.specs.Figures.{Outcome, Verdict}
 use Rattle.outcome.specs.declared.Refusal.{Refusal}
 use Rattle.outcome.specs.declared.Refusal.TheVariants.{Settings as BadSettings, NoVault, NotBooked, WrongVault}
 use Rattle.sets.specs.Bits.{has_bit}
@@ -44,7 +41,7 @@ use Rattle.ledger.specs.State.{applied, history_at, is_sane, new_ledger, signers
 unfoldable pub new_of : ℕ → ℕ → ℕ → ℕ → Reply
 new_of n b faulty version =
     let l = new_ledger n b faulty version in
-    cond (is_lawful l.settings) (record { outcome = Done (threshold_of l.settings); ledger = l }) (record { outcome = Refused BadSettings; ledger = l })
+    cond (is_lawful l.settings) (record { outcome = Ok (threshold_of l.settings); ledger = l }) (record { outcome = Err BadSettings; ledger = l })
 
 -- ---- the checks that steps share
 
@@ -53,27 +50,27 @@ unfoldable pub gate_of : Settings → ℕ → Bool → Bool → Verdict
 gate_of s v faulty booked =
     cond (ltb v s.n)
     (cond (beq (has_bit s.faulty v) faulty)
-    (cond booked Pass (Fail NotBooked))
-    (Fail WrongVault))
-    (Fail NoVault)
+    (cond booked (Ok tt) (Err NotBooked))
+    (Err WrongVault))
+    (Err NoVault)
 
 -- check 1
 unfoldable pub sane_gate : Ledger → Verdict
-sane_gate l = cond (is_sane l) Pass (Fail BadSettings)
+sane_gate l = cond (is_sane l) (Ok tt) (Err BadSettings)
 
 -- checks 1 and 4
 unfoldable pub booked_gate : Ledger → List ℕ → ℕ → Verdict
 booked_gate l journal job =
-    cond (is_sane l) (cond (is_booked (version_of l) journal l.booked job) Pass (Fail NotBooked)) (Fail BadSettings)
+    cond (is_sane l) (cond (is_booked (version_of l) journal l.booked job) (Ok tt) (Err NotBooked)) (Err BadSettings)
 
 -- checks 1 and 4 of a step that names no job: "4 if some booked record isn't wholly inside the caller's book"
 unfoldable pub whole_gate : Ledger → List ℕ → Verdict
-whole_gate l journal = cond (is_sane l) (cond (is_whole (version_of l) journal l.booked) Pass (Fail NotBooked)) (Fail BadSettings)
+whole_gate l journal = cond (is_sane l) (cond (is_whole (version_of l) journal l.booked) (Ok tt) (Err NotBooked)) (Err BadSettings)
 
 -- checks 1, 3, 5 and 4
 unfoldable pub vault_gate : Ledger → List ℕ → ℕ → ℕ → Bool → Verdict
 vault_gate l journal v job faulty =
-    cond (is_sane l) (gate_of l.settings v faulty (is_booked (version_of l) journal l.booked job)) (Fail BadSettings)
+    cond (is_sane l) (gate_of l.settings v faulty (is_booked (version_of l) journal l.booked job)) (Err BadSettings)
 
 -- ---- what each kind of step decides
 
@@ -146,7 +143,7 @@ carried l d v job = record { outcome = d.outcome; ledger = applied l d.change v 
 
 -- a step that is turned back
 abbrev pub turned : Ledger → Refusal → Reply
-turned l why = record { outcome = Refused why; ledger = l }
+turned l why = record { outcome = Err why; ledger = l }
 
 -- the lent journal afterwards: a new record stands after the booked ones
 abbrev pub journal_with : Change → ℕ → ℕ → List ℕ → List ℕ → List ℕ

@@ -1,7 +1,7 @@
 -- Lists of steps ("The list of demand 3"): a step with its arguments and the journal that is lent for it, and what lasts from one
 -- step to the next. The steps are the functions that the contracts of src/ cite.
 use Rattle.std.specs.Prelude.{List, [], ◌++◌, ◌∷◌, ℕ, drop, length, take}
-use Rattle.outcome.specs.declared.Outcome.{Outcome}
+use Rattle.outcome.specs.Figures.{Outcome}
 use Rattle.codec.specs.Codec.{place_of}
 use Rattle.ledger.specs.State.{new_ledger, version_of}
 use Rattle.ledger.specs.Steps.{

@@ -48,9 +48,8 @@ use Rattle.ledger.specs.Steps.{
 }
 use Rattle.ledger.specs.declared.Decision.{Decision}
 use Rattle.ledger.specs.declared.Ledger.{Ledger}
-use Rattle.outcome.specs.Figures.{number_of, refusal_number}
-use Rattle.outcome.specs.declared.Outcome.{Outcome}
-use Rattle.outcome.specs.declared.Outcome.TheVariants.{Done, Refused}
+use Rattle.outcome.specs.Figures.{number_of, refusal_number, Outcome, Verdict}
+use Rattle.std.specs.Prelude.{Ok, Err}
 use Rattle.outcome.specs.declared.Refusal.{Refusal}
 use Rattle.outcome.specs.declared.Refusal.TheVariants.{
   Full,
@@ -71,8 +70,6 @@ use Rattle.outcome.specs.declared.Refusal.TheVariants.{
   Unsupported,
   WrongVault,
 }
-use Rattle.outcome.specs.declared.Verdict.{Verdict}
-use Rattle.outcome.specs.declared.Verdict.TheVariants.{Fail, Pass}
 use Rattle.queries.specs.Admission.{admission, consumed_at, not_created_at, remade_at}
 use Rattle.record.specs.declared.Job.{Job}
 use Rattle.runfile.specs.Run.{Run, command_of, text_next, text_of, turn}
@@ -92,8 +89,8 @@ use Rattle.load.specs.declared.Step.TheVariants.{Commit, Draw, FaultyAcknowledge
 
 -- ---- no check of a step has the number 2
 abbrev verdict_number : Verdict → ℕ
-verdict_number Pass = 0
-verdict_number (Fail why) = refusal_number why
+verdict_number (Ok (tt {0})) = 0
+verdict_number (Err why) = refusal_number why
 
 record Other (v : Verdict) : Type 0 where
   fails : eqb (verdict_number v) 2 ≡ false
@@ -101,16 +98,16 @@ record Other (v : Verdict) : Type 0 where
 record Answered (o : Outcome) : Type 0 where
   says : eqb (number_of o) 2 ≡ false
 
-pass : Other Pass
+pass : Other (Ok (tt {0}))
 pass = record { fails = refl }
 
-fail : (why : Refusal) → eqb (refusal_number why) 2 ≡ false → Other (Fail why)
+fail : (why : Refusal) → eqb (refusal_number why) 2 ≡ false → Other (Err why)
 fail why e = record { fails = e }
 
-done : (value : ℕ) → Answered (Done value)
+done : (value : ℕ) → Answered (Ok value)
 done value = record { says = refl }
 
-refused : (why : Refusal) → Other (Fail why) → Answered (Refused why)
+refused : (why : Refusal) → Other (Err why) → Answered (Err why)
 refused why o = record { says = o.fails }
 
 -- a row of checks, and what is decided behind it
@@ -119,8 +116,8 @@ row true x y p q = p
 row false x y p q = q
 
 behind : (g : Verdict) (d : Decision) → Other g → Answered d.outcome → Answered (gated g d).outcome
-behind Pass d p q = q
-behind (Fail why) d p q = refused why p
+behind (Ok (tt {0})) d p q = q
+behind (Err why) d p q = refused why p
 
 either : (b : Bool) (d e : Decision) → Answered d.outcome → Answered e.outcome → Answered (cond b d e).outcome
 either true d e p q = p
@@ -158,15 +155,15 @@ consents state d signers v k n = by (job_has state.signed k) d n
         → let answer : Signing = cond b (record { consent = Already; vault = state }) (consented d state k) in
         Answered (consenting answer.consent answer.vault signers v).outcome
     by true d n = done (ones signers)
-    by false Pass n = done (ones (with_member 16 signers v))
-    by false (Fail why) n = refused why n
+    by false (Ok (tt {0})) n = done (ones (with_member 16 signers v))
+    by false (Err why) n = refused why n
 
 module _ (l : Ledger) (journal : List ℕ) where
   is_sane_lem : Other (sane_gate l)
   unfolding sane_gate
   is_sane_lem = row (is_sane l) _ _ pass (fail BadSettings refl)
 
-  booked_or_lem : (k : ℕ) → Other (cond (is_booked (version_of l) journal l.booked k) Pass (Fail NotBooked))
+  booked_or_lem : (k : ℕ) → Other (cond (is_booked (version_of l) journal l.booked k) (Ok (tt {0})) (Err NotBooked))
   booked_or_lem k = row (is_booked (version_of l) journal l.booked k) _ _ pass (fail NotBooked refl)
 
   of_job_lem : (k : ℕ) → Other (booked_gate l journal k)
@@ -198,7 +195,7 @@ module _ (l : Ledger) (journal : List ℕ) where
   unfolding draw_of
   draws s u = by (is_lawful s) (leb u s.n) _
     where
-      by : (b c : Bool) (value : ℕ) → Answered (cond b (cond c (Done value) (Refused TooManyAbsent)) (Refused BadSettings))
+      by : (b c : Bool) (value : ℕ) → Answered (cond b (cond c (Ok value) (Err TooManyAbsent)) (Err BadSettings))
       by true true value = done value
       by true false value = refused TooManyAbsent (fail TooManyAbsent refl)
       by false c value = refused BadSettings (fail BadSettings refl)

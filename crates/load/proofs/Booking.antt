@@ -76,11 +76,10 @@ use Rattle.vaults.specs.declared.Consent.TheVariants.{Already, Denied, Fresh}
 use Rattle.ledger.specs.declared.Decision.{Decision}
 use Rattle.ledger.specs.declared.Ledger.{Ledger}
 use Rattle.vaults.specs.declared.Vault.{Vault}
-use Rattle.outcome.specs.declared.Outcome.TheVariants.{Done}
+use Rattle.outcome.specs.Figures.{Verdict}
+use Rattle.std.specs.Prelude.{Ok, Err}
 use Rattle.outcome.specs.declared.Refusal.TheVariants.{NoClient, NotHeld}
 use Rattle.checks.specs.Checks.{examined}
-use Rattle.outcome.specs.declared.Verdict.{Verdict}
-use Rattle.outcome.specs.declared.Verdict.TheVariants.{Fail, Pass}
 use Rattle.sets.specs.Bits.{has_bit}
 use Rattle.quota.specs.Quota.{is_client}
 use Rattle.job_sets.specs.Jobs.{job_has}
@@ -94,8 +93,8 @@ abbrev Calm : Decision → Type 0
 Calm d = is_book d.change ≡ false
 
 gated_calm : (g : Verdict) (d : Decision) → Calm d → Calm (gated g d)
-gated_calm Pass d h = h
-gated_calm (Fail why) d h = refl
+gated_calm (Ok (tt {0})) d h = h
+gated_calm (Err why) d h = refl
 
 if_calm : (b : Bool) (x y : Decision) → Calm x → Calm y → Calm (cond b x y)
 if_calm true x y h g = h
@@ -149,7 +148,7 @@ other_calm l journal (generations j) h =
 other_calm l journal snapshot h = gated_calm (sane_gate l) (snapshotting l.settings l.next l.seen (vault_at l l.next).held) refl
 other_calm l journal (release v j rival) h =
     let test = supersession (vault_at l v) (version_of l) journal l.booked j rival in
-    let released : Decision = record { outcome = Done (ones (signers_of l j)); change = Release (unsigning (vault_at l v) j) } in
+    let released : Decision = record { outcome = Ok (ones (signers_of l j)); change = Release (unsigning (vault_at l v) j) } in
     gated_calm (vault_gate l journal v j false) (gated test released) (gated_calm test released refl)
 other_calm l journal (dependencies v j) h = refl
 other_calm l journal (client_preflight v j client) h =
@@ -229,7 +228,7 @@ module _ (first : ℕ) (s : Settings) (k : ℕ) (l : Ledger) (journal : List ℕ
   }
 
   -- ---- a preflight passes checks 1, 3, 5 and 4
-  pub passes_gate : Lawful s → k ≤ 128 → (v j : ℕ) → v < s.n → has_bit s.faulty v ≡ false → j < k → vault_gate l journal v j false ≡ Pass
+  pub passes_gate : Lawful s → k ≤ 128 → (v j : ℕ) → v < s.n → has_bit s.faulty v ≡ false → j < k → vault_gate l journal v j false ≡ Ok (tt {0})
   unfolding vault_gate gate_of is_booked
   passes_gate w b v j vn f jk =
       simp (
@@ -254,7 +253,7 @@ module _ (first : ℕ) (s : Settings) (k : ℕ) (l : Ledger) (journal : List ℕ
     unfolding inside_of
     fresh = record {
       sane = sane w (omega arith);
-      passes = subst (λ (v : ℕ). examined v bytes ≡ Pass) (sym h.version) (record_passes first k small more);
+      passes = subst (λ (v : ℕ). examined v bytes ≡ Ok (tt {0})) (sym h.version) (record_passes first k small more);
       unknown = λ i b e. let c : i < k = omega (arith, b, h.booked) in
           let z : i ≡ k = records_differ first i k small (omega arith) more
           (sym (h.records i c) ∙ ap (λ (v : ℕ). slot_at v journal i) (sym h.version) ∙ e) in
@@ -263,7 +262,7 @@ module _ (first : ℕ) (s : Settings) (k : ℕ) (l : Ledger) (journal : List ℕ
       fits = fits_in (version_of l);
     }
 
-    decides : propose_decision l journal bytes ≡ record { outcome = Done l.booked; change = Book }
+    decides : propose_decision l journal bytes ≡ record { outcome = Ok l.booked; change = Book }
     decides = means l journal bytes _ (new fresh)
 
     put_standing : Standing first s (suc k) (booking l) (put_at 1 journal l.booked bytes)

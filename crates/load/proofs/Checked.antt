@@ -29,8 +29,8 @@ use Rattle.checks.specs.Checks.{
 use Rattle.codec.proofs.Jobs.{length_bytes_of}
 use Rattle.codec.proofs.RoundTrip.{job_record_job, said_same}
 use Rattle.codec.specs.Codec.{EntriesFit, JobFits, bytes_of, job_of, le_at, record_size, says_trimmed}
-use Rattle.outcome.specs.declared.Verdict.{Verdict}
-use Rattle.outcome.specs.declared.Verdict.TheVariants.{Fail, Pass}
+use Rattle.outcome.specs.Figures.{Verdict}
+use Rattle.std.specs.Prelude.{Ok, Err}
 use Rattle.drives.specs.Drives.{is_drive, supports}
 use Rattle.record.specs.Entries.{frames_of, is_used, label_of, no_entry, used_frames}
 use Rattle.record.specs.Labels.{char_at, is_alphanumeric, is_between, is_label, medium_of}
@@ -43,7 +43,7 @@ abbrev Fits : Entry → Type 0
 Fits e = (e.label < 2 ^ 64) × (e.frames < 2 ^ 32)
 
 -- ---- each kind of job, by computation; frames are known to be at least 1, and what is read to be what is written
-check_main : (f g r : ℕ) → r < 4 → 1 ≤ f → 1 ≤ g → check_of (main_job f g r) ≡ Pass
+check_main : (f g r : ℕ) → r < 4 → 1 ≤ f → 1 ≤ g → check_of (main_job f g r) ≡ Ok (tt {0})
 unfolding main_job label_for le_at check_of well_formed is_drive counts_formed inputs_formed trimmed_formed entry_formed is_filled is_blank is_used is_label medium_of char_at
     is_alphanumeric is_between frames_of label_of used_frames repeated_at has_label_of unsupported_at is_written supports balanced all_below any_below first_below sum_from
 check_main f g zero h p q = simp (le-leb 1 f p, le-leb 1 g q)
@@ -52,7 +52,7 @@ check_main f g (suc (suc zero)) h p q = simp (le-leb 1 f p, le-leb 1 g q, eq-eqb
 check_main f g (suc (suc (suc zero))) h p q = simp (le-leb 1 f p, le-leb 1 g q, eq-eqb (f + (g + 0)) (f + (g + 0) + 0) (omega arith))
 check_main f g (suc (suc (suc (suc r)))) h p q = absurd (omega arith)
 
-check_rival : (f r : ℕ) → r < 4 → 1 ≤ f → check_of (rival_job f r) ≡ Pass
+check_rival : (f r : ℕ) → r < 4 → 1 ≤ f → check_of (rival_job f r) ≡ Ok (tt {0})
 unfolding rival_job label_for le_at check_of well_formed is_drive counts_formed inputs_formed trimmed_formed entry_formed is_filled is_blank is_used is_label medium_of char_at
     is_alphanumeric is_between frames_of label_of used_frames repeated_at has_label_of unsupported_at is_written supports balanced all_below any_below first_below sum_from
 check_rival f zero h p = simp (le-leb 1 f p)
@@ -61,25 +61,25 @@ check_rival f (suc (suc zero)) h p = simp (le-leb 1 f p, eq-eqb (f + 0) (f + 0 +
 check_rival f (suc (suc (suc zero))) h p = simp (le-leb 1 f p, eq-eqb (f + 0) (f + 0 + 0) (omega arith))
 check_rival f (suc (suc (suc (suc r)))) h p = absurd (omega arith)
 
-pass_is : (v : Verdict) → is_pass v ≡ true → v ≡ Pass
-pass_is Pass e = refl
-pass_is (Fail why) e = absurd (true≢false (sym e))
+pass_is : (v : Verdict) → is_pass v ≡ true → v ≡ Ok (tt {0})
+pass_is (Ok (tt {0})) e = refl
+pass_is (Err why) e = absurd (true≢false (sym e))
 
 side_checked : all_below 40 (λ j. is_pass (check_of (side_job j))) ≡ true
 unfolding side_job label_for le_at check_of well_formed is_drive counts_formed inputs_formed trimmed_formed entry_formed is_filled is_blank is_used is_label medium_of char_at
     is_alphanumeric is_between frames_of label_of used_frames repeated_at has_label_of unsupported_at is_written supports balanced all_below any_below first_below sum_from
 side_checked = refl
 
-check_side : (j : ℕ) → j < 40 → check_of (side_job j) ≡ Pass
+check_side : (j : ℕ) → j < 40 → check_of (side_job j) ≡ Ok (tt {0})
 check_side j h = pass_is (check_of (side_job j)) (all_at (λ i. is_pass (check_of (side_job i))) 40 side_checked j h)
 
-check_job : (first j : ℕ) → j < 40 → check_of (job_for first j) ≡ Pass
+check_job : (first j : ℕ) → j < 40 → check_of (job_for first j) ≡ Ok (tt {0})
 unfolding job_for
 check_job first j h =
     by_cases (λ b. check_of (cond b (main_job (lower_frames first) (upper_frames first) (j / 10)) (cond (eqb (j % 10) 1) (rival_job (lower_frames first)
-    (j / 10)) (side_job j))) ≡ Pass) (eqb (j % 10) 0)
+    (j / 10)) (side_job j))) ≡ Ok (tt {0})) (eqb (j % 10) 0)
     (λ e. check_main (lower_frames first) (upper_frames first) (j / 10) (omega arith) (omega arith) (omega arith))
-    (λ e. by_cases (λ b. check_of (cond b (rival_job (lower_frames first) (j / 10)) (side_job j)) ≡ Pass) (eqb (j % 10) 1)
+    (λ e. by_cases (λ b. check_of (cond b (rival_job (lower_frames first) (j / 10)) (side_job j)) ≡ Ok (tt {0})) (eqb (j % 10) 1)
     (λ f. check_rival (lower_frames first) (j / 10) (omega arith) (omega arith))
     (λ f. check_side j h))
 
@@ -146,6 +146,6 @@ pub record_reads : (first j : ℕ) → first < 2 ^ 32 → j < 40 → job_of (byt
 record_reads first j b h = job_record_job 1 (job_for first j) (fits_job first j b h) ∙ said_same 1 (job_for first j) (inr (untrimmed first j))
 
 -- "Every record written passes checks 6 to 9"
-pub record_passes : (first j : ℕ) → first < 2 ^ 32 → j < 40 → examined 1 (bytes_of 1 (job_for first j)) ≡ Pass
+pub record_passes : (first j : ℕ) → first < 2 ^ 32 → j < 40 → examined 1 (bytes_of 1 (job_for first j)) ≡ Ok (tt {0})
 unfolding examined record_size says_trimmed
 record_passes first j b h = simp (length_bytes_of 1 (job_for first j) (eight first j), record_reads first j b h, check_job first j h)

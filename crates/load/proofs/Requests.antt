@@ -9,7 +9,7 @@ use Rattle.base.proofs.Reflect.{and_true}
 use Rattle.codec.specs.Codec.{le_at}
 use Rattle.federation.proofs.Lawful.{reflect_lawful}
 use Rattle.generator.specs.Generator.{drawn, next}
-use Rattle.outcome.specs.declared.Outcome.TheVariants.{Refused}
+use Rattle.std.specs.Prelude.{Err}
 use Rattle.outcome.specs.declared.Refusal.TheVariants.{Settings as BadSettings}
 use Rattle.digits.proofs.Writing.{then}
 use Rattle.digits.specs.Digits.{Put}
@@ -48,6 +48,6 @@ pub answered : {o q : List ℕ} {r : ℕ} (input : List ℕ) (seed : ℕ) → is
 unfolding answer_of
 answered input seed e f w = rw e (rw f at w)
 
-pub declined : {o q : List ℕ} {r : ℕ} (input : List ℕ) → is_request input ≡ false → Put o 0 (line_for 0 (Refused BadSettings)) q r → Put o 0 (answer_of input) q r
+pub declined : {o q : List ℕ} {r : ℕ} (input : List ℕ) → is_request input ≡ false → Put o 0 (line_for 0 (Err BadSettings)) q r → Put o 0 (answer_of input) q r
 unfolding answer_of
 declined input e w = rw e w

@@ -1,6 +1,6 @@
 -- What a run answers each step of its input, and the lines that say so.
 use Rattle.std.specs.Prelude.{List, [], ◌++◌, ◌∷◌, map, ◌+◌, ℕ, length}
-use Rattle.outcome.specs.declared.Outcome.{Outcome}
+use Rattle.outcome.specs.Figures.{Outcome}
 use Rattle.runfile.specs.Run.{Run, begins, command_of}
 use Rattle.runfile.specs.Steps.{reply_of}
 use Rattle.text.specs.Text.{line_for}

@@ -1,9 +1,8 @@
 -- The whole load: the header and 200 steps, or refusal 1's line.
-use Rattle.std.specs.Prelude.{Bool, ◌&&◌, cond, List, [], ◌++◌, ◌∷◌, suc, zero, ℕ, eqb, get_or, length}
+use Rattle.std.specs.Prelude.{Bool, ◌&&◌, cond, List, [], ◌++◌, ◌∷◌, suc, zero, ℕ, eqb, get_or, length, Err}
 use Rattle.codec.specs.Codec.{le_at}
 use Rattle.federation.specs.Federation.{is_lawful}
 use Rattle.generator.specs.Generator.{drawn, next}
-use Rattle.outcome.specs.declared.Outcome.TheVariants.{Refused}
 use Rattle.outcome.specs.declared.Refusal.TheVariants.{Settings as BadSettings}
 use Rattle.text.specs.Text.{line_for}
 use Rattle.load.specs.Plans.{faulty_of, plan_of}
@@ -38,4 +37,4 @@ is_request input = eqb (length input) 10 && is_lawful (record { n = get_or input
 -- "Settings that a run file may not have, or an input of another length, print `0 1 0` and no load."
 unfoldable pub answer_of : List ℕ → List ℕ
 answer_of input =
-    cond (is_request input) (load_bytes (le_at input 0 8) (get_or input 8 0) (get_or input 9 0)) (line_for 0 (Refused BadSettings))
+    cond (is_request input) (load_bytes (le_at input 0 8) (get_or input 8 0) (get_or input 9 0)) (line_for 0 (Err BadSettings))

@@ -1,13 +1,11 @@
 -- What is promised of every load (document 02, M-106): the statement.
-use Rattle.std.specs.Prelude.{true, map, ◌≡◌, ◌*◌, ◌<◌, ◌≤◌, ℕ, length}
+use Rattle.std.specs.Prelude.{true, map, ◌≡◌, ◌*◌, ◌<◌, ◌≤◌, ℕ, length, Ok}
 use Rattle.base.specs.Lists.{In, keep_if}
 use Rattle.checks.specs.Checks.{examined}
 use Rattle.codec.specs.Codec.{bytes_of}
 use Rattle.federation.specs.Federation.{Lawful}
 use Rattle.generator.specs.Generator.{drawn, next}
-use Rattle.outcome.specs.Figures.{number_of}
-use Rattle.outcome.specs.declared.Outcome.{Outcome}
-use Rattle.outcome.specs.declared.Verdict.TheVariants.{Pass}
+use Rattle.outcome.specs.Figures.{number_of, Outcome}
 use Rattle.runfile.specs.History.{steps}
 use Rattle.runfile.specs.Run.{begins, opens, run_text}
 use Rattle.load.specs.Answers.{lines_after, outcomes_of}
@@ -33,7 +31,7 @@ pub record Promises (seed n b : ℕ) : Type 0 where
   pub answered : length (outcomes_of (load_bytes seed n b)) ≡ 200
   pub readable : (o : Outcome) → In o (outcomes_of (load_bytes seed n b)) → number_of o ≡ 2 → ⊥
   -- "Every record written passes checks 6 to 9", and no other job's record is written
-  pub passes : (j : ℕ) → j < 40 → examined 1 (bytes_of 1 (job_for (first_draw seed) j)) ≡ Pass
+  pub passes : (j : ℕ) → j < 40 → examined 1 (bytes_of 1 (job_for (first_draw seed) j)) ≡ Ok tt
   pub forty : (j : ℕ) → In (Propose j) (steps_of seed n b) → j < 40
   -- "At least forty different records are proposed"
   pub proposed : (j : ℕ) → j < 40 → In (Propose j) (steps_of seed n b)

@@ -1,16 +1,15 @@
 -- Which steps of a run are preflights of booked jobs at correct vaults.
-use Rattle.std.specs.Prelude.{Bool, cond, false, true, List, [], ◌∷◌, suc, zero, ℕ}
+use Rattle.std.specs.Prelude.{Bool, cond, false, true, List, [], ◌∷◌, suc, zero, ℕ, Ok, Err}
 use Rattle.ledger.specs.Steps.{vault_gate}
 use Rattle.ledger.specs.Worlds.{Request, client_preflight, commit, dependencies, equivocating, faulty_vote, generations, preflight, propose, release, show}
 use Rattle.ledger.specs.Worlds.{snapshot}
-use Rattle.outcome.specs.declared.Verdict.{Verdict}
-use Rattle.outcome.specs.declared.Verdict.TheVariants.{Fail, Pass}
+use Rattle.outcome.specs.Figures.{Verdict}
 use Rattle.runfile.specs.Run.{Run, command_of, ended, turn}
 use Rattle.runfile.specs.Steps.{Command, draw, request, unreadable}
 
 abbrev pub is_pass : Verdict → Bool
-is_pass Pass = true
-is_pass (Fail why) = false
+is_pass (Ok tt) = true
+is_pass (Err why) = false
 
 -- a preflight that passes checks 3, 5 and 4: "of booked jobs at sound vaults"
 abbrev pub is_well_asked : Run → Request → Bool

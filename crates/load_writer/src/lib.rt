@@ -99,5 +99,5 @@ pub fn load(input: &[u8], out: &mut [u8; 20209]) -> usize
     if is_request(input) {
         return put_load(out, seed_of(input), input[8], input[9]);
     }
-    text::write_line(out, 0, 0, Outcome::Refused(Refusal::Settings))
+    text::write_line(out, 0, 0, Err(Refusal::Settings))
 }

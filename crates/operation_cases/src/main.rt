@@ -18,8 +18,8 @@ const JOURNAL: usize = 13312;
 
 // The two figures of an answer.
 fn print_figures(rt: &HostRuntime, outcome: Outcome) -> io::Result<()> {
-    let number = outcome.number();
-    let value = outcome.value();
+    let number = outcome::number(outcome);
+    let value = outcome::value(outcome);
     print!(rt; " {number} {value}")
 }
 

@@ -43,7 +43,7 @@ fn count(given: Signing, client: u8, history: u16, signers: u16, vault: u8) -> D
 {
     let consent = given.consent;
     match consent {
-        Consent::Already => note(Outcome::Done(sets::vaults::size(signers)), client, history),
+        Consent::Already => note(Ok(sets::vaults::size(signers)), client, history),
         Consent::Fresh => {
             let state = given.vault;
             let entered = enter(client, history, true);
@@ -53,7 +53,7 @@ fn count(given: Signing, client: u8, history: u16, signers: u16, vault: u8) -> D
             };
             decisions::vote(signers, vault, Change::Grant(grant))
         }
-        Consent::Denied(why) => note(Outcome::Refused(why), client, history),
+        Consent::Denied(why) => note(Err(why), client, history),
     }
 }
 
@@ -72,7 +72,7 @@ fn within_quota(
     ensures { result ≡ within_quota history (admission_at state version journal.now booked job) }
 {
     if quota::is_spent(history) {
-        return Verdict::Fail(Refusal::OverQuota);
+        return Err(Refusal::OverQuota);
     }
     crate::admission_at(state, numbers, sets, version, journal, booked, job)
 }
@@ -95,7 +95,7 @@ fn ask(
     ensures { result ≡ counted_consent state (admission_at state version journal.now booked job) client history signers vault job }
 {
     if state.signed.has(job) {
-        return note(Outcome::Done(sets::vaults::size(signers)), client, history);
+        return note(Ok(sets::vaults::size(signers)), client, history);
     }
     let verdict = within_quota(state, numbers, sets, version, journal, booked, history, job);
     count(
@@ -151,9 +151,9 @@ pub fn client_preflight(
     ensures { result ≡ gated gate (client_preflighting state version journal.now booked client history signers vault job) }
 {
     match gate {
-        Verdict::Pass => consult_for(
+        Ok(()) => consult_for(
             state, numbers, sets, version, journal, booked, client, history, signers, vault, job,
         ),
-        Verdict::Fail(why) => decisions::refuse(why),
+        Err(why) => decisions::refuse(why),
     }
 }

@@ -91,9 +91,9 @@ pub fn preflight(
     ensures { result ≡ gated gate (preflighting state version journal.now booked signers vault job) }
 {
     match gate {
-        Verdict::Pass => consult(
+        Ok(()) => consult(
             state, numbers, sets, version, journal, booked, signers, vault, job,
         ),
-        Verdict::Fail(why) => decisions::refuse(why),
+        Err(why) => decisions::refuse(why),
     }
 }

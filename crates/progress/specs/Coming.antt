@@ -1,7 +1,6 @@
 -- How far a run has come from where it was carried on, step by step. By this `advance` and `turn` speak to the loop that both are.
-use Rattle.std.specs.Prelude.{Bool, false, true, List, ◌++◌, ◌⊎◌, ◌≡◌, ◌*◌, ◌+◌, ◌<◌, ◌≤◌, ℕ, length}
-use Rattle.outcome.specs.declared.Outcome.{Outcome}
-use Rattle.outcome.specs.declared.Outcome.TheVariants.{Done}
+use Rattle.std.specs.Prelude.{Bool, false, true, List, ◌++◌, ◌⊎◌, ◌≡◌, ◌*◌, ◌+◌, ◌<◌, ◌≤◌, ℕ, length, Ok}
+use Rattle.outcome.specs.Figures.{Outcome}
 use Rattle.job_sets.specs.Jobs.{no_jobs}
 use Rattle.job_sets.specs.declared.job_set.JobSet.{JobSet}
 use Rattle.ledger.specs.declared.Ledger.{Ledger}
@@ -17,7 +16,7 @@ use Rattle.progress.specs.Pieces.{Going, run_of}
 use Rattle.progress.specs.Turns.{Holds, Stepped}
 
 abbrev pub cursor_at : ℕ → ℕ → ℕ → Cursor
-cursor_at pos count at = record { pos = pos; count = count; at = at; outcome = Done 0; members = no_jobs }
+cursor_at pos count at = record { pos = pos; count = count; at = at; outcome = Ok 0; members = no_jobs }
 
 abbrev pub moved_to : Step → ℕ → Outcome → JobSet → Cursor
 moved_to s at outcome members = record { pos = s.end; count = s.number; at = at; outcome = outcome; members = members }

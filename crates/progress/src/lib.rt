@@ -65,7 +65,7 @@ pub fn cursor_at(pos: usize, count: u32, at: usize) -> Cursor
         pos,
         count,
         at,
-        outcome: Outcome::Done(0),
+        outcome: Ok(0),
         members: JobSet::empty(),
     }
 }

@@ -21,7 +21,7 @@ fn place(equal: usize, inside: usize, booked: usize, room: bool) -> Decision
     }
     if room {
         return Decision {
-            outcome: Outcome::Done(booked as u32),
+            outcome: Ok(booked as u32),
             change: Change::Book,
         };
     }
@@ -66,7 +66,7 @@ pub fn propose(
     let job = records::read(version, bytes);
     let verdict = examination::check(job);
     match verdict {
-        Verdict::Pass => settle(records, version, journal, booked, bytes, job),
-        Verdict::Fail(why) => decisions::refuse(why),
+        Ok(()) => settle(records, version, journal, booked, bytes, job),
+        Err(why) => decisions::refuse(why),
     }
 }

@@ -12,8 +12,8 @@ use Rattle.base.proofs.Reflect.{and_true, by_test, not_true_false, or_intro, or_
 use Rattle.base.proofs.Search.{any_elim, any_intro, any_none, first_any, first_least, first_none, found_none, least_first, none_any}
 use Rattle.base.specs.Search.{any_below, first_below}
 use Rattle.outcome.specs.declared.Refusal.TheVariants.{InputReserved, NotCreated, OutputReserved, Retired}
-use Rattle.outcome.specs.declared.Verdict.{Verdict}
-use Rattle.outcome.specs.declared.Verdict.TheVariants.{Fail, Pass}
+use Rattle.outcome.specs.Figures.{Verdict}
+use Rattle.std.specs.Prelude.{Ok, Err}
 use Rattle.conflicts.specs.Conflicts.{label_in}
 use Rattle.record.specs.Entries.{is_used, label_of}
 use Rattle.record.specs.declared.Job.{Job}
@@ -175,9 +175,9 @@ module _ (job : ℕ → Job) (n : ℕ) (numbers sets : List ℕ) (t : Entered jo
   -- each check by the index is the vaults' check, whatever follows it
   created : (rest : Verdict) → let m = first_offending numbers sets (job k).inputs (places + 8 * k) 2 held in
       let f = first_below 8 (not_created_at job n held (job k)) in
-      cond (ltb m 4) (Fail (NotCreated m)) rest ≡ cond (ltb f 8) (Fail (NotCreated f)) rest
+      cond (ltb m 4) (Err (NotCreated m)) rest ≡ cond (ltb f 8) (Err (NotCreated f)) rest
   unfolding first_offending not_created_at
-  created rest = of_inputs _ _ missing_same (λ e l. not_input _ e l) (λ m. Fail (NotCreated m)) rest
+  created rest = of_inputs _ _ missing_same (λ e l. not_input _ e l) (λ m. Err (NotCreated m)) rest
 
   consumed : (F : ℕ → Verdict) (s : JobSet) → InWords s → (rest : Verdict) → let m = first_offending numbers sets (job k).inputs (8 * k) 0 s in
       let f = first_below 8 (consumed_at job n s (job k)) in
@@ -187,10 +187,10 @@ module _ (job : ℕ → Job) (n : ℕ) (numbers sets : List ℕ) (t : Entered jo
 
   remade : let m = first_offending numbers sets (job k).outputs (8 * k + 4) 1 (job_union held others) in
       let f = first_below 8 (remade_at job n held others (job k)) in
-      cond (ltb m 4) (Fail (OutputReserved (4 + m))) Pass ≡ cond (ltb f 8) (Fail (OutputReserved f)) Pass
+      cond (ltb m 4) (Err (OutputReserved (4 + m))) (Ok (tt {0})) ≡ cond (ltb f 8) (Err (OutputReserved f)) (Ok (tt {0}))
   unfolding first_offending remade_at
   remade =
-      four_of_eight 4 (omega arith) _ _ remade_same (λ e l. not_output _ e l) (λ e l h. absurd (omega arith)) (λ m. Fail (OutputReserved m)) Pass
+      four_of_eight 4 (omega arith) _ _ remade_same (λ e l. not_output _ e l) (λ e l h. absurd (omega arith)) (λ m. Err (OutputReserved m)) (Ok (tt {0}))
     where
       not_output : (b : Bool) (e : ℕ) → e < 4 → (leb 4 e && b) ≡ false
       not_output b e l = simp (lt-leb 4 e l)
@@ -207,10 +207,10 @@ module _ (job : ℕ → Job) (n : ℕ) (numbers sets : List ℕ) (t : Entered jo
   either : (rest : Verdict) → let r = first_offending numbers sets (job k).inputs (8 * k) 0 (job_union held others) in
       let a = first_offending numbers sets (job k).inputs (8 * k) 0 held in
       let b = first_offending numbers sets (job k).inputs (8 * k) 0 others in
-      cond (ltb r 4) (cond (ltb a 4) (Fail (Retired a)) (cond (ltb b 4) (Fail (InputReserved b)) Pass)) rest
-      ≡ cond (ltb a 4) (Fail (Retired a)) (cond (ltb b 4) (Fail (InputReserved b)) rest)
+      cond (ltb r 4) (cond (ltb a 4) (Err (Retired a)) (cond (ltb b 4) (Err (InputReserved b)) (Ok (tt {0})))) rest
+      ≡ cond (ltb a 4) (Err (Retired a)) (cond (ltb b 4) (Err (InputReserved b)) rest)
   unfolding first_offending
-  either rest = either_first _ _ _ either_same (λ m. Fail (Retired m)) (λ m. Fail (InputReserved m)) rest Pass
+  either rest = either_first _ _ _ either_same (λ m. Err (Retired m)) (λ m. Err (InputReserved m)) rest (Ok (tt {0}))
 
   -- by the index, as the vaults check
   pub by_index : admission_by numbers sets (job k).inputs (job k).outputs held others k ≡ admission job n held others (job k)
@@ -219,12 +219,12 @@ module _ (job : ℕ → Job) (n : ℕ) (numbers sets : List ℕ) (t : Entered jo
       let missing = first_below 8 (not_created_at job n held (job k)) in
       let retired = first_below 8 (consumed_at job n held (job k)) in
       let reserved = first_below 8 (consumed_at job n others (job k)) in
-      let first : Verdict → Verdict = λ r. cond (ltb missing 8) (Fail (NotCreated missing)) r in
-      let second : Verdict → Verdict = λ r. first (cond (ltb retired 8) (Fail (Retired retired)) r) in
-      let third : Verdict → Verdict = λ r. second (cond (ltb reserved 8) (Fail (InputReserved reserved)) r) in
+      let first : Verdict → Verdict = λ r. cond (ltb missing 8) (Err (NotCreated missing)) r in
+      let second : Verdict → Verdict = λ r. first (cond (ltb retired 8) (Err (Retired retired)) r) in
+      let third : Verdict → Verdict = λ r. second (cond (ltb reserved 8) (Err (InputReserved reserved)) r) in
       created _ ∙ ap first (either _)
-      ∙ ap first (consumed (λ m. Fail (Retired m)) held hw _)
-      ∙ ap second (consumed (λ m. Fail (InputReserved m)) others ow _) ∙ ap third remade
+      ∙ ap first (consumed (λ m. Err (Retired m)) held hw _)
+      ∙ ap second (consumed (λ m. Err (InputReserved m)) others ow _) ∙ ap third remade
 
 -- checks 11 to 14 of a booked job by the counts of its record
 pub admission_booked : (version : ℕ) (journal : List ℕ) (n : ℕ) (numbers sets : List ℕ) → IndexedEntries version journal n numbers sets

@@ -1,9 +1,8 @@
 -- Checks 11 to 14 ("Vaults" and "Turned back"), over the booked jobs, two sets of them and a job: `held` are the jobs that the
 -- vault holds, and `others` the other jobs that it signed.
-use Rattle.std.specs.Prelude.{Bool, cond, not, ◌&&◌, ◌||◌, ℕ, leb, ltb}
+use Rattle.std.specs.Prelude.{Bool, cond, not, ◌&&◌, ◌||◌, ℕ, leb, ltb, Ok, Err}
 use Rattle.base.specs.Search.{any_below, first_below}
-use Rattle.outcome.specs.declared.Verdict.{Verdict}
-use Rattle.outcome.specs.declared.Verdict.TheVariants.{Pass, Fail}
+use Rattle.outcome.specs.Figures.{Verdict}
 use Rattle.outcome.specs.declared.Refusal.TheVariants.{NotCreated, Retired, InputReserved, OutputReserved}
 use Rattle.job_sets.specs.declared.job_set.JobSet.{JobSet}
 use Rattle.job_sets.specs.Jobs.{job_has}
@@ -48,10 +47,10 @@ module _ (job : ℕ → Job) (booked : ℕ) where
   unfoldable pub admission : JobSet → JobSet → Job → Verdict
   admission held others j =
       let missing = first_below 8 (not_created_at held j) in
-      cond (ltb missing 8) (Fail (NotCreated missing))
+      cond (ltb missing 8) (Err (NotCreated missing))
       (let retired = first_below 8 (consumed_at held j) in
-      cond (ltb retired 8) (Fail (Retired retired))
+      cond (ltb retired 8) (Err (Retired retired))
       (let reserved = first_below 8 (consumed_at others j) in
-      cond (ltb reserved 8) (Fail (InputReserved reserved))
+      cond (ltb reserved 8) (Err (InputReserved reserved))
       (let remade = first_below 8 (remade_at held others j) in
-      cond (ltb remade 8) (Fail (OutputReserved remade)) Pass)))
+      cond (ltb remade 8) (Err (OutputReserved remade)) (Ok tt))))

@@ -58,12 +58,12 @@ fn consumed(
     ensures { result ≡ consumed_by numbers.now sets.now inputs held others job }
 {
     if let Some(retired) = first_offending(numbers, sets, inputs, 8 * job, READERS, held) {
-        return Verdict::Fail(Refusal::Retired(retired as u8));
+        return Err(Refusal::Retired(retired as u8));
     }
     if let Some(reserved) = first_offending(numbers, sets, inputs, 8 * job, READERS, others) {
-        return Verdict::Fail(Refusal::InputReserved(reserved as u8));
+        return Err(Refusal::InputReserved(reserved as u8));
     }
-    Verdict::Pass
+    Ok(())
 }
 
 // Check 14, against the jobs that are held or signed.
@@ -72,9 +72,9 @@ fn remade(numbers: &[u16], sets: &[u64], outputs: usize, known: JobSet, job: usi
     ensures { result ≡ remade_by numbers.now sets.now outputs known job }
 {
     if let Some(remade) = first_offending(numbers, sets, outputs, 8 * job + 4, WRITERS, known) {
-        return Verdict::Fail(Refusal::OutputReserved(4 + remade as u8));
+        return Err(Refusal::OutputReserved(4 + remade as u8));
     }
-    Verdict::Pass
+    Ok(())
 }
 
 // Of a job with so many inputs and outputs. Which of checks 12 and 13 fails is looked for only where one does.
@@ -92,7 +92,7 @@ fn admission_by(
 {
     let at = 8 * job;
     if let Some(missing) = first_offending(numbers, sets, inputs, PLACES + at, MAKERS, held) {
-        return Verdict::Fail(Refusal::NotCreated(missing as u8));
+        return Err(Refusal::NotCreated(missing as u8));
     }
     let known = held.union(others);
     if first_offending(numbers, sets, inputs, at, READERS, known).is_some() {

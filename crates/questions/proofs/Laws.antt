@@ -4,9 +4,9 @@ use mathlib.Core.List.{List}
 use mathlib.Core.Path.{◌∙◌, ◌≡◌, ap, sym}
 use Prim.Native.Nat.{◌%◌, ℕ}
 use lib.ListN.{get_or, length}
-use Rattle.outcome.specs.declared.Outcome.TheVariants.{Refused}
+use Rattle.outcome.specs.Figures.{Verdict}
+use Rattle.std.specs.Prelude.{Err}
 use Rattle.outcome.specs.declared.Refusal.TheVariants.{NotBooked}
-use Rattle.outcome.specs.declared.Verdict.{Verdict}
 use Rattle.job_sets.specs.declared.job_set.JobSet.{JobSet}
 use Rattle.journal.specs.Journal.{capacity, is_booked, is_whole, job_at}
 use Rattle.generations.specs.Memo.{Memo}
@@ -34,7 +34,7 @@ module _ (a : Books) (order journal memo : List ℕ) (job : ℕ) (b : Bool) (e :
   }
 
   pub unbooked : b ≡ false → Memo (job_at a.settings.version journal a.booked) order a.arrivals memo → length memo ≡ capacity
-      → r ≡ alone (Refused NotBooked) → Answered a order journal memo (alone (aged a order journal job).outcome) r
+      → r ≡ alone (Err NotBooked) → Answered a order journal memo (alone (aged a order journal job).outcome) r
   unfolding booked_or
   unbooked f m z q = record { told = q ∙ ap alone (simp (sym e ∙ f)); right = m; size = z }
 

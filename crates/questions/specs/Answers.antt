@@ -1,6 +1,6 @@
 -- What a step answers and lists that looks at all vaults.
 use Rattle.std.specs.Prelude.{Bool, cond, false, true, List, ◌≡◌, ◌%◌, ℕ, get_or, length}
-use Rattle.outcome.specs.declared.Outcome.{Outcome}
+use Rattle.outcome.specs.Figures.{Outcome}
 use Rattle.job_sets.specs.Jobs.{no_jobs}
 use Rattle.job_sets.specs.declared.job_set.JobSet.{JobSet}
 use Rattle.journal.specs.Journal.{capacity, is_booked, is_whole, job_at}

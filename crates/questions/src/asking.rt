@@ -55,7 +55,7 @@ fn age(
         let outcome = decision.outcome;
         return alone(outcome);
     }
-    alone(Outcome::Refused(Refusal::NotBooked))
+    alone(Err(Refusal::NotBooked))
 }
 
 // Kind 11.

@@ -12,8 +12,8 @@ use Rattle.base.proofs.Search.{first_complete, first_end_complete, first_end_sou
 use Rattle.base.specs.Reflect.{Reflects}
 use Rattle.base.specs.Search.{Every, all_below, first_below}
 use Rattle.outcome.specs.declared.Refusal.TheVariants.{Malformed, NoneBalances, Reversed}
-use Rattle.outcome.specs.declared.Verdict.{Verdict}
-use Rattle.outcome.specs.declared.Verdict.TheVariants.{Fail, Pass}
+use Rattle.outcome.specs.Figures.{Verdict}
+use Rattle.std.specs.Prelude.{Ok, Err}
 use Rattle.record.proofs.Meaning.{reflect_used}
 use Rattle.record.specs.Meaning.{Label, Used}
 use Rattle.record.specs.declared.Job.{Job}
@@ -60,12 +60,12 @@ module _ (e : Estimate) where
   ranged : length e.ranges ≡ 8 → Fit e → Told e (settle Later e)
   unfolding order_of balance_of
   ranged n fit =
-      by_cases (λ b. Told e (settle (first_failing (cond b (Fail (Reversed (first_below 8 (is_reversed e)))) Pass) (balance_of e)) e))
+      by_cases (λ b. Told e (settle (first_failing (cond b (Err (Reversed (first_below 8 (is_reversed e)))) (Ok (tt {0}))) (balance_of e)) e))
       (ltb (first_below 8 (is_reversed e)) 8)
       (λ d. reversed _ fit (first_sound 8 reverses _ (ltb-true _ _ d) refl))
       (λ d.
       let none = first_end_sound 8 reverses (unfound _ 8 d) in
-      by_cases (λ b. Told e (settle (cond b Pass (Fail NoneBalances)) e)) (can_balance e)
+      by_cases (λ b. Told e (settle (cond b (Ok (tt {0})) (Err NoneBalances)) e)) (can_balance e)
       (λ t. tightened fit none _ (tightest e n (ordered none) t))
       (λ t. none_balances fit none (λ x c. refuted (reflect_balance e (ordered none)) t (x, c))))
 
@@ -81,7 +81,7 @@ module _ (e : Estimate) where
   unfolding tighten_of checks_of form_of
   tighten_told n =
       by_cases
-      (λ b. Told e (settle (first_failing (cond b (without_balance (check_of Lowest)) (Fail Malformed)) Later) e))
+      (λ b. Told e (settle (first_failing (cond b (without_balance (check_of Lowest)) (Err Malformed)) Later) e))
       (all_below 8 (is_bounded e Lowest))
       (λ d. answered n (reflect_bounds.sound d) (check_of Lowest) (check_answers Lowest))
       (λ d. malformed (λ f. refuted reflect_bounds d f.unused))
@@ -94,7 +94,7 @@ module _ (e : Estimate) where
   unfolding form_of
   formed_form f v a = simp (bounded f, answers_check Lowest v a)
 
-  malformed_form : (Formed e → ⊥) → form_of e ≡ Fail Malformed
+  malformed_form : (Formed e → ⊥) → form_of e ≡ Err Malformed
   unfolding form_of
   malformed_form f =
       by_test (all_below 8 (is_bounded e Lowest))
@@ -102,7 +102,7 @@ module _ (e : Estimate) where
       (λ t. simp t)
 
   -- what check 9 says of the lowest counts makes no difference
-  fit_form : Fit e → form_of e ≡ Pass
+  fit_form : Fit e → form_of e ≡ Ok (tt {0})
   fit_form fit =
       let f = fit.formed in
       by_test (balanced Lowest)
@@ -133,8 +133,8 @@ module _ (e : Estimate) where
   accession_keeps k = kept (checks_of e)
     where
       kept : (v : Verdict) → (settle v e).ranges ≡ e.ranges
-      kept Pass = simp (ne_eqb e.kind 1 (λ d. absurd (omega arith)))
-      kept (Fail r) = refl
+      kept (Ok (tt {0})) = simp (ne_eqb e.kind 1 (λ d. absurd (omega arith)))
+      kept (Err r) = refl
 
   -- a choice gives an unused entry 0
   pub unused_zero : (x : ℕ → ℕ) → Formed e → Balancing e x → Every 8 (λ i. (Used Lowest i → ⊥) → x i ≡ 0)

@@ -10,8 +10,8 @@ use Rattle.base.proofs.Reflect.{reflect_and, reflect_as, reflect_le}
 use Rattle.base.specs.Reflect.{Reflects}
 use Rattle.outcome.specs.declared.Refusal.{Refusal}
 use Rattle.outcome.specs.declared.Refusal.TheVariants.{NoneBalances}
-use Rattle.outcome.specs.declared.Verdict.{Verdict}
-use Rattle.outcome.specs.declared.Verdict.TheVariants.{Fail, Pass}
+use Rattle.outcome.specs.Figures.{Verdict}
+use Rattle.std.specs.Prelude.{Ok, Err}
 use Rattle.ranges.specs.Ranges.{list_from}
 use Rattle.ranges.specs.Spans.{Meeting}
 use Rattle.ranges.specs.Form.{form_of}
@@ -40,19 +40,19 @@ unfolding can_balance
 migration_meets e k = simp (eq-eqb e.kind 1 k)
 
 -- ---- checks that pass
-fail_pass : (r : Refusal) → Fail r ≡ Pass → ⊥
+fail_pass : (r : Refusal) → Err r ≡ Ok (tt {0}) → ⊥
 fail_pass r e = let z : true ≡ false = cc in true≢false z
 
-both_pass : (v w : Verdict) → first_failing v w ≡ Pass → (v ≡ Pass) × (w ≡ Pass)
-both_pass Pass w e = (refl, e)
-both_pass (Fail r) w e = absurd (fail_pass r e)
+both_pass : (v w : Verdict) → first_failing v w ≡ Ok (tt {0}) → (v ≡ Ok (tt {0})) × (w ≡ Ok (tt {0}))
+both_pass (Ok (tt {0})) w e = (refl, e)
+both_pass (Err r) w e = absurd (fail_pass r e)
 
-balance_pass : (b : Bool) (r : Refusal) → cond b Pass (Fail r) ≡ Pass → b ≡ true
+balance_pass : (b : Bool) (r : Refusal) → cond b (Ok (tt {0})) (Err r) ≡ Ok (tt {0}) → b ≡ true
 balance_pass true r e = refl
 balance_pass false r e = absurd (fail_pass r e)
 
 -- 25 has passed where all have
-pub checks_balance : (e : Estimate) (v : Verdict) → v ≡ checks_of e → v ≡ Pass → can_balance e ≡ true
+pub checks_balance : (e : Estimate) (v : Verdict) → v ≡ checks_of e → v ≡ Ok (tt {0}) → can_balance e ≡ true
 unfolding checks_of balance_of
 checks_balance e v p q =
     balance_pass (can_balance e) NoneBalances (both_pass (order_of e) (balance_of e) (both_pass (form_of e) _ (sym p ∙ q)).1).1

@@ -3,8 +3,8 @@ use mathlib.Core.List.{List, [], ◌∷◌}
 use mathlib.Core.Path.{◌≡◌, refl}
 use Prim.Native.Nat.{ℕ}
 use Rattle.base.specs.Search.{all_below, any_below, first_below, sum_from}
-use Rattle.outcome.specs.declared.Outcome.{Outcome}
-use Rattle.outcome.specs.declared.Outcome.TheVariants.{Done, Refused}
+use Rattle.outcome.specs.Figures.{Outcome}
+use Rattle.std.specs.Prelude.{Ok, Err}
 use Rattle.outcome.specs.declared.Refusal.TheVariants.{Malformed, NoneBalances, Reversed}
 use Rattle.drives.specs.Drives.{is_drive, supports}
 use Rattle.record.specs.Entries.{frames_of, is_used, label_of, used_frames}
@@ -53,18 +53,18 @@ rows =
     record {
       known = ranges (to 1000 1000) no_range (to 100 900) (to 300 400);
       trimmed = 0;
-      outcome = Done 0;
+      outcome = Ok 0;
       ranges = ranges (to 1000 1000) no_range (to 600 700) (to 300 400);
     }
     ∷ record {
       known = ranges (to 1000 1000) no_range (to 100 900) (to 300 400);
       trimmed = 50;
-      outcome = Done 0;
+      outcome = Ok 0;
       ranges = ranges (to 1000 1000) no_range (to 550 650) (to 300 400);
     }
-    ∷ refused (ranges (to 10 10) no_range (to 5 10) (to 6 10)) 0 (Refused NoneBalances)
-    ∷ refused (ranges (to 10 10) no_range (to 5 4) (to 6 10)) 0 (Refused (Reversed 4))
-    ∷ refused (ranges (to 10 10) (to 0 1) (to 5 4) (to 6 10)) 0 (Refused Malformed)
+    ∷ refused (ranges (to 10 10) no_range (to 5 10) (to 6 10)) 0 (Err NoneBalances)
+    ∷ refused (ranges (to 10 10) no_range (to 5 4) (to 6 10)) 0 (Err (Reversed 4))
+    ∷ refused (ranges (to 10 10) (to 0 1) (to 5 4) (to 6 10)) 0 (Err Malformed)
     ∷ []
 
 abbrev answered : List Row → List Tightened

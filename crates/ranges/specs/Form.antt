@@ -1,10 +1,8 @@
 -- "6 to 8, with frames read as the lowest count" (M-110). The checks are document 01's, of the job that has the lowest counts.
-use Rattle.std.specs.Prelude.{Bool, true, cond, ℕ, eqb, get_or}
+use Rattle.std.specs.Prelude.{Bool, true, cond, ℕ, eqb, get_or, Ok, Err}
 use Rattle.base.specs.Search.{all_below}
-use Rattle.outcome.specs.Figures.{refusal_number}
+use Rattle.outcome.specs.Figures.{refusal_number, Verdict}
 use Rattle.outcome.specs.declared.Refusal.TheVariants.{Malformed}
-use Rattle.outcome.specs.declared.Verdict.{Verdict}
-use Rattle.outcome.specs.declared.Verdict.TheVariants.{Pass, Fail}
 use Rattle.record.specs.Entries.{is_used}
 use Rattle.record.specs.declared.Entry.{Entry}
 use Rattle.record.specs.declared.Job.{Job}
@@ -32,8 +30,8 @@ is_bounded e j i = cond (is_used j i) true (eqb (high e i) 0)
 
 -- whether the lowest counts balance is not asked
 abbrev pub without_balance : Verdict → Verdict
-without_balance Pass = Pass
-without_balance (Fail r) = cond (eqb (refusal_number r) 9) Pass (Fail r)
+without_balance (Ok tt) = Ok tt
+without_balance (Err r) = cond (eqb (refusal_number r) 9) (Ok tt) (Err r)
 
 unfoldable pub form_of : Estimate → Verdict
-form_of e = cond (all_below 8 (is_bounded e (lowest_job e))) (without_balance (check_of (lowest_job e))) (Fail Malformed)
+form_of e = cond (all_below 8 (is_bounded e (lowest_job e))) (without_balance (check_of (lowest_job e))) (Err Malformed)

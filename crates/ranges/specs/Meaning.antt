@@ -1,7 +1,6 @@
 -- What each answer means, for choices of counts (document 02, M-110). No formula of the answer stands here.
-use Rattle.std.specs.Prelude.{List, ◌≡◌, ℕ, ◌+◌, ◌≤◌, ◌<◌, length}
+use Rattle.std.specs.Prelude.{List, ◌≡◌, ℕ, ◌+◌, ◌≤◌, ◌<◌, length, Ok}
 use Rattle.base.specs.Search.{Every, Least, sum_from}
-use Rattle.outcome.specs.declared.Outcome.TheVariants.{Done}
 use Rattle.outcome.specs.declared.Refusal.TheVariants.{Malformed, Repeated, Unsupported, Reversed, NoneBalances}
 use Rattle.record.specs.Meaning.{Label, Used}
 use Rattle.checks.specs.Meaning.{Nowhere, RepeatedAt, UnsupportedAt, WellFormed, takes}
@@ -51,4 +50,4 @@ pub data Told (e : Estimate) : Tightened → Type 0 where
   unsupported : (i : ℕ) → Formed e → Nowhere (RepeatedAt (lowest_job e)) → Least 8 (UnsupportedAt takes (lowest_job e)) i → Told e (refuse (Unsupported i) e)
   reversed : (i : ℕ) → Fit e → Least 8 (ReversedAt e) i → Told e (refuse (Reversed i) e)
   none_balances : Fit e → Nowhere (ReversedAt e) → ((x : ℕ → ℕ) → Balancing e x → ⊥) → Told e (refuse NoneBalances e)
-  tightened : Fit e → Nowhere (ReversedAt e) → (ranges : List Range) → Tightest e ranges → Told e (record { outcome = Done 0; ranges = ranges })
+  tightened : Fit e → Nowhere (ReversedAt e) → (ranges : List Range) → Tightest e ranges → Told e (record { outcome = Ok 0; ranges = ranges })

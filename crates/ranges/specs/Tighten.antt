@@ -1,11 +1,9 @@
 -- What the call answers (document 02, M-110), by sums; what the answers mean for choices of counts is in Meaning.antt.
-use Rattle.std.specs.Prelude.{Bool, true, cond, ◌&&◌, List, ℕ, ◌+◌, ◌-◌, min, max, leb, ltb, eqb}
+use Rattle.std.specs.Prelude.{Bool, true, cond, ◌&&◌, List, ℕ, ◌+◌, ◌-◌, min, max, leb, ltb, eqb, Ok, Err}
 use Rattle.base.specs.Search.{first_below, sum_from}
-use Rattle.outcome.specs.declared.Outcome.TheVariants.{Done, Refused}
+use Rattle.outcome.specs.Figures.{Verdict}
 use Rattle.outcome.specs.declared.Refusal.{Refusal}
 use Rattle.outcome.specs.declared.Refusal.TheVariants.{Reversed, NoneBalances}
-use Rattle.outcome.specs.declared.Verdict.{Verdict}
-use Rattle.outcome.specs.declared.Verdict.TheVariants.{Pass, Fail}
 use Rattle.ranges.specs.declared.Estimate.{Estimate}
 use Rattle.ranges.specs.declared.Range.{Range}
 use Rattle.ranges.specs.declared.Tightened.{Tightened}
@@ -18,7 +16,7 @@ unfoldable pub is_reversed : Estimate → ℕ → Bool
 is_reversed e i = ltb (high e i) (low e i)
 
 unfoldable pub order_of : Estimate → Verdict
-order_of e = let reversed = first_below 8 (is_reversed e) in cond (ltb reversed 8) (Fail (Reversed reversed)) Pass
+order_of e = let reversed = first_below 8 (is_reversed e) in cond (ltb reversed 8) (Err (Reversed reversed)) (Ok tt)
 
 -- ---- 25: "if no choice balances"
 
@@ -41,12 +39,12 @@ unfoldable pub can_balance : Estimate → Bool
 can_balance e = cond (eqb e.kind 1) (meets (inflow e) (outflow e)) true
 
 unfoldable pub balance_of : Estimate → Verdict
-balance_of e = cond (can_balance e) Pass (Fail NoneBalances)
+balance_of e = cond (can_balance e) (Ok tt) (Err NoneBalances)
 
 -- ---- "Checks, after 6 to 8, ..: 24 ..; then 25"
 abbrev pub first_failing : Verdict → Verdict → Verdict
-first_failing (Fail r) later = Fail r
-first_failing Pass later = later
+first_failing (Err r) later = Err r
+first_failing (Ok tt) later = later
 
 unfoldable pub checks_of : Estimate → Verdict
 checks_of e = first_failing (form_of e) (first_failing (order_of e) (balance_of e))
@@ -79,11 +77,11 @@ tightest_of e = cond (eqb e.kind 1) (list_from (tightest_at e) 0 8) e.ranges
 
 -- a refusal hands the ranges back as they were
 abbrev pub refuse : Refusal → Estimate → Tightened
-refuse r e = record { outcome = Refused r; ranges = e.ranges }
+refuse r e = record { outcome = Err r; ranges = e.ranges }
 
 abbrev pub settle : Verdict → Estimate → Tightened
-settle (Fail r) e = refuse r e
-settle Pass e = record { outcome = Done 0; ranges = tightest_of e }
+settle (Err r) e = refuse r e
+settle (Ok tt) e = record { outcome = Ok 0; ranges = tightest_of e }
 
 unfoldable pub tighten_of : Estimate → Tightened
 tighten_of e = settle (checks_of e) e

@@ -12,8 +12,8 @@ use std::io::Print;
 
 // The two figures of an answer.
 fn print_figures(rt: &HostRuntime, outcome: Outcome) -> io::Result<()> {
-    let number = outcome.number();
-    let value = outcome.value();
+    let number = outcome::number(outcome);
+    let value = outcome::value(outcome);
     print!(rt; " {number} {value}")
 }
 
@@ -27,8 +27,8 @@ fn print_answer(rt: &HostRuntime, outcome: Outcome) -> io::Result<()> {
 fn examine(version: u16, bytes: &[u8]) -> Outcome {
     let verdict = examination::examine(version, bytes);
     match verdict {
-        Verdict::Pass => Outcome::Done(0),
-        Verdict::Fail(why) => Outcome::Refused(why),
+        Ok(()) => Ok(0),
+        Err(why) => Err(why),
     }
 }
 

@@ -7,10 +7,10 @@ use Prim.Native.Nat.{ℕ}
 use borrow.Author.Tests.{eq-eqb, ne_eqb}
 use Rattle.consequences.specs.Freed.{Freed}
 use Rattle.ledger.specs.declared.Ledger.{Ledger}
-use Rattle.outcome.specs.declared.Outcome.TheVariants.{Refused}
+use Rattle.outcome.specs.Figures.{Verdict}
+use Rattle.std.specs.Prelude.{Err}
 use Rattle.outcome.specs.declared.Refusal.TheVariants.{Settings as BadSettings, Unreadable}
 use Rattle.release_file.specs.Releases.{freed_at, releases_text, unread_in}
-use Rattle.outcome.specs.declared.Verdict.{Verdict}
 use Rattle.release_list.specs.Listing.{Released, list_text, printed, tapes_freed}
 use Rattle.release_list.specs.declared.Releases.{Releases}
 use Rattle.runfile.specs.History.{final_run}
@@ -30,11 +30,11 @@ module _ {o p : List ℕ} (input : List ℕ) where
         (subst (λ (xs : List Freed). Put o 0 (list_text xs) p d.written) same
         (subst (λ (g : Verdict). Put o 0 (printed g (tapes_freed l journal)) p d.written) ran.passes w.text))
 
-    pub cut_told : {r : ℕ} → first ≢ 0 → Put o 0 (line_for first (Refused Unreadable)) p r → Put o 0 (releases_text input) p r
+    pub cut_told : {r : ℕ} → first ≢ 0 → Put o 0 (line_for first (Err Unreadable)) p r → Put o 0 (releases_text input) p r
     unfolding releases_text
     cut_told {r} n w =
-        simp (sym lets ∙ through, ne_eqb (unread_in input) 0 (λ e. n (is ∙ e))) (subst (λ (k : ℕ). Put o 0 (line_for k (Refused Unreadable)) p r) is w)
+        simp (sym lets ∙ through, ne_eqb (unread_in input) 0 (λ e. n (is ∙ e))) (subst (λ (k : ℕ). Put o 0 (line_for k (Err Unreadable)) p r) is w)
 
-  pub back_told : {r : ℕ} (b : Bool) → b ≡ opens input → b ≡ false → Put o 0 (line_for 0 (Refused BadSettings)) p r → Put o 0 (releases_text input) p r
+  pub back_told : {r : ℕ} (b : Bool) → b ≡ opens input → b ≡ false → Put o 0 (line_for 0 (Err BadSettings)) p r → Put o 0 (releases_text input) p r
   unfolding releases_text
   back_told {r} b is n w = simp (sym is ∙ n) w

@@ -1,12 +1,11 @@
 -- What `releases` prints of a run file: its release list. "A file that refusal 1 or 2 turns back or cuts short gets that line and no list: blanks are never
 -- ordered from half a file."
-use Rattle.std.specs.Prelude.{cond, true, List, ◌≡◌, ◌+◌, suc, zero, ℕ, eqb, leb, length}
+use Rattle.std.specs.Prelude.{cond, true, List, ◌≡◌, ◌+◌, suc, zero, ℕ, eqb, leb, length, Err}
 use Rattle.base.specs.Lists.{In}
 use Rattle.conflicts.specs.Tapes.{labels}
 use Rattle.consequences.specs.Freed.{Free, Freed, freed_in}
 use Rattle.ledger.specs.Register.{Register, feed_all, log, new_register}
 use Rattle.ledger.specs.Worlds.{Event, World, after_all}
-use Rattle.outcome.specs.declared.Outcome.TheVariants.{Refused}
 use Rattle.outcome.specs.declared.Refusal.TheVariants.{Settings as BadSettings, Unreadable}
 use Rattle.release_list.specs.Listing.{list_text, tapes_freed}
 use Rattle.runfile.specs.History.{begun, events, final_run, steps}
@@ -31,8 +30,8 @@ freed_at r = tapes_freed r.ledger r.journal
 unfoldable pub releases_text : List ℕ → List ℕ
 releases_text input =
     cond (opens input)
-    (cond (eqb (unread_in input) 0) (list_text (freed_at (final_run input))) (line_for (unread_in input) (Refused Unreadable)))
-    (line_for 0 (Refused BadSettings))
+    (cond (eqb (unread_in input) 0) (list_text (freed_at (final_run input))) (line_for (unread_in input) (Err Unreadable)))
+    (line_for 0 (Err BadSettings))
 
 -- ---- the list of a run is that of the world to which its steps lead, and of no other, so that all is true of it that is proved of that
 abbrev pub world_after : List ℕ → World

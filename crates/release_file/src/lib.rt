@@ -20,7 +20,7 @@ pub fn releases(input: &[u8], out: &mut [u8; release_list::ROOM]) -> usize
             let ledger = whole_run::run_out(input, &mut journal);
             return release_list::list(ledger, &journal, out).written;
         }
-        return text::write_line(out, 0, first, Outcome::Refused(Refusal::Unreadable));
+        return text::write_line(out, 0, first, Err(Refusal::Unreadable));
     }
-    text::write_line(out, 0, 0, Outcome::Refused(Refusal::Settings))
+    text::write_line(out, 0, 0, Err(Refusal::Settings))
 }

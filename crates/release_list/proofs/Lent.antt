@@ -20,8 +20,8 @@ use Rattle.ledger.specs.State.{version_of}
 use Rattle.ledger.specs.Steps.{whole_gate}
 use Rattle.ledger.specs.Worlds.{World, lend, start}
 use Rattle.outcome.specs.declared.Refusal.TheVariants.{NotBooked}
-use Rattle.outcome.specs.declared.Verdict.{Verdict}
-use Rattle.outcome.specs.declared.Verdict.TheVariants.{Fail}
+use Rattle.outcome.specs.Figures.{Verdict}
+use Rattle.std.specs.Prelude.{Err}
 use Rattle.record.specs.declared.Job.{Job}
 use Rattle.release_list.specs.Lent.{Answers, ListsWhatIsFree}
 use Rattle.release_list.specs.Listing.{Released, counted, printed, tapes_freed}
@@ -39,7 +39,7 @@ module _ {w : World} {register : Register} (i : Inv w register) (size : ℕ) (be
       ap (λ (job : ℕ → Job). freed_tapes w.ledger job)
       (jobs_read (version_of w.ledger) w.ledger.booked size w.booked beyond i.shape.records h)
 
-  shut : length journal < end → whole_gate w.ledger journal ≡ Fail NotBooked
+  shut : length journal < end → whole_gate w.ledger journal ≡ Err NotBooked
   unfolding whole_gate
   shut h =
       simp (

@@ -7,10 +7,9 @@ use lib.ListN.{length}
 use Rattle.consequences.specs.Freed.{Freed}
 use Rattle.ledger.specs.Steps.{whole_gate}
 use Rattle.ledger.specs.declared.Ledger.{Ledger}
-use Rattle.outcome.specs.declared.Outcome.TheVariants.{Done, Refused}
+use Rattle.outcome.specs.Figures.{Verdict}
+use Rattle.std.specs.Prelude.{Ok, Err}
 use Rattle.outcome.specs.declared.Refusal.{Refusal}
-use Rattle.outcome.specs.declared.Verdict.{Verdict}
-use Rattle.outcome.specs.declared.Verdict.TheVariants.{Fail, Pass}
 use Rattle.digits.proofs.Writing.{then}
 use Rattle.digits.specs.Digits.{Put, decimal}
 use Rattle.release_lines.specs.Tapes.{Listed}
@@ -28,9 +27,9 @@ list_told {o} {p} {q} {s} {d} {r₁} {r₂} xs a b c =
 
 -- ---- the two ways: through the open gate the list is written, through the shut one nothing
 module _ (l : Ledger) (journal : List ℕ) (g : Verdict) (is : g ≡ whole_gate l journal) where
-  pub list_passed : {o p : List ℕ} {n at : ℕ} → g ≡ Pass → Put o 0 (list_text (tapes_freed l journal)) p at → at ≤ 12805 → n ≡ length (tapes_freed l journal)
-      → Released l journal o p (record { outcome = Done n; written = at })
-  list_passed q w h e = record { answer = simp (sym is ∙ q) (ap Done e); text = simp (sym is ∙ q) w; short = h }
+  pub list_passed : {o p : List ℕ} {n at : ℕ} → g ≡ Ok (tt {0}) → Put o 0 (list_text (tapes_freed l journal)) p at → at ≤ 12805 → n ≡ length (tapes_freed l journal)
+      → Released l journal o p (record { outcome = Ok n; written = at })
+  list_passed q w h e = record { answer = simp (sym is ∙ q) (ap Ok e); text = simp (sym is ∙ q) w; short = h }
 
-  pub list_shut : (o : List ℕ) (why : Refusal) → g ≡ Fail why → Released l journal o o (record { outcome = Refused why; written = 0 })
+  pub list_shut : (o : List ℕ) (why : Refusal) → g ≡ Err why → Released l journal o o (record { outcome = Err why; written = 0 })
   list_shut o why q = record { answer = simp (sym is ∙ q); text = simp (sym is ∙ q) (record { moved = refl; wrote = refl }); short = omega arith }

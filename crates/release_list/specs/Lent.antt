@@ -1,24 +1,23 @@
 -- What the operation `list` answers wherever a list of steps has led, whatever journal it is lent: the list of which `free_for_good` speaks, or 4 and no list.
-use Rattle.std.specs.Prelude.{List, ◌≡◌, ◌<◌, ◌≤◌, ℕ, length}
+use Rattle.std.specs.Prelude.{List, ◌≡◌, ◌<◌, ◌≤◌, ℕ, length, Ok, Err}
 use Rattle.codec.specs.Codec.{place_of}
 use Rattle.consequences.specs.Freed.{Freed, freed_in}
 use Rattle.digits.specs.Digits.{Put}
 use Rattle.federation.specs.Federation.{Lawful}
 use Rattle.ledger.specs.State.{version_of}
 use Rattle.ledger.specs.Worlds.{Event, World, after_all, lend, start}
-use Rattle.outcome.specs.declared.Outcome.TheVariants.{Done, Refused}
 use Rattle.outcome.specs.declared.Refusal.TheVariants.{NotBooked}
 use Rattle.release_list.specs.Listing.{Released, list_text}
 use Rattle.release_list.specs.declared.Releases.{Releases}
 
 -- the tapes are counted in the answer, and listed at the front of the buffer
 pub record Lists (tapes : List Freed) (before after : List ℕ) (r : Releases) : Type 0 where
-  pub answer : r.outcome ≡ Done (length tapes)
+  pub answer : r.outcome ≡ Ok (length tapes)
   pub text : Put before 0 (list_text tapes) after r.written
 
 -- refusal 4, and nothing is written
 pub record Lacks (before after : List ℕ) (r : Releases) : Type 0 where
-  pub answer : r.outcome ≡ Refused NotBooked
+  pub answer : r.outcome ≡ Err NotBooked
   pub written : r.written ≡ 0
   pub unchanged : after ≡ before
 

@@ -41,15 +41,15 @@ pub fn list(ledger: Ledger, journal: &[u8], out: &mut [u8; ROOM]) -> Releases
 {
     let gate = books::whole_gate(ledger, journal);
     match gate {
-        Verdict::Pass => {
+        Ok(()) => {
             let end = write_list(out, ledger, journal);
             Releases {
-                outcome: Outcome::Done(end.count),
+                outcome: Ok(end.count),
                 written: end.at,
             }
         }
-        Verdict::Fail(why) => Releases {
-            outcome: Outcome::Refused(why),
+        Err(why) => Releases {
+            outcome: Err(why),
             written: 0,
         },
     }

@@ -6,7 +6,7 @@ use Prim.Native.Nat.{◌+◌, ◌<◌, ◌≤◌, ℕ}
 use native.Mathlib.Nat.{eq-or-lt_of_le}
 use native.Mathlib.Omega.{arith}
 use lib.ListN.{length}
-use Rattle.outcome.specs.declared.Outcome.{Outcome}
+use Rattle.outcome.specs.Figures.{Outcome}
 use Rattle.job_sets.specs.declared.job_set.JobSet.{JobSet}
 use Rattle.going.proofs.Naming.{nothing_known}
 use Rattle.progress.specs.Pieces.{Advanced, Going, Piece, run_of}

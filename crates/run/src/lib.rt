@@ -37,7 +37,7 @@ pub fn start(input: &[u8], out: &mut [u8]) -> Progress
             written: 0,
         };
     }
-    let n = text::write_line(out, 0, 0, Outcome::Refused(Refusal::Settings));
+    let n = text::write_line(out, 0, 0, Err(Refusal::Settings));
     let reply = books::new(0, 0, 0, 0);
     let ledger = reply.ledger;
     Progress {

@@ -27,9 +27,8 @@ use Rattle.ledger.specs.declared.Ledger.{Ledger}
 use Rattle.binomials.proofs.Chances.{draw_means}
 use Rattle.binomials.specs.Draw.{Drawn, absent, chance, draw_of, failing, unlawful}
 use Rattle.ledger.proofs.Demand1.{demand1}
-use Rattle.outcome.specs.Figures.{number_of, value_of}
-use Rattle.outcome.specs.declared.Outcome.{Outcome}
-use Rattle.outcome.specs.declared.Outcome.TheVariants.{Refused}
+use Rattle.outcome.specs.Figures.{number_of, value_of, Outcome}
+use Rattle.std.specs.Prelude.{Err}
 use Rattle.outcome.specs.declared.Refusal.TheVariants.{Unreadable}
 use Rattle.text.proofs.Members.{nothing_listed}
 use Rattle.text.specs.Text.{line_for, line_of}
@@ -354,7 +353,7 @@ last_line n input r h k =
     simp (lt-leb _ _ h)
     (ap₂ ◌++◌
     (ap (λ (x : Kind). text_of (r.count + 1) r.ledger r.journal (command_in (version_of r.ledger) x input (r.pos + 1))) k
-    ∙ nothing_listed (r.count + 1) (Refused Unreadable))
+    ∙ nothing_listed (r.count + 1) (Err Unreadable))
     (silent n input (turn input r) end)
     ∙ append-nil (line_of (r.count + 1) 2 0))
 
@@ -497,7 +496,7 @@ module _ (input : List ℕ) (h : Readable input) (before later : List Item) wher
       line_for_lem (drawn u) (draw_of w.ledger.settings u) _ (append_assoc (line_for (length before + 1) (draw_of w.ledger.settings u)) _ _)
       (draw_row w.ledger.settings u) q
   line unread q =
-      line_for_lem unread (Refused Unreadable) _ (append_assoc (line_for (length before + 1) (Refused Unreadable)) _ _) (refl, refl) q
+      line_for_lem unread (Err Unreadable) _ (append_assoc (line_for (length before + 1) (Err Unreadable)) _ _) (refl, refl) q
 
 -- ---- the whole
 pub run_in_order : RunInOrder

@@ -9,8 +9,8 @@ use lib.ListN.{length}
 use borrow.Author.Tests.{le-leb, leb-true, lt-leb}
 use Rattle.base.proofs.Reflect.{and_true, by_cases}
 use Rattle.federation.specs.Federation.{is_lawful}
-use Rattle.outcome.specs.declared.Outcome.{Outcome}
-use Rattle.outcome.specs.declared.Outcome.TheVariants.{Refused}
+use Rattle.outcome.specs.Figures.{Outcome}
+use Rattle.std.specs.Prelude.{Err}
 use Rattle.outcome.specs.declared.Refusal.TheVariants.{Settings as BadSettings}
 use Rattle.job_sets.specs.declared.job_set.JobSet.{JobSet}
 use Rattle.text.specs.Text.{line_for, text_for}
@@ -78,9 +78,9 @@ none_after input r h = by (length input - r.count)
 
 -- the text of an input that check 1 turns back, before a run that has nothing left to read
 pub refused_run : (input : List ℕ) → opens input ≡ false → (r : Run) → length input ≤ r.pos
-    → run_text input ≡ line_for 0 (Refused BadSettings) ++ text_from input r
+    → run_text input ≡ line_for 0 (Err BadSettings) ++ text_from input r
 unfolding text_up_to
-refused_run input o r h = rw (o, none_left input r h) (sym (append-nil (line_for 0 (Refused BadSettings))))
+refused_run input o r h = rw (o, none_left input r h) (sym (append-nil (line_for 0 (Err BadSettings))))
 
 -- each step reads at least its kind, or is the last: so a run has no more steps than bytes
 reads_on : (version : ℕ) (kind : Kind) (pos size n : ℕ) → size ≤ pos + suc n → size ≤ end_of version kind pos size + n

@@ -1,6 +1,5 @@
 -- The whole run: the header, then a text for each step. "Refusal 1 prints `0 1 0` and nothing else; refusal 2 prints its line and ends."
-use Rattle.std.specs.Prelude.{Bool, ◌&&◌, cond, List, [], ◌++◌, ◌≡◌, ◌*◌, ◌+◌, ◌-◌, suc, zero, ℕ, eqb, leb, get_or, length, replicate}
-use Rattle.outcome.specs.declared.Outcome.TheVariants.{Refused}
+use Rattle.std.specs.Prelude.{Bool, ◌&&◌, cond, List, [], ◌++◌, ◌≡◌, ◌*◌, ◌+◌, ◌-◌, suc, zero, ℕ, eqb, leb, get_or, length, replicate, Err}
 use Rattle.outcome.specs.declared.Refusal.TheVariants.{Settings as BadSettings}
 use Rattle.federation.specs.Federation.{is_lawful_up_to, latest}
 use Rattle.codec.specs.Codec.{longest_record}
@@ -93,7 +92,7 @@ last_from input r = run_next (length input - r.count) input r
 
 -- the text for any input, of a reader that knows the versions up to the highest
 unfoldable pub text_up_to : ℕ → List ℕ → List ℕ
-text_up_to highest input = cond (opens_up_to highest input) (text_from input (begins input)) (line_for 0 (Refused BadSettings))
+text_up_to highest input = cond (opens_up_to highest input) (text_from input (begins input)) (line_for 0 (Err BadSettings))
 
 abbrev pub run_text : List ℕ → List ℕ
 run_text = text_up_to latest
@@ -101,6 +100,6 @@ run_text = text_up_to latest
 -- ---- versions (M-102)
 pub record Versions : Type 0 where
   -- "A reader that knows only version 1 turns a version 2 file back with 1."
-  pub turned : (input : List ℕ) → version_in input ≡ 2 → text_up_to 1 input ≡ line_for 0 (Refused BadSettings)
+  pub turned : (input : List ℕ) → version_in input ≡ 2 → text_up_to 1 input ≡ line_for 0 (Err BadSettings)
   -- "Version 1 stays readable": of every input whose header says version 1, the reader of version 2 prints what that of version 1 prints
   pub readable : (input : List ℕ) → version_in input ≡ 1 → text_up_to 2 input ≡ text_up_to 1 input

@@ -1,7 +1,6 @@
 -- The steps of a run file: "each a kind byte and its body; vault, job and u are one byte".
-use Rattle.std.specs.Prelude.{Bool, cond, false, true, List, ◌*◌, ◌+◌, ℕ, eqb, ltb, drop, get_or, length, take}
-use Rattle.outcome.specs.declared.Outcome.{Outcome}
-use Rattle.outcome.specs.declared.Outcome.TheVariants.{Refused}
+use Rattle.std.specs.Prelude.{Bool, cond, false, true, List, ◌*◌, ◌+◌, ℕ, eqb, ltb, drop, get_or, length, take, Err}
+use Rattle.outcome.specs.Figures.{Outcome}
 use Rattle.outcome.specs.declared.Refusal.TheVariants.{Unreadable}
 use Rattle.job_sets.specs.Jobs.{no_jobs}
 use Rattle.job_sets.specs.declared.job_set.JobSet.{JobSet}
@@ -148,7 +147,7 @@ reads outcome l = record { outcome = outcome; ledger = l }
 abbrev pub reply_of : Ledger → List ℕ → Command → Reply
 reply_of l journal (request q) = step_of l journal q
 reply_of l journal (draw u) = reads (draw_of l.settings u) l
-reply_of l journal unreadable = reads (Refused Unreadable) l
+reply_of l journal unreadable = reads (Err Unreadable) l
 
 -- the journal afterwards
 abbrev pub journal_by : Ledger → List ℕ → Command → List ℕ

@@ -39,9 +39,9 @@ fn size(set: u16) -> u8
 fn state_of(settings: Settings, votes: Votes) -> u32
     ensures { result ≡ status_of settings votes }
 {
-    let decision = decisions::show(Verdict::Pass, settings, votes);
+    let decision = decisions::show(Ok(()), settings, votes);
     let outcome = decision.outcome;
-    outcome.value()
+    outcome::value(outcome)
 }
 
 // The vaults below n that are not among the signers.

@@ -87,9 +87,9 @@ pub fn check_order(e: Estimate) -> Verdict
 {
     let reversed = first_reversed(e);
     if reversed < 8 {
-        return Verdict::Fail(Refusal::Reversed(reversed));
+        return Err(Refusal::Reversed(reversed));
     }
-    Verdict::Pass
+    Ok(())
 }
 
 // Check 25.
@@ -97,7 +97,7 @@ pub fn check_balance(e: Estimate) -> Verdict
     ensures { result ≡ balance_of e }
 {
     if can_balance(e) {
-        return Verdict::Pass;
+        return Ok(());
     }
-    Verdict::Fail(Refusal::NoneBalances)
+    Err(Refusal::NoneBalances)
 }

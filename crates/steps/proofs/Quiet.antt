@@ -8,8 +8,8 @@ use lib.Count.{ones}
 use lib.ListN.{drop, take}
 use Rattle.base.proofs.Reflect.{by_cases}
 use Rattle.codec.specs.Codec.{record_size}
-use Rattle.outcome.specs.declared.Verdict.{Verdict}
-use Rattle.outcome.specs.declared.Verdict.TheVariants.{Fail, Pass}
+use Rattle.outcome.specs.Figures.{Verdict}
+use Rattle.std.specs.Prelude.{Ok, Err}
 use Rattle.outcome.specs.declared.Refusal.TheVariants.{NoClient}
 use Rattle.quota.specs.Quota.{is_client}
 use Rattle.job_sets.specs.Jobs.{job_has}
@@ -35,8 +35,8 @@ pub record Bookless (d : Decision) : Type 0 where
   pub none : is_book d.change ≡ false
 
 behind : (g : Verdict) (d : Decision) → Bookless d → Bookless (gated g d)
-behind Pass d b = b
-behind (Fail why) d b = record { none = refl }
+behind (Ok (tt {0})) d b = b
+behind (Err why) d b = record { none = refl }
 
 consented : (c : Consent) (next : Vault) (signers v : ℕ) → Bookless (consenting c next signers v)
 consented Already next signers v = record { none = refl }

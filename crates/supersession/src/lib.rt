@@ -50,13 +50,13 @@ fn supersession(
     if journal::is_booked(version, journal, booked, rival) {
         if state.signed.has(job) {
             if is_superseded(state, numbers, sets, version, journal, booked, job, rival) {
-                return Verdict::Pass;
+                return Ok(());
             }
-            return Verdict::Fail(Refusal::NotSuperseded);
+            return Err(Refusal::NotSuperseded);
         }
-        return Verdict::Fail(Refusal::NotSignedHere);
+        return Err(Refusal::NotSignedHere);
     }
-    Verdict::Fail(Refusal::NotBooked)
+    Err(Refusal::NotBooked)
 }
 
 fn give_up(
@@ -75,11 +75,11 @@ fn give_up(
 {
     let verdict = supersession(state, numbers, sets, version, journal, booked, job, rival);
     match verdict {
-        Verdict::Pass => Decision {
-            outcome: Outcome::Done(sets::vaults::size(signers)),
+        Ok(()) => Decision {
+            outcome: Ok(sets::vaults::size(signers)),
             change: Change::Release(state.release(job)),
         },
-        Verdict::Fail(why) => decisions::refuse(why),
+        Err(why) => decisions::refuse(why),
     }
 }
 
@@ -100,9 +100,9 @@ pub fn release(
     ensures { result ≡ gated gate (releasing state version journal.now booked signers job rival) }
 {
     match gate {
-        Verdict::Pass => give_up(
+        Ok(()) => give_up(
             state, numbers, sets, version, journal, booked, signers, job, rival,
         ),
-        Verdict::Fail(why) => decisions::refuse(why),
+        Err(why) => decisions::refuse(why),
     }
 }

@@ -20,7 +20,7 @@ use Rattle.notation.proofs.Shapes.{Version}
 use Rattle.notation.proofs.Views.{known_at}
 use Rattle.notation.specs.Files.{bytes_at}
 use Rattle.notation.specs.Lines.{line_of, row_of}
-use Rattle.outcome.specs.declared.Outcome.{Outcome}
+use Rattle.outcome.specs.Figures.{Outcome}
 use Rattle.reading.specs.Reading.{Read}
 use Rattle.reading.specs.declared.Step.{Step}
 use Rattle.rows.specs.Table.{letters}

@@ -14,7 +14,7 @@ use Rattle.base.proofs.Reflect.{by_cases, by_test, not_true_false}
 use Rattle.base.proofs.Search.{any_intro, any_none, any_start, first_any, first_is, first_least, first_none, least_first, none_any}
 use Rattle.base.specs.Lists.{In}
 use Rattle.base.specs.Search.{Least, any_below, first_below, sum_from}
-use Rattle.outcome.specs.declared.Outcome.{Outcome}
+use Rattle.outcome.specs.Figures.{Outcome}
 use Rattle.sets.proofs.Bits.{bit_zero, has_none, has_suc, reflect_some}
 use Rattle.job_sets.proofs.Jobs.{has_no_jobs, in_high, in_low, job_below, job_count_counts, job_count_with, job_with_other, job_with_same}
 use Rattle.job_sets.proofs.Jobs.{job_without_other, job_without_same, jobs_same, with_words, without_words}

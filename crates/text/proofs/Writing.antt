@@ -4,8 +4,7 @@ use mathlib.Core.Path.{◌∙◌, ◌≡◌}
 use Prim.Native.Nat.{ℕ}
 use Rattle.digits.proofs.Writing.{then}
 use Rattle.digits.specs.Digits.{Put, decimal}
-use Rattle.outcome.specs.Figures.{number_of, value_of}
-use Rattle.outcome.specs.declared.Outcome.{Outcome}
+use Rattle.outcome.specs.Figures.{number_of, value_of, Outcome}
 use Rattle.text.specs.Text.{line_for, line_of}
 
 -- three numbers, with what stands between them

@@ -3,8 +3,7 @@
 use Rattle.std.specs.Prelude.{cond, true, List, [], ◌++◌, ◌∷◌, ◌↔◌, ◌≡◌, ◌≤◌, suc, zero, ℕ, length}
 use Rattle.base.specs.Lists.{In}
 use Rattle.digits.specs.Digits.{decimal}
-use Rattle.outcome.specs.Figures.{number_of, value_of}
-use Rattle.outcome.specs.declared.Outcome.{Outcome}
+use Rattle.outcome.specs.Figures.{number_of, value_of, Outcome}
 use Rattle.job_sets.specs.Jobs.{job_count, job_has}
 use Rattle.job_sets.specs.declared.job_set.JobSet.{JobSet}
 

@@ -1,7 +1,6 @@
 -- A vault ("Vaults"): the jobs that it holds and those that it has signed and not released. Both sets go into a step and come back from it.
-use Rattle.std.specs.Prelude.{cond, ℕ}
-use Rattle.outcome.specs.declared.Verdict.{Verdict}
-use Rattle.outcome.specs.declared.Verdict.TheVariants.{Pass, Fail}
+use Rattle.std.specs.Prelude.{cond, ℕ, Ok, Err}
+use Rattle.outcome.specs.Figures.{Verdict}
 use Rattle.job_sets.specs.Jobs.{job_has, job_with, job_without}
 use Rattle.vaults.specs.declared.Vault.{Vault}
 use Rattle.vaults.specs.declared.Signing.{Signing}
@@ -23,8 +22,8 @@ unsigning v k = record { held = v.held; signed = job_without v.signed k }
 
 -- the vault's answer where checks 11 to 14 are what decides
 abbrev pub consented : Verdict → Vault → ℕ → Signing
-consented Pass v k = record { consent = Fresh; vault = signing v k }
-consented (Fail why) v k = record { consent = Denied why; vault = v }
+consented (Ok tt) v k = record { consent = Fresh; vault = signing v k }
+consented (Err why) v k = record { consent = Denied why; vault = v }
 
 -- "A job signed here before is accepted again and changes nothing. Otherwise the vault signs if and only if checks 11 to
 -- 14 pass."

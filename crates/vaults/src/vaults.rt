@@ -55,11 +55,11 @@ impl Vault {
             };
         }
         match admission {
-            Verdict::Pass => Signing {
+            Ok(()) => Signing {
                 consent: Consent::Fresh,
                 vault: self.sign(job),
             },
-            Verdict::Fail(why) => Signing {
+            Err(why) => Signing {
                 consent: Consent::Denied(why),
                 vault: self,
             },

@@ -31,7 +31,7 @@ pub(crate) fn preflight(
         booked,
     );
     preflights::preflight(
-        Verdict::Pass,
+        Ok(()),
         state,
         &numbers,
         &sets,

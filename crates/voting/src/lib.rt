@@ -17,7 +17,7 @@ pub fn preflight(ledger: Ledger, journal: &[u8], vault: u8, job: u8) -> Reply
 {
     let gate = gates::vault_gate(ledger, journal, vault, job, false);
     match gate {
-        Verdict::Pass => {
+        Ok(()) => {
             let v = vault as usize;
             let j = job as usize;
             let state = ledger.vaults[v];
@@ -34,7 +34,7 @@ pub fn preflight(ledger: Ledger, journal: &[u8], vault: u8, job: u8) -> Reply
             );
             gates::carry(ledger, decision, vault, job)
         }
-        Verdict::Fail(why) => gates::turn_back(ledger, why),
+        Err(why) => gates::turn_back(ledger, why),
     }
 }
 
@@ -44,7 +44,7 @@ pub fn commit(ledger: Ledger, journal: &[u8], vault: u8, job: u8, signers: u16) 
 {
     let gate = gates::vault_gate(ledger, journal, vault, job, false);
     match gate {
-        Verdict::Pass => {
+        Ok(()) => {
             let v = vault as usize;
             let j = job as usize;
             let settings = ledger.settings;
@@ -53,7 +53,7 @@ pub fn commit(ledger: Ledger, journal: &[u8], vault: u8, job: u8, signers: u16) 
             let decision = commits::commit(gate, settings, state, votes, vault, j, signers);
             gates::carry(ledger, decision, vault, job)
         }
-        Verdict::Fail(why) => gates::turn_back(ledger, why),
+        Err(why) => gates::turn_back(ledger, why),
     }
 }
 
@@ -63,12 +63,12 @@ pub fn faulty_vote(ledger: Ledger, journal: &[u8], column: Column, vault: u8, jo
 {
     let gate = gates::vault_gate(ledger, journal, vault, job, true);
     match gate {
-        Verdict::Pass => {
+        Ok(()) => {
             let j = job as usize;
             let votes = ledger.votes[j];
             let decision = decisions::cast(gate, votes, column, vault);
             gates::carry(ledger, decision, vault, job)
         }
-        Verdict::Fail(why) => gates::turn_back(ledger, why),
+        Err(why) => gates::turn_back(ledger, why),
     }
 }

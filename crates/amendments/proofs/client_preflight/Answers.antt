@@ -21,13 +21,13 @@ placed-history state version journal booked c histories signers v k p d e h = rw
 
 ruleset by = (placed-history, ways, rules)
 
-pub returns-in-Pass : goal.returns-in-Pass
+pub returns-in-Ok : goal.returns-in-Ok
 unfolding client_preflight_of client_preflight_decision votes_in history_at
-returns-in-Pass c = search by depth 8
+returns-in-Ok c = search by depth 8
 
-pub returns-in-Fail : goal.returns-in-Fail
+pub returns-in-Err : goal.returns-in-Err
 unfolding client_preflight_of client_preflight_decision
-returns-in-Fail c = search by depth 8
+returns-in-Err c = search by depth 8
 
 pub bounds-ledger-v : goal.bounds-ledger-v
 bounds-ledger-v c = search by

@@ -2,10 +2,10 @@
 use Rattle.ledger.specs.Decisions.{committing}
 use Rattle.commits.proofs.certify.Goals as goal
 
-pub returns-in-Pass : goal.returns-in-Pass
+pub returns-in-Ok : goal.returns-in-Ok
 unfolding committing
-returns-in-Pass c = simp (← c.certificate-verdict.ensures, c.in-Pass.is) c.receive.ensures
+returns-in-Ok c = simp (← c.certificate-verdict.ensures, c.in-Ok.is) c.receive.ensures
 
-pub returns-in-Fail : goal.returns-in-Fail
+pub returns-in-Err : goal.returns-in-Err
 unfolding committing
-returns-in-Fail c = simp (← c.certificate-verdict.ensures, c.in-Fail.is) c.refuse.ensures
+returns-in-Err c = simp (← c.certificate-verdict.ensures, c.in-Err.is) c.refuse.ensures

@@ -5,12 +5,12 @@ use Rattle.estimates.proofs.tighten.Goals as goal
 
 pub tightest-ranges-requires : goal.tightest-ranges-requires
 unfolding tighten_of
-tightest-ranges-requires c = checks_balance _ _ c.check.ensures c.in-Pass.is
+tightest-ranges-requires c = checks_balance _ _ c.check.ensures c.in-Ok.is
 
-pub returns-in-Fail : goal.returns-in-Fail
+pub returns-in-Err : goal.returns-in-Err
 unfolding tighten_of
-returns-in-Fail c = simp (← c.check.ensures, c.in-Fail.is)
+returns-in-Err c = simp (← c.check.ensures, c.in-Err.is)
 
-pub returns-in-Pass : goal.returns-in-Pass
+pub returns-in-Ok : goal.returns-in-Ok
 unfolding tighten_of
-returns-in-Pass c = simp (← c.check.ensures, c.in-Pass.is, c.tightest-ranges.ensures)
+returns-in-Ok c = simp (← c.check.ensures, c.in-Ok.is, c.tightest-ranges.ensures)

@@ -7,13 +7,13 @@ use Rattle.inquiries.proofs.equivocating.Goals as goal
 
 ruleset by = (ways, listed_by_lem, rules)
 
-pub returns-in-Pass : goal.returns-in-Pass
+pub returns-in-Ok : goal.returns-in-Ok
 unfolding equivocators_of
-returns-in-Pass c = search by depth 8
+returns-in-Ok c = search by depth 8
 
-pub returns-in-Fail : goal.returns-in-Fail
+pub returns-in-Err : goal.returns-in-Err
 unfolding equivocators_of
-returns-in-Fail c = search by depth 8
+returns-in-Err c = search by depth 8
 
 pub equivocating-requires : goal.equivocating-requires
 equivocating-requires c = search by depth 8

@@ -5,13 +5,13 @@ use Rattle.inquiries.proofs.generations.Goals as goal
 
 ruleset by = (ways, rules)
 
-pub returns-in-Pass : goal.returns-in-Pass
+pub returns-in-Ok : goal.returns-in-Ok
 unfolding generations_decision
-returns-in-Pass c = search by depth 8
+returns-in-Ok c = search by depth 8
 
-pub returns-in-Fail : goal.returns-in-Fail
+pub returns-in-Err : goal.returns-in-Err
 unfolding generations_decision
-returns-in-Fail c = search by depth 8
+returns-in-Err c = search by depth 8
 
 pub generations-requires : goal.generations-requires
 generations-requires c = search by

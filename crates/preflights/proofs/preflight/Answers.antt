@@ -2,10 +2,10 @@
 use Rattle.preflights.proofs.preflight.Goals as goal
 
 pub consult-requires : goal.consult-requires
-consult-requires c = (c.requires.0.below c.in-Pass.is, c.requires.1)
+consult-requires c = (c.requires.0.below c.in-Ok.is, c.requires.1)
 
-pub returns-in-Pass : goal.returns-in-Pass
-returns-in-Pass c = simp c.in-Pass.is c.consult.ensures
+pub returns-in-Ok : goal.returns-in-Ok
+returns-in-Ok c = simp c.in-Ok.is c.consult.ensures
 
-pub returns-in-Fail : goal.returns-in-Fail
-returns-in-Fail c = simp c.in-Fail.is c.refuse.ensures
+pub returns-in-Err : goal.returns-in-Err
+returns-in-Err c = simp c.in-Err.is c.refuse.ensures

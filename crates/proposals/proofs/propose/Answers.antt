@@ -32,26 +32,26 @@ settle-requires c = (
   c.requires,
 )
 
-pub returns-in-Pass : goal.returns-in-Pass
+pub returns-in-Ok : goal.returns-in-Ok
 unfolding proposal examined
-returns-in-Pass c =
+returns-in-Ok c =
     simp (
       eq-eqb _ _ (sized _ _ c.args.bytes.now
           c.if-bytes-record_size.false c.record_size.ensures.0),
       ← own _ _ _ _ c.if-bytes-record_size.false c.record_size.ensures.0
           c.read-job.ensures,
       ← c.check-verdict.ensures,
-      c.in-Pass.is,
+      c.in-Ok.is,
     ) c.settle.ensures
 
-pub returns-in-Fail : goal.returns-in-Fail
+pub returns-in-Err : goal.returns-in-Err
 unfolding proposal examined
-returns-in-Fail c =
+returns-in-Err c =
     simp (
       eq-eqb _ _ (sized _ _ c.args.bytes.now
           c.if-bytes-record_size.false c.record_size.ensures.0),
       ← own _ _ _ _ c.if-bytes-record_size.false
           c.record_size.ensures.0 c.read-job.ensures,
       ← c.check-verdict.ensures,
-      c.in-Fail.is,
-    ) c.refuse-in-Fail.ensures
+      c.in-Err.is,
+    ) c.refuse-in-Err.ensures

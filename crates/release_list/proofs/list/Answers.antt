@@ -8,8 +8,8 @@ ruleset by = (list_passed, list_shut, entering, rules)
 pub write_list-end-requires : goal.write_list-end-requires
 write_list-end-requires c = search by
 
-pub returns-in-Pass : goal.returns-in-Pass
-returns-in-Pass c = search by
+pub returns-in-Ok : goal.returns-in-Ok
+returns-in-Ok c = search by
 
-pub returns-in-Fail : goal.returns-in-Fail
-returns-in-Fail c = search by
+pub returns-in-Err : goal.returns-in-Err
+returns-in-Err c = search by

@@ -2,12 +2,12 @@
 use Rattle.ledger.specs.Decisions.{releasing}
 use Rattle.supersession.proofs.give_up.Goals as goal
 
-pub returns-in-Pass : goal.returns-in-Pass
+pub returns-in-Ok : goal.returns-in-Ok
 unfolding releasing
-returns-in-Pass c =
+returns-in-Ok c =
     let told = c in
-    simp (← told.supersession-verdict.ensures, told.in-Pass.is, c.release.ensures, c.size.ensures)
+    simp (← told.supersession-verdict.ensures, told.in-Ok.is, c.release.ensures, c.size.ensures)
 
-pub returns-in-Fail : goal.returns-in-Fail
+pub returns-in-Err : goal.returns-in-Err
 unfolding releasing
-returns-in-Fail c = simp (← c.supersession-verdict.ensures, c.in-Fail.is) c.refuse.ensures
+returns-in-Err c = simp (← c.supersession-verdict.ensures, c.in-Err.is) c.refuse.ensures

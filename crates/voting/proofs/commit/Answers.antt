@@ -6,13 +6,13 @@ use Rattle.voting.proofs.commit.Goals as goal
 
 ruleset by = (ways, rules)
 
-pub returns-in-Pass : goal.returns-in-Pass
+pub returns-in-Ok : goal.returns-in-Ok
 unfolding commit_of commit_decision votes_in
-returns-in-Pass c = search by depth 8
+returns-in-Ok c = search by depth 8
 
-pub returns-in-Fail : goal.returns-in-Fail
+pub returns-in-Err : goal.returns-in-Err
 unfolding commit_of commit_decision
-returns-in-Fail c = search by depth 8
+returns-in-Err c = search by depth 8
 
 pub bounds-ledger-v : goal.bounds-ledger-v
 bounds-ledger-v c = search by

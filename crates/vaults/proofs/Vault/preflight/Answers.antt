@@ -6,11 +6,11 @@ pub returns-then-has : goal.returns-then-has
 unfolding vault_preflight
 returns-then-has c = simp (sym c.has.ensures ∙ c.if-has.true)
 
-pub returns-in-Pass : goal.returns-in-Pass
+pub returns-in-Ok : goal.returns-in-Ok
 unfolding vault_preflight
-returns-in-Pass c =
-    simp (sym c.has.ensures ∙ c.if-has.false, c.in-Pass.is, c.sign.ensures)
+returns-in-Ok c =
+    simp (sym c.has.ensures ∙ c.if-has.false, c.in-Ok.is, c.sign.ensures)
 
-pub returns-in-Fail : goal.returns-in-Fail
+pub returns-in-Err : goal.returns-in-Err
 unfolding vault_preflight
-returns-in-Fail c = simp (sym c.has.ensures ∙ c.if-has.false, c.in-Fail.is)
+returns-in-Err c = simp (sym c.has.ensures ∙ c.if-has.false, c.in-Err.is)
