@@ -1,13 +1,14 @@
 -- Characters put one after another: what is put with what remains is the whole.
 use mathlib.Core.Bool.{Bool, cond, false, true}
-use mathlib.Core.List.{List, [], ◌∷◌}
+use mathlib.Core.List.{List, [], ◌∷◌, append_assoc}
 use mathlib.Core.Path.{◌∙◌, ◌≡◌, ap, refl, sym}
 use Prim.Native.Nat.{◌*◌, ◌+◌, ◌-◌, ◌<◌, ◌≤◌, suc, zero, ℕ}
-use native.Mathlib.Nat.{add-zero}
+use native.Mathlib.Nat.{add-sub_cancel_left, add-zero}
 use native.Mathlib.Omega.{arith}
+use borrow.Rule.Slice.PartMut.{put_mid}
 use lib.Dec.{eqb}
-use lib.ListN.{drop, get_or, length, length-append, length-set, set}
-use lib.Seq.{drop-cons, drop-length, length-sets, sets}
+use lib.ListN.{length, length-append}
+use lib.Seq.{drop-drop, length-sets, sets, sets-eq}
 use Rattle.codec.proofs.Numbers.{sets_append}
 use Rattle.codec.specs.Codec.{record_size, says_trimmed}
 use Rattle.rows.specs.Table.{half, letters, raw_row, row, shaped, times, trimmed_row}
@@ -17,33 +18,8 @@ use Rattle.words.specs.Room.{arrow}
 use borrow.Author.Tests.{eq-eqb, ne_eqb}
 
 -- ---- a text
-pub record Copying (before s : List ℕ) (at i : ℕ) (out : List ℕ) : Type 0 where
-  pub puts : sets out (at + i) (drop i s) ≡ sets before at s
-  pub within : i ≤ length s
-  pub size : length out ≡ length before
-
-module _ {before s : List ℕ} {at : ℕ} where
-  pub copy_begun : Copying before s at 0 before
-  copy_begun = record { puts = ap (λ (k : ℕ). sets before k s) (add-zero at); within = omega arith; size = refl }
-
-  module _ {i : ℕ} {out : List ℕ} (now : Copying before s at i out) where
-    pub copy_turn : i < length s → Copying before s at (i + 1) (set out (at + i) (get_or s i 0))
-    copy_turn h =
-        let e : at + (i + 1) ≡ suc (at + i) = omega arith in
-        let f : i + 1 ≡ suc i = omega arith in
-        record {
-          puts = rw (e, f) (ap (sets out (at + i)) (sym (drop-cons s i 0 h)) ∙ now.puts);
-          within = omega arith;
-          size = length-set out (at + i) (get_or s i 0) ∙ now.size;
-        }
-
-    pub copy_done : length s ≤ i → Put before at s out (at + length s)
-    copy_done h =
-        let e : i ≡ length s = omega arith in
-        let p : sets out (at + length s) (drop (length s) s) ≡ sets before at s = rw e at now.puts in
-        record { moved = refl; wrote = ap (sets out (at + length s)) (sym (drop-length s)) ∙ p }
-
-pub ruleset copies = (copy_begun, copy_turn, copy_done)
+pub copied : (out s now : List ℕ) (at : ℕ) → at + length s ≤ length out → now ≡ s → put_mid at (at + length s - at) out now ≡ sets out at s
+copied out s now at room e = rw (e, add-sub_cancel_left, sets-eq s out at room, drop-drop, append_assoc)
 
 -- ---- a text so many times
 pub record Repeating (before s : List ℕ) (at n i end : ℕ) (out : List ℕ) : Type 0 where

@@ -1,11 +1,11 @@
 -- A row is the part of the characters between two starts, and none past the last; where the parts are a table's rows, which is computed, each is.
 use mathlib.Core.List.{List, [], ◌∷◌}
 use mathlib.Core.Path.{◌∙◌, ◌≡◌, ap, refl}
-use Prim.Native.Nat.{◌+◌, ◌-◌, ◌<◌, ◌≤◌, max, suc, zero, ℕ}
-use native.Mathlib.Numerals.{add-one}
+use native.Mathlib.Nat.{add-zero}
+use Prim.Native.Nat.{◌+◌, ◌<◌, ◌≤◌, max, suc, zero, ℕ}
 use native.Mathlib.Omega.{arith}
-use lib.ListN.{drop, get_or, length, take}
-use borrow.Author.Tests.{le-leb, lt-leb}
+use lib.ListN.{drop, get_or, length, length-drop}
+use lib.Seq.{get_or-drop}
 use Rattle.words.specs.Rows.{part, row_in, rows_in}
 
 -- ---- what a lookup finds
@@ -24,35 +24,18 @@ module _ (characters : List ℕ) where
   within (a ∷ b ∷ l) zero h = refl
   within (a ∷ b ∷ l) (suc k) h = within (b ∷ l) k (omega arith)
 
-module _ (characters starts : List ℕ) (k : ℕ) where
-  pub row_past : length starts ≤ k → [] ≡ row_in characters starts k
+-- what stands from place k on begins with the row's two ends, or has not both
+module _ (characters starts : List ℕ) (k : ℕ) {rest : List ℕ} (e : rest ≡ drop k starts) where
+  pub row_past : length rest < 2 → [] ≡ row_in characters starts k
   unfolding row_in
-  row_past h = past characters starts k (omega arith)
+  row_past h = let n = rw (e, length-drop) at h in past characters starts k (omega (arith, n))
 
-  pub row_last : length starts ≤ k + 1 → [] ≡ row_in characters starts k
+  pub row_between : 2 ≤ length rest → part characters (get_or rest 0 0) (get_or rest 1 0) ≡ row_in characters starts k
   unfolding row_in
-  row_last h = past characters starts k (omega arith)
-
-  module _ (h : k + 1 < length starts) where
-    between : part characters (get_or starts k 0) (get_or starts (k + 1) 0) ≡ row_in characters starts k
-    unfolding row_in
-    between = rw (add-one k) (within characters starts k (omega arith))
-
-    pub row_outside : length characters < get_or starts (k + 1) 0 → [] ≡ row_in characters starts k
-    unfolding part
-    row_outside l = rw (lt-leb (get_or starts (k + 1) 0) (length characters) l) at between
-
-    pub row_part : get_or starts (k + 1) 0 ≤ length characters
-        → take (get_or starts (k + 1) 0 - get_or starts k 0) (drop (get_or starts k 0) characters) ≡ row_in characters starts k
-    unfolding part
-    row_part l = rw (le-leb (get_or starts (k + 1) 0) (length characters) l) at between
-
-    pub row_back : get_or starts (k + 1) 0 ≤ length characters → get_or starts (k + 1) 0 < get_or starts k 0 → [] ≡ row_in characters starts k
-    row_back l b =
-        let e : get_or starts (k + 1) 0 - get_or starts k 0 ≡ 0 = omega arith in
-        rw e at (row_part l)
-
-pub ruleset lookups = (row_past, row_last, row_outside, row_back, row_part)
+  row_between h =
+      let n = rw (e, length-drop) at h in
+      let two : k + 1 ≡ suc k = omega arith in
+      rw (e, get_or-drop, get_or-drop, add-zero, two) (within characters starts k (omega (arith, n)))
 
 -- ---- a table
 abbrev longest : List (List ℕ) → ℕ

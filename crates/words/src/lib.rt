@@ -1,11 +1,11 @@
 // The table of words, and the rows that are made of it, put into a lent buffer.
 #![tactic(auto)]
 
-ghost use Rattle.std.specs.Prelude.{◌∷◌, [], ◌≡◌, ◌*◌, ◌+◌, ◌<◌, ◌≤◌, length};
+ghost use Rattle.std.specs.Prelude.{◌∷◌, [], ◌≡◌, ◌*◌, ◌+◌, ◌<◌, ◌≤◌, drop, length};
 ghost use Rattle.rows.specs.Table.{half, raw_row, row, shaped, times, trimmed_row};
 ghost use Rattle.digits.specs.Digits.{Put};
 ghost use Rattle.words.specs.Room.{arrow, longest_row, row_room};
-ghost use Rattle.words.specs.Rows.{row_in};
+ghost use Rattle.words.specs.Rows.{part, row_in};
 
 // A buffer of this size takes any row while it is made.
 pub const ROOM: usize = 2048;
@@ -34,26 +34,28 @@ fn put_times(out: &mut [u8], at: usize, n: usize, s: &[u8]) -> usize
     end
 }
 
+// The characters from a place to another, none where there are not so many.
+fn part(characters: &[u8], from: usize, end: usize) -> &[u8]
+    ensures { result.now ≡ part characters.now from end }
+{
+    characters.get(from..end).unwrap_or(&[])
+}
+
+// The numbers from place k on.
+fn rest(starts: &[u16], k: usize) -> &[u16]
+    ensures { result.now ≡ drop k starts.now }
+{
+    starts.get(k..).unwrap_or(&[])
+}
+
 // Row k of a table: it ends where the next one starts. Past the last there is none.
 pub fn row_of<'a>(characters: &'a [u8], starts: &'a [u16], k: usize) -> &'a [u8]
     ensures { result.now ≡ row_in characters.now starts.now k }
 {
-    if k >= starts.len() {
-        return &characters[..0];
+    match rest(starts, k) {
+        [from, end, ..] => part(characters, *from as usize, *end as usize),
+        _ => &[],
     }
-    let next = k + 1;
-    if next >= starts.len() {
-        return &characters[..0];
-    }
-    let from = starts[k] as usize;
-    let end = starts[next] as usize;
-    if end > characters.len() {
-        return &characters[..0];
-    }
-    if from > end {
-        return &characters[..0];
-    }
-    &characters[from..end]
 }
 
 // The rows one after the other, a row for each kind of line. What the characters stand for is said in specs/ of the crate `rows`.
@@ -111,7 +113,11 @@ fn put_trimmed(out: &mut [u8], at: usize, version: u16, trimmed: u32) -> usize
     if version != 2 {
         return at;
     }
-    if trimmed == 0 { put_times(out, at, 4, b"\x00") } else { put(out, at, b" trimmed $") }
+    if trimmed == 0 {
+        put_times(out, at, 4, b"\x00")
+    } else {
+        put(out, at, b" trimmed $")
+    }
 }
 
 // The row of a proposal with so many entries.

@@ -7,5 +7,5 @@ ruleset by = (rows_put, rules)
 pub returns-then-k-eq2 : goal.returns-then-k-eq2
 returns-then-k-eq2 c = search by
 
-pub returns : goal.returns
-returns c = search by
+pub returns-else-k-eq2 : goal.returns-else-k-eq2
+returns-else-k-eq2 c = search by

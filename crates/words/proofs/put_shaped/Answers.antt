@@ -12,7 +12,7 @@ returns c =
     let second = inputs in
     let first = second in
     let row = first in (
-      shaped_put _ _ _ _ _ row.put_row-a.ensures.0 first.put_byte-b.ensures.0 second.put_byte-c.ensures.0 inputs.put_half-d.ensures.0
+      shaped_put _ _ _ _ _ row.put_row-a.ensures.0 first.write_byte-b.ensures.0 second.write_byte-c.ensures.0 inputs.put_half-d.ensures.0
           arrow.put_arrow-e.ensures.0 outputs.put_half-f.ensures.0 trimmed.put_trimmed.ensures.0,
       omega arith,
     )

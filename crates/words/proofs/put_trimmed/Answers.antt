@@ -6,17 +6,13 @@ ruleset by = (rows_put, rules)
 
 pub returns-then-trimmed-eq0 : goal.returns-then-trimmed-eq0
 returns-then-trimmed-eq0 c =
-    let zeros = c in
-    let way = zeros in
-    let put = zeros_put _ _ way.if-version-eq2.true way.if-trimmed-eq0.true zeros.put_times.ensures.0 in
+    let put = zeros_put _ _ c.if-version-ne2.false c.if-trimmed-eq0.true c.put_times.ensures.0 in
     (put, frames_end _ _ put)
 
-pub returns-then-version-eq2 : goal.returns-then-version-eq2
-returns-then-version-eq2 c =
-    let said = c in
-    let way = said in
-    let put = frames_put _ _ way.if-version-eq2.true way.if-trimmed-eq0.false said.put.ensures.0 in
+pub returns-else-trimmed-eq0 : goal.returns-else-trimmed-eq0
+returns-else-trimmed-eq0 c =
+    let put = frames_put _ _ c.if-version-ne2.false c.if-trimmed-eq0.false c.put.ensures.0 in
     (put, frames_end _ _ put)
 
-pub returns : goal.returns
-returns c = search by
+pub returns-then-version-ne2 : goal.returns-then-version-ne2
+returns-then-version-ne2 c = search by
