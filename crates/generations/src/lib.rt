@@ -1,8 +1,8 @@
 // How many migrations lie between a job and the accessions that its tapes come from.
 #![tactic(auto)]
 
-ghost use Rattle.std.specs.Prelude.{◌≡◌, ◌+◌, ◌<◌, ◌≤◌, max, get_or, length};
-ghost use Rattle.base.specs.Search.{first_below};
+ghost use Rattle.std.specs.Prelude.{◌≡◌, ◌+◌, ◌<◌, ◌≤◌, get_or, length};
+ghost use Rattle.base.specs.Search.{FirstFound};
 ghost use Rattle.codec.specs.Codec.{place_of, record_size};
 ghost use Rattle.journal.specs.Journal.{job_at};
 ghost use Rattle.index.specs.Places.{slot_job};
@@ -11,52 +11,22 @@ ghost use Rattle.generations.specs.Memo.{FirstAt, Input, Memo, Ready, from_input
 
 use job_sets::JobSet;
 
-// A byte is below 256.
-fn wide(x: u8) -> usize
-    ensures { (result ≡ x) × (result < 256) }
-{
-    x as usize
-}
-
-fn larger(a: u8, b: u8) -> u8
-    ensures { result ≡ max a b }
-{
-    if a < b {
-        return b;
-    }
-    a
-}
-
 // How many inputs a booked job has, read from its record where it stands.
 fn inputs(version: u16, journal: &[u8], job: usize) -> usize
     requires { place_of version job + record_size version ≤ length journal.now }
     ensures { result ≡ inputs_of (slot_job version journal.now job) }
 {
-    let count = wide(codec::inputs_of(journal::slot(version, journal, job)));
-    if count < 4 {
-        return count;
-    }
-    4
+    usize::from(codec::inputs_of(journal::slot(version, journal, job))).min(4)
 }
 
-fn is_maker(order: &[u8], makers: JobSet, q: usize) -> bool
-    requires { q < length order.now }
-    ensures { result ≡ is_maker order.now makers q }
-{
-    makers.has(wide(order[q]))
-}
-
-// The first of p positions whose job is one of the makers, or p.
-fn creator(order: &[u8], makers: JobSet, p: usize) -> usize
+// The first of p positions whose job is one of the makers.
+fn creator(order: &[u8], makers: JobSet, p: usize) -> Option<usize>
     requires { p ≤ length order.now }
-    ensures { result ≡ first_below p (is_maker order.now makers) }
+    ensures { FirstFound p (is_maker order.now makers) result }
 {
-    for q in 0..p {
-        if is_maker(order, makers, q) {
-            return q;
-        }
-    }
-    p
+    order[..p]
+        .iter()
+        .position(|job| makers.has(usize::from(*job)))
 }
 
 // The generations at position p, the first of its job. memo[k] is 0, or one more than the generations of job k, so that each
@@ -77,7 +47,7 @@ fn generation(
     ensures value { result ≡ generation_at (job_at version journal.now booked) (along order.now) p }
     ensures memo { Memo (job_at version journal.now booked) order.now (length order.now) memo.new }
 {
-    let job = wide(order[p]);
+    let job = usize::from(order[p]);
     if job >= booked {
         return 0;
     }
@@ -91,7 +61,7 @@ fn generation(
         let next = parent(
             version, journal, booked, numbers, sets, order, memo, p, job, i,
         );
-        most = larger(most, next);
+        most = most.max(next);
     }
     memo[job] = most + 1;
     most
@@ -117,41 +87,17 @@ fn parent(
     ensures memo { Memo (job_at version journal.now booked) order.now (length order.now) memo.new }
 {
     let makers = index::makers(numbers, sets, job, i);
-    let q = creator(order, makers, p);
-    if q < p {
-        return generation(version, journal, booked, numbers, sets, order, memo, q) + 1;
+    match creator(order, makers, p) {
+        Some(q) => generation(version, journal, booked, numbers, sets, order, memo, q) + 1,
+        None => 1,
     }
-    1
 }
 
-fn is_at(order: &[u8], job: usize, i: usize) -> bool
-    requires { i < length order.now }
-    ensures { result ≡ is_at order.now job i }
+// The first position at which the job stands.
+fn position(order: &[u8], job: usize) -> Option<usize>
+    ensures { FirstFound (length order.now) (is_at order.now job) result }
 {
-    wide(order[i]) == job
-}
-
-// The first position at which the job stands, or how many there are.
-fn position(order: &[u8], job: usize) -> usize
-    ensures { result ≡ first_below (length order.now) (is_at order.now job) }
-{
-    let n = order.len();
-    for i in 0..n {
-        if is_at(order, job, i) {
-            return i;
-        }
-    }
-    n
-}
-
-// The job's number in the memo; past its end it counts as 0.
-fn memo_of(memo: &[u8], job: usize) -> u8
-    ensures { result ≡ get_or memo.now job 0 }
-{
-    if job < memo.len() {
-        return memo[job];
-    }
-    0
+    order.iter().position(|one| usize::from(*one) == job)
 }
 
 // As age, for an order that has the arrived jobs alone.
@@ -169,11 +115,10 @@ fn age_along(
     ensures value { result ≡ age_in (job_at version journal.now booked) order.now (length order.now) job }
     ensures memo { Memo (job_at version journal.now booked) order.now (length order.now) memo.new }
 {
-    let p = position(order, job);
-    if p < order.len() {
-        return generation(version, journal, booked, numbers, sets, order, memo, p);
+    match position(order, job) {
+        Some(p) => generation(version, journal, booked, numbers, sets, order, memo, p),
+        None => 0,
     }
-    0
 }
 
 // The generations of a job that is among the first `arrivals` of the order, 0 of one that is not. A job whose generations the
@@ -194,11 +139,11 @@ pub fn age(
     ensures memo { Memo (job_at version journal.now booked) order.now arrivals memo.new }
     ensures memo_len { length memo.new ≡ 128 }
 {
-    let known = memo_of(memo, job);
+    let known = codec::byte_at(memo, job);
     if known > 0 {
-        return (known - 1) as u32;
+        return u32::from(known - 1);
     }
-    age_along(
+    u32::from(age_along(
         version,
         journal,
         booked,
@@ -207,5 +152,5 @@ pub fn age(
         &order[..arrivals],
         memo,
         job,
-    ) as u32
+    ))
 }

@@ -8,7 +8,7 @@ ghost use Rattle.journal.specs.Journal.{capacity, job_at};
 ghost use Rattle.index.specs.Index.{IndexedEntries};
 ghost use Rattle.index.specs.Places.{links_at};
 ghost use Rattle.index.specs.Sets.{Tables};
-ghost use Rattle.rivalry.specs.Rivals.{conflicts_by, rivals_by, rivals_of, sharers_by, sharers_with};
+ghost use Rattle.rivalry.specs.Rivals.{conflicts_by, rivals_by, rivals_of, sharers_by};
 
 use index::{READERS, WRITERS};
 use job_sets::JobSet;
@@ -25,10 +25,8 @@ fn conflicts_by(
     requires { (job < capacity) × Tables numbers.now sets.now }
     ensures { result ≡ conflicts_by numbers.now sets.now inputs outputs s job }
 {
-    if queries::first_offending(numbers, sets, inputs, 8 * job, READERS, s) < 4 {
-        return true;
-    }
-    queries::first_offending(numbers, sets, outputs, 8 * job + 4, WRITERS, s) < 4
+    queries::first_offending(numbers, sets, inputs, 8 * job, READERS, s).is_some()
+        || queries::first_offending(numbers, sets, outputs, 8 * job + 4, WRITERS, s).is_some()
 }
 
 pub fn conflict(
@@ -56,25 +54,6 @@ pub fn conflict(
     )
 }
 
-// The set, and the jobs at the label of entry e, where there are so many.
-fn with_sharers(
-    numbers: &[u16],
-    sets: &[u64],
-    count: usize,
-    at: usize,
-    kind: usize,
-    e: usize,
-    found: JobSet,
-) -> JobSet
-    requires { (e < 4) × (at + 4 ≤ links_at) × (kind < 3) × InWords found × Tables numbers.now sets.now }
-    ensures { (result ≡ sharers_with numbers.now sets.now count at kind e found) × InWords result }
-{
-    if e < count {
-        return index::set_of(numbers, sets, at + e, kind).union(found);
-    }
-    found
-}
-
 // The jobs at the labels of one side.
 fn sharers(numbers: &[u16], sets: &[u64], count: usize, at: usize, kind: usize) -> JobSet
     requires { (at + 4 ≤ links_at) × (kind < 3) × Tables numbers.now sets.now }
@@ -82,7 +61,9 @@ fn sharers(numbers: &[u16], sets: &[u64], count: usize, at: usize, kind: usize) 
 {
     let mut found = JobSet::empty();
     for e in 0..4 {
-        found = with_sharers(numbers, sets, count, at, kind, e, found);
+        if e < count {
+            found = index::set_of(numbers, sets, at + e, kind).union(found);
+        }
     }
     found
 }

@@ -12,13 +12,13 @@ use Rattle.generations.proofs.+generation_parent.Goals as goal
 -- the job at p, which is not booked: no inputs
 pub generation-returns-then-job-booked-clause-value : goal.generation-returns-then-job-booked-clause-value
 generation-returns-then-job-booked-clause-value t c =
-    past_none _ _ _ c.args.order.now c.args.p _ c.wide-job.ensures.0 c.if-job-booked.true
+    past_none _ _ _ c.args.order.now c.args.p _ c.from-job.ensures c.if-job-booked.true
 
 -- it is known
 pub generation-returns-then-known-gt0-clause-value : goal.generation-returns-then-known-gt0-clause-value
 generation-returns-then-known-gt0-clause-value t c =
     memo_known _ _ _ _ c.requires.ready.right _ _ c.if-known-gt0.true
-    (rw (sym c.wide-job.ensures.0) at c.requires.first_at)
+    (rw (sym c.from-job.ensures) at c.requires.first_at)
 
 -- its inputs
 pub generation-inputs-count-requires : goal.generation-inputs-count-requires
@@ -39,7 +39,7 @@ pub generation-parent-next-requires : goal.generation-parent-next-requires
 generation-parent-next-requires t c =
     let ready = c.requires.ready in
     let l = c.loop-i in
-    let j = job_at c.args.version c.args.journal.now c.args.booked c.wide-job.result in (
+    let j = job_at c.args.version c.args.journal.now c.args.booked c.from-job.result in (
       omega arith,
       (
         record {
@@ -53,7 +53,7 @@ generation-parent-next-requires t c =
         },
         record {
           placed = c.requires.first_at.below;
-          at = sym c.wide-job.ensures.0;
+          at = sym c.from-job.ensures;
           below = c.if-job-booked.false;
           four = omega (arith, l.invariant.counted, inputs_le j);
           used = input_used j l.i (omega (arith, l.invariant.counted));
@@ -70,7 +70,7 @@ generation-loop-i-preserved t c =
       counted = l.invariant.counted;
       same = p.auto.memo ∙ l.invariant.same;
       right = p.ensures.memo;
-      is = most_more _ _ _ _ _ _ _ l.invariant.is p.ensures.value c.larger-most.ensures;
+      is = most_more _ _ _ _ _ _ _ l.invariant.is p.ensures.value c.max-most.ensures;
     }
 
 -- what is found is put down
@@ -81,15 +81,15 @@ pub generation-returns-clause-value : goal.generation-returns-clause-value
 generation-returns-clause-value t c =
     let l = c.loop-i in
     most_end (job_at c.args.version c.args.journal.now c.args.booked) (along c.args.order.now) c.args.p _ _ l.invariant.is
-    (le_antisymm l.invariant.upto c.loop-i-test.false ∙ rw c.wide-job.ensures.0 at l.invariant.counted)
+    (le_antisymm l.invariant.upto c.loop-i-test.false ∙ rw c.from-job.ensures at l.invariant.counted)
 
 pub generation-returns-clause-memo : goal.generation-returns-clause-memo
 generation-returns-clause-memo t c =
     let l = c.loop-i in
     let done =
     most_end (job_at c.args.version c.args.journal.now c.args.booked) (along c.args.order.now) c.args.p _ _ l.invariant.is
-    (le_antisymm l.invariant.upto c.loop-i-test.false ∙ rw c.wide-job.ensures.0 at l.invariant.counted) in
-    memo_set _ _ _ _ l.invariant.right _ _ _ (omega arith) (rw (sym c.wide-job.ensures.0) at c.requires.first_at) done
+    (le_antisymm l.invariant.upto c.loop-i-test.false ∙ rw c.from-job.ensures at l.invariant.counted) in
+    memo_set _ _ _ _ l.invariant.right _ _ _ (omega arith) (rw (sym c.from-job.ensures) at c.requires.first_at) done
 
 -- the creator's generations
 pub parent-generation-requires : goal.parent-generation-requires
@@ -97,7 +97,7 @@ parent-generation-requires t c = (
   omega arith,
   (
     c.requires.ready,
-    creator_first _ _ _ _ _ c.creator-q.ensures c.if-q-p.true (omega (arith, c.requires.input.placed)),
+    creator_first _ _ _ _ _ (sym c.in-Some.ensures.1) c.in-Some.ensures.0 (omega (arith, c.requires.input.placed)),
   ),
 )
 
@@ -108,25 +108,25 @@ parent-overflow_add-result t c =
       c.generation.ensures.value,
       c.requires.ready.short,
       c.requires.input.placed,
-      c.if-q-p.true,
-      generation_le (job_at c.args.version c.args.journal.now c.args.booked) (along c.args.order.now) c.creator-q.result,
+      c.in-Some.ensures.0,
+      generation_le (job_at c.args.version c.args.journal.now c.args.booked) (along c.args.order.now) c.in-Some.q,
     )
 
-pub parent-returns-then-q-p-clause-value : goal.parent-returns-then-q-p-clause-value
-parent-returns-then-q-p-clause-value t c =
+pub parent-returns-in-Some-clause-value : goal.parent-returns-in-Some-clause-value
+parent-returns-in-Some-clause-value t c =
     let ready = c.requires.ready in
     let input = c.requires.input in
     let made =
     creator_is _ _ _ _ _ _ ready.few ready.inside ready.entered _ _ _ _ _ input c.makers-makers.ensures.0
-    c.creator-q.ensures in
-    let from = input_from _ _ _ _ _ (rw (sym input.at) at input.used) made c.if-q-p.true in
+    (sym c.in-Some.ensures.1) in
+    let from = input_from _ _ _ _ _ (rw (sym input.at) at input.used) made c.in-Some.ensures.0 in
     omega (arith, c.generation.ensures.value, from)
 
-pub parent-returns-clause-value : goal.parent-returns-clause-value
-parent-returns-clause-value t c =
+pub parent-returns-in-None-clause-value : goal.parent-returns-in-None-clause-value
+parent-returns-in-None-clause-value t c =
     let ready = c.requires.ready in
     let input = c.requires.input in
     let made =
     creator_is _ _ _ _ _ _ ready.few ready.inside ready.entered _ _ _ _ _ input c.makers-makers.ensures.0
-    c.creator-q.ensures in
-    sym (input_new _ _ _ _ _ (rw (sym input.at) at input.used) made c.if-q-p.false)
+    (sym c.in-None.ensures) in
+    sym (input_new _ _ _ _ _ (rw (sym input.at) at input.used) made (omega arith))

@@ -1,6 +1,6 @@
 -- The position falls from one of the two to the other. The loop keeps the largest of what the inputs before the present one
 -- bring, and a memo that is right.
-use Rattle.std.proofs.Common.{List, ◌≡◌, ◌+◌, ◌*◌, ◌-◌, ◌≤◌, ℕ, length}
+use Rattle.std.proofs.Common.{List, ◌≡◌, ◌+◌, ◌*◌, ◌≤◌, ℕ, length}
 use Rattle.record.specs.declared.Job.{Job}
 use Rattle.journal.specs.Journal.{job_at}
 use Rattle.generations.specs.Generations.{along, highest}

@@ -6,9 +6,9 @@ use Rattle.generations.proofs.age.Goals as goal
 pub returns-then-known-gt0 : goal.returns-then-known-gt0
 returns-then-known-gt0 c =
     let s = c in
-    let known = c.memo_of-known.ensures in
+    let known = c.byte_at-known.ensures in
     record {
-      value = rw (sym known) at (memo_age _ _ _ _ s.requires.right s.args.job (rw known at c.if-known-gt0.true));
+      value = c.from.ensures ∙ rw (sym known) at (memo_age _ _ _ _ s.requires.right s.args.job (rw known at c.if-known-gt0.true));
       memo = s.requires.right;
       memo_len = s.requires.size;
     }
@@ -19,7 +19,7 @@ returns c =
     let a = c.age_along in
     let found = found_taken _ _ _ _ _ _ _ _ s.requires _ _ _ a.ensures.value a.ensures.memo in
     record {
-      value = found.0;
+      value = c.from-2.ensures ∙ found.0;
       memo = found.1;
       memo_len = a.auto.memo ∙ s.requires.size;
     }

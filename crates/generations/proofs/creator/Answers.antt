@@ -1,25 +1,13 @@
--- The loop's invariant: no position before the present one passes, so it returns at the first that does.
-use Prim.Native.Nat.{◌-◌}
-use Rattle.base.proofs.Search.{loops}
+-- Each of the first positions is tested, in order.
+use Rattle.std.proofs.Common.{rules}
+use Rattle.job_sets.specs.Jobs.{job_has}
+use Rattle.generations.proofs.Positions.{first_of_front, first_of_slice}
+use Rattle.generations.specs.Memo.{is_maker}
 use Rattle.generations.proofs.creator.Goals as goal
 
-pub loop-q-init : goal.loop-q-init
-loop-q-init c = search loops depth 8
-
-pub is_maker-requires : goal.is_maker-requires
-is_maker-requires c = search loops depth 8
-
-pub returns-then-is_maker : goal.returns-then-is_maker
-returns-then-is_maker c = search loops depth 8
-
-pub overflow_step-q : goal.overflow_step-q
-overflow_step-q c = search loops depth 8
-
-pub loop-q-smaller : goal.loop-q-smaller
-loop-q-smaller c = search loops depth 8
-
-pub loop-q-preserved : goal.loop-q-preserved
-loop-q-preserved c = search loops depth 8
-
 pub returns : goal.returns
-returns c = search loops depth 8
+unfolding is_maker
+returns c =
+    let a = c.args in
+    first_of_front a.order.now a.p _ (job_has a.makers) c.requires
+    (first_of_slice _ _ _ _ (job_has a.makers) (cc) (λ x r q k. search rules) c.position.ensures.ran)

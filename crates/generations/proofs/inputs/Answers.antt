@@ -16,10 +16,6 @@ counted : (version : ℕ) (journal part : List ℕ) (k count : ℕ) → part ≡
     → count ≡ (slot_job version journal k).inputs
 counted version journal part k count p e = e ∙ ap (λ (x : Job). x.inputs) (part_job version journal part k p)
 
-pub returns-then-count-lt4 : goal.returns-then-count-lt4
-unfolding inputs_of
-returns-then-count-lt4 c = let r = c in omega (arith, c.wide-count.ensures.0, counted _ _ _ _ _ r.slot.ensures r.inputs_of.ensures)
-
 pub returns : goal.returns
 unfolding inputs_of
-returns c = let r = c in omega (arith, c.wide-count.ensures.0, counted _ _ _ _ _ r.slot.ensures r.inputs_of.ensures)
+returns c = omega (arith, c.min.ensures, c.from.ensures, counted _ _ _ _ _ c.slot.ensures c.inputs_of.ensures)

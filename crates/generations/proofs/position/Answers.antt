@@ -1,25 +1,10 @@
--- The loop's invariant: no position before the present one passes, so it returns at the first that does.
-use Prim.Native.Nat.{◌-◌}
-use Rattle.base.proofs.Search.{loops}
+-- Each position is tested, in order.
+use Rattle.std.proofs.Common.{rules}
+use lib.Dec.{eqb}
+use Rattle.generations.proofs.Positions.{first_of_slice}
+use Rattle.generations.specs.Generations.{is_at}
 use Rattle.generations.proofs.position.Goals as goal
 
-pub loop-i-init : goal.loop-i-init
-loop-i-init c = search loops depth 8
-
-pub is_at-requires : goal.is_at-requires
-is_at-requires c = search loops depth 8
-
-pub returns-then-is_at : goal.returns-then-is_at
-returns-then-is_at c = search loops depth 8
-
-pub overflow_step-i : goal.overflow_step-i
-overflow_step-i c = search loops depth 8
-
-pub loop-i-smaller : goal.loop-i-smaller
-loop-i-smaller c = search loops depth 8
-
-pub loop-i-preserved : goal.loop-i-preserved
-loop-i-preserved c = search loops depth 8
-
 pub returns : goal.returns
-returns c = search loops depth 8
+unfolding is_at
+returns c = first_of_slice _ _ c.args.order.now _ (λ x. eqb x c.args.job) (cc) (λ x r q k. search rules) c.position.ensures.ran
