@@ -88,11 +88,11 @@ books_of l named =
 
 -- ---- behind a gate
 quiet_behind : (g : Verdict) (d : Decision) → d.change ≡ Nothing → (gated g d).change ≡ Nothing
-quiet_behind (Ok tt) d e = e
+quiet_behind (Ok _) d e = e
 quiet_behind (Err why) d e = refl
 
 loud_behind : (g : Verdict) (d : Decision) → is_nothing (gated g d).change ≡ false → g ≡ Ok (tt {0})
-loud_behind (Ok tt) d e = refl
+loud_behind (Ok _) d e = refl
 loud_behind (Err why) d e = absurd (true≢false e)
 
 abbrev is_hold : Change → Bool
@@ -107,12 +107,12 @@ is_hold (Count history) = false
 is_hold (Grant grant) = false
 
 unheld_behind : (g : Verdict) (d : Decision) → is_hold d.change ≡ false → is_hold (gated g d).change ≡ false
-unheld_behind (Ok tt) d e = e
+unheld_behind (Ok _) d e = e
 unheld_behind (Err why) d e = refl
 
 -- what is decided behind a gate may be read elsewhere where the gate is shut
 same_behind : (g : Verdict) (d e : Decision) → (g ≡ Ok (tt {0}) → d ≡ e) → gated g d ≡ gated g e
-same_behind (Ok tt) d e h = h refl
+same_behind (Ok _) d e h = h refl
 same_behind (Err why) d e h = refl
 
 ageing_quiet : (b : Bool) (age : ℕ) → (ageing b age).change ≡ Nothing
@@ -121,7 +121,7 @@ ageing_quiet true age = refl
 ageing_quiet false age = refl
 
 same_listed : (g : Verdict) (r q : Listing) → (g ≡ Ok (tt {0}) → r ≡ q) → gated_listing g r ≡ gated_listing g q
-same_listed (Ok tt) r q h = h refl
+same_listed (Ok _) r q h = h refl
 same_listed (Err why) r q h = refl
 
 -- three kinds look at all vaults

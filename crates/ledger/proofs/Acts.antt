@@ -62,7 +62,7 @@ module _ (l : Ledger) (journal : List ℕ) where
   -- a step that is answered 0 passed its row of checks
   behind : (q : Request) (g : Verdict) (d : Decision) → is_done (gated g d).outcome ≡ true → (g ≡ Ok (tt {0}) → is_done d.outcome ≡ true → Act l journal q d)
       → Act l journal q (gated g d)
-  behind q (Ok tt) d e h = h refl e
+  behind q (Ok _) d e h = h refl e
   behind q (Err why) d e h = absurd (true≢false (sym e))
 
   -- ---- preflight
@@ -71,7 +71,7 @@ module _ (l : Ledger) (journal : List ℕ) where
       is_done (consenting answer.consent answer.vault (signers_of l k) v).outcome ≡ true
       → Act l journal (preflight v k) (consenting answer.consent answer.vault (signers_of l k) v)
   consents v k h true s d e = signs_again v k h s
-  consents v k h false s (Ok tt) e = signs v k h s
+  consents v k h false s (Ok _) e = signs v k h s
   consents v k h false s (Err why) e = absurd (true≢false (sym e))
 
   pub act_preflight : (v k : ℕ) → is_done (preflight_decision l journal v k).outcome ≡ true → Act l journal (preflight v k) (preflight_decision l journal v k)
@@ -121,7 +121,7 @@ module _ (l : Ledger) (journal : List ℕ) where
       is_done (counting answer.consent answer.vault client (history_at l v client) (signers_of l k) v).outcome ≡ true
       → Act l journal (client_preflight v k client) (counting answer.consent answer.vault client (history_at l v client) (signers_of l k) v)
   counts v k client h c true s d e = asks_again v k client h c s
-  counts v k client h c false s (Ok tt) e = asks v k client h c s
+  counts v k client h c false s (Ok _) e = asks v k client h c s
   counts v k client h c false s (Err why) e = absurd (true≢false (sym e))
 
   pub act_client : (v k client : ℕ) → is_done (client_preflight_decision l journal v k client).outcome ≡ true

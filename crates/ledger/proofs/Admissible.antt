@@ -23,7 +23,7 @@ pub record CanTake (r : Register) (bytes : List ℕ) : Type 0 where
   pub new : (t : Entry) → In t (output_tapes (job_of bytes)) → In t.label r.made → ⊥
 
 reflect_passes : (v : Verdict) → Reflects (passes v) (v ≡ Ok (tt {0}))
-reflect_passes (Ok tt) = record { sound = λ e. refl; complete = λ e. refl }
+reflect_passes (Ok _) = record { sound = λ e. refl; complete = λ e. refl }
 reflect_passes (Err why) = record { sound = λ e. absurd (true≢false (sym e)); complete = λ e. let z : ◌≡◌ {A = ℕ} 0 1 = cc in absurd (omega arith) }
 
 pub reflect_admissible : (r : Register) (bytes : List ℕ) → Reflects (is_admissible r bytes) (CanTake r bytes)

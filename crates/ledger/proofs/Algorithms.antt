@@ -56,7 +56,7 @@ certificate_valid s recorded signers = record {
 
 -- what is decided behind a row of checks is answered 0 exactly where they pass
 passed : (g : Verdict) (d : Decision) → is_done d.outcome ≡ true → is_done (gated g d).outcome ≡ passes g
-passed (Ok tt) d e = e
+passed (Ok _) d e = e
 passed (Err why) d e = refl
 
 module _ (l : Ledger) (journal : List ℕ) (v k : ℕ) (in_place : Entered l journal v k false) where
@@ -88,7 +88,7 @@ module _ (l : Ledger) (journal : List ℕ) (v k : ℕ) (in_place : Entered l jou
 
   -- and only there; a booked record passed checks 6 to 9
   pub by_verdict : (d : Verdict) → is_done (let s = consented d vault k in consenting s.consent s.vault (signers_of l k) v).outcome ≡ true → d ≡ Ok (tt {0})
-  by_verdict (Ok tt) e = refl
+  by_verdict (Ok _) e = refl
   by_verdict (Err why) e = absurd (true≢false (sym e))
 
   pub signs_algorithm : check_of (jobs k) ≡ Ok (tt {0}) → job_has vault.signed k ≡ false → is_done (preflight_decision l journal v k).outcome ≡ true → Signs

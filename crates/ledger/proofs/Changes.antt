@@ -238,7 +238,7 @@ module _ (w : World) (sh : Shape w.ledger w.booked) (size : ℕ) (beyond : List 
 
   -- a row of checks, and what is decided behind it
   behind : (q : Request) (g : Verdict) (d : Decision) (v k : ℕ) → (g ≡ Ok (tt {0}) → Moves q (carried l d v k)) → Moves q (carried l (gated g d) v k)
-  behind q (Ok tt) d v k h = h refl
+  behind q (Ok _) d v k h = h refl
   behind q (Err why) d v k h = refuses q why v k
 
   correct : (v k : ℕ) → Entered l journal v k false → Correct l.settings v
@@ -268,7 +268,7 @@ module _ (w : World) (sh : Shape w.ledger w.booked) (size : ℕ) (beyond : List 
   unfolding applied
   consents v k true s d e h = answers (preflight v k) (ones (signers_of l k)) v k s
   consents v k false s (Err why) e h = refuses (preflight v k) why v k
-  consents v k false s (Ok tt) e h =
+  consents v k false s (Ok _) e h =
       moves (preflight v k) (carried l (voting (signers_of l k) v (Sign (signing (vault_at l v) k))) v k) (signed_booked v k)
       (signs v k (correct v k h) h.known.below (unblocked v k h e))
 
@@ -300,7 +300,7 @@ module _ (w : World) (sh : Shape w.ledger w.booked) (size : ℕ) (beyond : List 
   unfolding applied
   consents_counted v k client history true d e h = quietly v k client _ (Ok (ones (signers_of l k)))
   consents_counted v k client history false (Err why) e h = quietly v k client _ (Err why)
-  consents_counted v k client history false (Ok tt) e h =
+  consents_counted v k client history false (Ok _) e h =
       let entry : History = history_with client history true in
       moves (client_preflight v k client)
       (carried l (voting (signers_of l k) v (Grant (record { vault = signing (vault_at l v) k; history = entry }))) v k) (counted_booked v k entry)

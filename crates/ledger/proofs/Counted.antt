@@ -19,7 +19,7 @@ use Rattle.vaults.specs.declared.Vault.{Vault}
 
 -- a test of the number that a row of checks refuses with
 abbrev pub Says : (ℕ → Bool) → Bool → Verdict → Type 0
-Says p b (Ok tt) = Unit {0}
+Says p b (Ok _) = Unit {0}
 Says p b (Err why) = p (refusal_number why) ≡ b
 
 module _ (p : ℕ → Bool) (b : Bool) where

@@ -122,16 +122,16 @@ fails : {why : Refusal} → Err why ≡ Ok (tt {0}) → ⊥
 fails p = true≢false (sym (ap is_pass p))
   where
     is_pass : Verdict → Bool
-    is_pass (Ok tt) = true
+    is_pass (Ok _) = true
     is_pass (Err why) = false
 
 -- the figures of a row of checks: those of its refusal, or these
 abbrev number_or : ℕ → Verdict → ℕ
-number_or number (Ok tt) = number
+number_or number (Ok _) = number
 number_or number (Err why) = refusal_number why
 
 abbrev value_or : ℕ → Verdict → ℕ
-value_or value (Ok tt) = value
+value_or value (Ok _) = value
 value_or value (Err why) = refusal_value why
 
 -- ---- votes afterwards
@@ -296,7 +296,7 @@ module _ {w : World} {r : Register} (i : Inv w r) (e : Event) where
           ones (signers_of (applied l decision.change v k) k) ≡ total
           → Where (SignedHere w e v k) (Value total) (Admitted w e v k (Value total)) (number_of decision.outcome) (value_of decision.outcome)
       by h true s d a q = inl (s, (refl, q))
-      by h false s (Ok tt) a q =
+      by h false s (Ok _) a q =
           inr (
             λ t. clash t s,
             admitted_row v k (ones (with_member 16 (signers_of l k) v)) (Value total) (Ok (tt {0})) a
@@ -611,7 +611,7 @@ module _ {w : World} {r : Register} (i : Inv w r) (e : Event) where
       found = requiring (vault_at l v) (held_somewhere l.settings l.vaults) (version_of l) journal l.booked k
 
       gate_listing : (g : Verdict) → (gated g (record { outcome = found.outcome; change = Nothing })).outcome ≡ (gated_listing g found).outcome
-      gate_listing (Ok tt) = refl
+      gate_listing (Ok _) = refl
       gate_listing (Err why) = refl
 
       sized : (s : JobSet) → Smallest w e.size e.beyond v k (listing s) → First (NoSet v k) 21 (Gives (SmallestSize w e v k)) 0 (job_count s)
@@ -634,7 +634,7 @@ module _ {w : World} {r : Register} (i : Inv w r) (e : Event) where
       by : (b : Bool) (d : Verdict) (s : JobSet) → let a : Listing = cond b (listing no_jobs) (if_admitted d s) in Smallest w e.size e.beyond v k a
           → First (NoSet v k) 21 (Gives (SmallestSize w e v k)) (number_of a.outcome) (value_of a.outcome)
       by true d s t = sized no_jobs t
-      by false (Ok tt) s t = sized s t
+      by false (Ok _) s t = sized s t
       by false (Err why) s t = inl (t.none.0 refl, (refl, refl))
 
   -- ---- kind 12
@@ -659,7 +659,7 @@ module _ {w : World} {r : Register} (i : Inv w r) (e : Event) where
 
       over : (b : Bool) (d : Verdict) → Says is_counted true d → Says (λ n. eqb n 23) false d → (counts (said b d) ≡ true) × (is_over (said b d) ≡ b)
       over true d a c = (refl, refl)
-      over false (Ok tt) a c = (refl, refl)
+      over false (Ok _) a c = (refl, refl)
       over false (Err why) a c = (a, c)
 
   -- a new signature, and a request that enters the history alone
@@ -703,7 +703,7 @@ module _ {w : World} {r : Register} (i : Inv w r) (e : Event) where
       by h true p true s c x d a q = inr (λ f. omega (arith, f, ltb-true client 8 p), inl (s, (refl, ap ones (unasked v k _) ∙ q)))
       by h true p false s true x d a q =
           inr (λ f. omega (arith, f, ltb-true client 8 p), inr (λ f. clash f s, inl ((within true (sym x ∙ spent h p s)).sound refl, (refl, refl))))
-      by h true p false s false x (Ok tt) a q =
+      by h true p false s false x (Ok _) a q =
           inr (
             λ f. omega (arith, f, ltb-true client 8 p),
             inr (

@@ -55,7 +55,7 @@ passed_rest false v why e = cc
 
 -- a step that is answered 0 passed its gate
 pub done_gate : (g : Verdict) (d : Decision) → is_done (gated g d).outcome ≡ true → g ≡ Ok (tt {0})
-done_gate (Ok tt) d e = refl
+done_gate (Ok _) d e = refl
 done_gate (Err why) d e = absurd (true≢false (sym e))
 
 pub booked_entered : (l : Ledger) (journal : List ℕ) (job : ℕ) → booked_gate l journal job ≡ Ok (tt {0}) → Sane l × Booked (version_of l) journal l.booked job

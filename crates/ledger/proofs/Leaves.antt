@@ -16,7 +16,7 @@ use Rattle.base.proofs.Members.{in_get_d, reflect_member}
 use Rattle.base.proofs.Reflect.{reflect_eq, refuted}
 use Rattle.base.specs.Lists.{In, any_in}
 use Rattle.base.specs.Reflect.{Reflects}
-use Rattle.outcome.specs.Figures.{value_of}
+use Rattle.outcome.specs.Figures.{Outcome, value_of}
 use Rattle.std.specs.Prelude.{Ok, Err}
 use Rattle.outcome.specs.declared.Refusal.{Refusal}
 use Rattle.outcome.specs.declared.Refusal.TheVariants.{Full, Settings as BadSettings}
@@ -65,8 +65,12 @@ use Rattle.ledger.specs.declared.Decision.{Decision}
 use Rattle.ledger.specs.declared.History.{History}
 use Rattle.ledger.specs.declared.Ledger.{Ledger}
 
+-- a step carried out with the value
+abbrev done : ℕ → Outcome
+done value = Ok value
+
 -- the value that an answer carries
-answered : (a value : ℕ) → Ok a ≡ Ok value → value ≡ a
+answered : (a value : ℕ) → done a ≡ Ok value → value ≡ a
 answered a value e = sym (ap value_of e)
 
 module _ {w : World} {r : Register} (i : Inv w r) where
@@ -103,7 +107,7 @@ module _ {w : World} {r : Register} (i : Inv w r) where
     unfolding with_vault votes_in
     sign_count = ap ones (sym (stored (with_vault l v (signing (vault_at l v) k)) Signatures v k (in_votes i k hk)))
 
-    by_preflight : (value : ℕ) → has_signed w v k ≡ false → Ok (ones (with_member 16 (votes_in l Signatures k) v)) ≡ Ok value
+    by_preflight : (value : ℕ) → has_signed w v k ≡ false → done (ones (with_member 16 (votes_in l Signatures k) v)) ≡ Ok value
         → ByPreflight w signing_world v k value
     by_preflight value s e = record {
       signs = sign_joins;
@@ -118,7 +122,7 @@ module _ {w : World} {r : Register} (i : Inv w r) where
   unfolding signed_at voted_at
   signed_recorded v k s = i.safe.backed v k s
 
-  by_preflight_again : (v k value : ℕ) → has_signed w v k ≡ true → Ok (votes_on w Signatures k) ≡ Ok value → ByPreflight w w v k value
+  by_preflight_again : (v k value : ℕ) → has_signed w v k ≡ true → done (votes_on w Signatures k) ≡ Ok value → ByPreflight w w v k value
   by_preflight_again v k value s e = record {
     signs = joins_same (has_signed w) v k s;
     recorded = joins_same (has_voted w Signatures) v k (signed_recorded v k s);
@@ -154,7 +158,7 @@ module _ {w : World} {r : Register} (i : Inv w r) where
   sign_histories v k = refl
 
   by_client : (v k client value : ℕ) → v < l.settings.n → k < l.booked → is_client client ≡ true → has_signed w v k ≡ false
-      → Ok (ones (with_member 16 (votes_in l Signatures k) v)) ≡ Ok value
+      → done (ones (with_member 16 (votes_in l Signatures k) v)) ≡ Ok value
       → ByClientPreflight w (with_ledger w (counted (signed_by l v k) v (history_with client (history_at l v client) true))) v k client value
   unfolding counted votes_in
   by_client v k client value hv hk hc s e =
@@ -173,7 +177,7 @@ module _ {w : World} {r : Register} (i : Inv w r) where
       }
 
   by_client_again : (v k client value : ℕ) → v < l.settings.n → is_client client ≡ true → has_signed w v k ≡ true
-      → Ok (votes_on w Signatures k) ≡ Ok value
+      → done (votes_on w Signatures k) ≡ Ok value
       → ByClientPreflight w (with_ledger w (counted l v (history_with client (history_at l v client) false))) v k client value
   unfolding counted votes_in
   by_client_again v k client value hv hc s e =
@@ -244,7 +248,7 @@ module _ {w : World} {r : Register} (i : Inv w r) where
         ap ones (sym (stored receiving_vault Acknowledgements v k (in_votes i k hk)))
         ∙ ap (λ (xs : List Votes). ones (get_or xs k no_votes).acknowledgements) (sym (arrives acknowledging k).votes)
 
-    by_commit : (signers value : ℕ) → has_held w v k ≡ false → Ok (ones (with_member 16 (votes_in l Acknowledgements k) v)) ≡ Ok value
+    by_commit : (signers value : ℕ) → has_held w v k ≡ false → done (ones (with_member 16 (votes_in l Acknowledgements k) v)) ≡ Ok value
         → Inv holding_world (feed r (commit v k signers) true) → ByCommit w holding_world v k value
     by_commit signers value s e j = record {
       holds = hold_joins;
@@ -256,7 +260,7 @@ module _ {w : World} {r : Register} (i : Inv w r) where
     }
 
   -- a held job has arrived
-  by_commit_again : (v k value : ℕ) → has_voted w Acknowledgements v k ≡ true → has_held w v k ≡ true → Ok (votes_on w Acknowledgements k) ≡ Ok value
+  by_commit_again : (v k value : ℕ) → has_voted w Acknowledgements v k ≡ true → has_held w v k ≡ true → done (votes_on w Acknowledgements k) ≡ Ok value
       → ByCommit w w v k value
   unfolding held_at
   by_commit_again v k value a s e = record {
@@ -269,7 +273,7 @@ module _ {w : World} {r : Register} (i : Inv w r) where
   }
 
   -- ---- a faulty vault votes
-  by_vote : (c : Column) (v k value : ℕ) → v < l.settings.n → k < l.booked → Ok (ones (with_member 16 (votes_in l c k) v)) ≡ Ok value
+  by_vote : (c : Column) (v k value : ℕ) → v < l.settings.n → k < l.booked → done (ones (with_member 16 (votes_in l c k) v)) ≡ Ok value
       → ByFaultyVote w (with_ledger w (voted l c v k)) c v k value
   unfolding voted_at
   by_vote c v k value hv hk e = record {
@@ -279,7 +283,7 @@ module _ {w : World} {r : Register} (i : Inv w r) where
   }
 
   -- ---- a snapshot's visit
-  by_snapshot : (value : ℕ) → Ok (job_count (seen_next l)) ≡ Ok value → BySnapshot w (with_ledger w (visited l (seen_next l))) value
+  by_snapshot : (value : ℕ) → done (job_count (seen_next l)) ≡ Ok value → BySnapshot w (with_ledger w (visited l (seen_next l))) value
   unfolding visited
   by_snapshot value e =
       let shown = (vault_at l l.next).held in
@@ -301,7 +305,7 @@ module _ {w : World} {r : Register} (i : Inv w r) where
       nonzero h e = omega (arith, h, e)
 
   -- ---- a release
-  by_release : (v k value : ℕ) → v < l.settings.n → has_signed w v k ≡ true → Ok (votes_on w Signatures k) ≡ Ok value
+  by_release : (v k value : ℕ) → v < l.settings.n → has_signed w v k ≡ true → done (votes_on w Signatures k) ≡ Ok value
       → ByRelease w (with_ledger w (released_by l v k)) v k value
   unfolding with_vault unsigning signed_at votes_in
   by_release v k value hv s e =

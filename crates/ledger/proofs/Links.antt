@@ -42,12 +42,12 @@ use Rattle.ledger.specs.declared.Ledger.{Ledger}
 
 answered : (l : Ledger) (g : Verdict) (value v k : ℕ) → carried l (gated g (answering value)) v k ≡ reading l (gated g (answering value)).outcome
 unfolding applied
-answered l (Ok tt) value v k = refl
+answered l (Ok _) value v k = refl
 answered l (Err why) value v k = refl
 
 aged : (l : Ledger) (g : Verdict) (held : Bool) (age v k : ℕ) → carried l (gated g (ageing held age)) v k ≡ reading l (gated g (ageing held age)).outcome
 unfolding applied ageing
-aged l (Ok tt) held age v k =
+aged l (Ok _) held age v k =
     by_cases (λ b. carried l (cond b (answering age) (refusing NotHeld)) v k ≡ reading l (cond b (answering age) (refusing NotHeld)).outcome) held (λ e. refl)
     (λ e. refl)
 aged l (Err why) held age v k = refl

@@ -109,7 +109,7 @@ leaves l v k (Grant grant) p = absurd p
 
 -- ---- what is decided
 behind : (g : Verdict) (d : Decision) → Plain d.change → Plain (gated g d).change
-behind (Ok tt) d p = p
+behind (Ok _) d p = p
 behind (Err why) d p = tt
 
 either : (b : Bool) (d e : Decision) → Plain d.change → Plain e.change → Plain (cond b d e).change

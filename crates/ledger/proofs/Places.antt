@@ -87,7 +87,7 @@ module _ (l : Ledger) (journal bytes : List ℕ) where
       by : (a : Bool) → is_sane l ≡ a → (v : Verdict) → examined (version_of l) bytes ≡ v
           → Proposed l journal bytes
           (gated (cond a (Ok (tt {0})) (Err BadSettings)) (gated v (placing equal inside l.booked (has_room (version_of l) journal l.booked))))
-      by true e (Ok tt) f = placed ((reflect_sane l).sound e) f
+      by true e (Ok _) f = placed ((reflect_sane l).sound e) f
       by true e (Err why) f = failed why ((reflect_sane l).sound e) f
       by false e v f = insane (refuted (reflect_sane l) e)
 

@@ -152,7 +152,7 @@ module _ (l : Ledger) (bs : List ℕ) (sh : Shape l bs) (journal : List ℕ) (v 
       decides = rw (s, t) refl;
     },
   )
-  enters h hc false s false t (Ok tt) i j = (
+  enters h hc false s false t (Ok _) i j = (
     record { fresh = true; over = false },
     record {
       vault = omega (arith, h.vault, sh.lawful.vaults);
@@ -169,7 +169,7 @@ module _ (l : Ledger) (bs : List ℕ) (sh : Shape l bs) (journal : List ℕ) (v 
 
   turns : (g : Verdict) → Says is_counted false g → (d : Decision) → (g ≡ Ok (tt {0}) → Comes (carried l d v k)) → Comes (carried l (gated g d) v k)
   unfolding applied
-  turns (Ok tt) s d h = h refl
+  turns (Ok _) s d h = h refl
   turns (Err why) s d h = inl (record { uncounted = s; histories = refl })
 
   known : (b : Bool) (d : Decision) → (b ≡ true → Comes (carried l d v k)) → Comes (carried l (cond b d (refusing NoClient)) v k)
@@ -368,12 +368,12 @@ module _ (l : Ledger) (journal : List ℕ) (v k c : ℕ) where
           ≡ (known && (is_done (gated g (consenting usual.consent usual.vault (signers_of l k) v)).outcome && (signed || not spent)))
       go (Err why) true signed spent d = refl
       go (Err why) false signed spent d = refl
-      go (Ok tt) false signed spent d = refl
-      go (Ok tt) true true spent d = refl
-      go (Ok tt) true false true (Ok tt) = refl
-      go (Ok tt) true false true (Err why) = refl
-      go (Ok tt) true false false (Ok tt) = refl
-      go (Ok tt) true false false (Err why) = refl
+      go (Ok _) false signed spent d = refl
+      go (Ok _) true true spent d = refl
+      go (Ok _) true false true (Ok _) = refl
+      go (Ok _) true false true (Err why) = refl
+      go (Ok _) true false false (Ok _) = refl
+      go (Ok _) true false false (Err why) = refl
 
   -- a vault that signs is one of the vaults
   is_vault : Sane l → plain ≡ true → v < 16

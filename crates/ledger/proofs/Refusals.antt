@@ -108,7 +108,7 @@ use Rattle.vaults.specs.declared.Signing.{Signing}
 use Rattle.vaults.specs.declared.Vault.{Vault}
 
 abbrev verdict_number : Verdict → ℕ
-verdict_number (Ok tt) = 0
+verdict_number (Ok _) = 0
 verdict_number (Err why) = refusal_number why
 
 -- a verdict and an outcome that do not say 1
@@ -136,7 +136,7 @@ choose false x y p q = q
 
 -- a decision behind a row of checks
 behind : (g : Verdict) (d : Decision) → NotOne g → Fine d.outcome → Fine (gated g d).outcome
-behind (Ok tt) d p q = q
+behind (Ok _) d p q = q
 behind (Err why) d p q = refuses why p
 
 either : (b : Bool) (d e : Decision) → Fine d.outcome → Fine e.outcome → Fine (cond b d e).outcome
@@ -228,7 +228,7 @@ module _ (l : Ledger) (journal : List ℕ) (sane : is_sane l ≡ true) where
           → let answer : Signing = cond b (record { consent = Already; vault = state }) (consented d state k) in
           Fine (consenting answer.consent answer.vault signers v).outcome
       by true d n = done _
-      by false (Ok tt) n = done _
+      by false (Ok _) n = done _
       by false (Err why) n = refuses why n
 
   consents_counted : (state : Vault) (d : Verdict) (client history signers v k : ℕ) → NotOne d
@@ -240,7 +240,7 @@ module _ (l : Ledger) (journal : List ℕ) (sane : is_sane l ≡ true) where
           → let answer : Signing = cond b (record { consent = Already; vault = state }) (consented d state k) in
           Fine (counting answer.consent answer.vault client history signers v).outcome
       by true d n = done _
-      by false (Ok tt) n = done _
+      by false (Ok _) n = done _
       by false (Err why) n = refuses why n
 
   receives : (state : Vault) (acknowledgers v k : ℕ) → Fine (receiving state acknowledgers v k).outcome
@@ -252,11 +252,11 @@ module _ (l : Ledger) (journal : List ℕ) (sane : is_sane l ≡ true) where
   ages b age = either b _ _ (done age) (refuses NotHeld (fails NotHeld refl))
 
   listed : (g : Verdict) (r : Listing) → NotOne g → Fine r.outcome → Fine (gated_listing g r).outcome
-  listed (Ok tt) r p q = q
+  listed (Ok _) r p q = q
   listed (Err why) r p q = refuses why p
 
   admitted : (d : Verdict) (jobs : JobSet) → Fine (if_admitted d jobs).outcome
-  admitted (Ok tt) jobs = done (job_count jobs)
+  admitted (Ok _) jobs = done (job_count jobs)
   admitted (Err why) jobs = refuses NoSetWorks (fails NoSetWorks refl)
 
   requires : (state : Vault) (elsewhere : JobSet) (k : ℕ) → Fine (requiring state elsewhere (version_of l) journal l.booked k).outcome

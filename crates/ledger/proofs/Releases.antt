@@ -220,7 +220,7 @@ module _ (l : Ledger) (v k : ℕ) where
 
   only_behind : (g : Verdict) (d : Decision) → OnlySigned l (carried l d v k).ledger v k → OnlySigned l (carried l (gated g d) v k).ledger v k
   unfolding applied
-  only_behind (Ok tt) d h = h
+  only_behind (Ok _) d h = h
   only_behind (Err why) d h = only_same
 
 pub release_takes : ReleaseTakes

@@ -82,7 +82,7 @@ done : (value : ℕ) (c : Change) → Quiet (record { outcome = Ok value; change
 done value c = record { refused = λ why r. absurd (true≢false (ap is_done r)) }
 
 behind : (g : Verdict) (d : Decision) → Quiet d → Quiet (gated g d)
-behind (Ok tt) d q = q
+behind (Ok _) d q = q
 behind (Err why) d q = quiet (refusing why) refl
 
 either : (b : Bool) (d e : Decision) → Quiet d → Quiet e → Quiet (cond b d e)
@@ -130,7 +130,7 @@ module _ (client history : ℕ) where
   }
 
   noted : (g : Verdict) (d : Decision) → Says is_counted false g → Notes d → Notes (gated g d)
-  noted (Ok tt) d s n = n
+  noted (Ok _) d s n = n
   noted (Err why) d s n = notes_refused why false s
 
   counts : (state : Vault) (d : Verdict) (signers v k : ℕ) → Says is_counted true d → Notes (counted_consent state d client history signers v k)
@@ -142,7 +142,7 @@ module _ (client history : ℕ) where
           Notes (counting answer.consent answer.vault client history signers v)
       by true spent d s = notes_done _ _
       by false true d s = notes_refused OverQuota true refl
-      by false false (Ok tt) s = notes_done _ _
+      by false false (Ok _) s = notes_done _ _
       by false false (Err why) s = notes_refused why true s
 
   known : (b : Bool) (d : Decision) → Notes d → Notes (cond b d (refusing NoClient))

@@ -73,9 +73,9 @@ module _ (version : ℕ) (journal : List ℕ) (booked : ℕ) (bytes : List ℕ) 
           (cond b (record { outcome = Ok booked; change = Book }) (record { outcome = Err Full; change = Nothing })))).change ≡ Book
           → (examined version bytes ≡ Ok (tt {0})) × (has_room version journal booked ≡ true)
       by (Err why) p a b q h = no h
-      by (Ok tt) p true b q h = no h
-      by (Ok tt) p false false q h = no h
-      by (Ok tt) p false true q h = (p, q)
+      by (Ok _) p true b q h = no h
+      by (Ok _) p false false q h = no h
+      by (Ok _) p false true q h = (p, q)
 
   pub writes : (d : Decision) → d ≡ proposal version journal booked bytes → Writable d.change booked version journal bytes
   writes d e = record {

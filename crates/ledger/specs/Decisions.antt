@@ -53,7 +53,7 @@ voting votes v change = record { outcome = Ok (ones (with_member 16 votes v)); c
 
 -- a row of checks, and what is decided where it passes
 abbrev pub gated : Verdict → Decision → Decision
-gated (Ok tt) d = d
+gated (Ok _) d = d
 gated (Err why) d = refusing why
 
 -- ---- kind 1, a proposal: "6 to 9, then a booked equal, then 10". The value is the job's number.
@@ -152,7 +152,7 @@ abbrev pub unlisted : Refusal → Listing
 unlisted why = record { outcome = Err why; members = no_jobs }
 
 abbrev pub gated_listing : Verdict → Listing → Listing
-gated_listing (Ok tt) r = r
+gated_listing (Ok _) r = r
 gated_listing (Err why) r = unlisted why
 
 -- the vault, once it holds these jobs too
@@ -161,7 +161,7 @@ receiving_all state jobs = record { held = job_union state.held jobs; signed = s
 
 -- "then 21 exactly if no set works"
 abbrev pub if_admitted : Verdict → JobSet → Listing
-if_admitted (Ok tt) jobs = listing jobs
+if_admitted (Ok _) jobs = listing jobs
 if_admitted (Err why) jobs = unlisted NoSetWorks
 
 -- the jobs that make its missing inputs, where checks 11 to 14 pass with them

@@ -26,7 +26,7 @@ abbrev pub new_register : ℕ → Register
 new_register version = record { version = version; running = true; table = []; taken = []; standing = []; made = []; accessioned = 0 }
 
 abbrev pub passes : Verdict → Bool
-passes (Ok tt) = true
+passes (Ok _) = true
 passes (Err why) = false
 
 -- the job of a number in the table

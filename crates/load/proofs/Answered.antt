@@ -89,7 +89,7 @@ use Rattle.load.specs.declared.Step.TheVariants.{Commit, Draw, FaultyAcknowledge
 
 -- ---- no check of a step has the number 2
 abbrev verdict_number : Verdict → ℕ
-verdict_number (Ok tt) = 0
+verdict_number (Ok _) = 0
 verdict_number (Err why) = refusal_number why
 
 record Other (v : Verdict) : Type 0 where
@@ -116,7 +116,7 @@ row true x y p q = p
 row false x y p q = q
 
 behind : (g : Verdict) (d : Decision) → Other g → Answered d.outcome → Answered (gated g d).outcome
-behind (Ok tt) d p q = q
+behind (Ok _) d p q = q
 behind (Err why) d p q = refused why p
 
 either : (b : Bool) (d e : Decision) → Answered d.outcome → Answered e.outcome → Answered (cond b d e).outcome
@@ -155,7 +155,7 @@ consents state d signers v k n = by (job_has state.signed k) d n
         → let answer : Signing = cond b (record { consent = Already; vault = state }) (consented d state k) in
         Answered (consenting answer.consent answer.vault signers v).outcome
     by true d n = done (ones signers)
-    by false (Ok tt) n = done (ones (with_member 16 signers v))
+    by false (Ok _) n = done (ones (with_member 16 signers v))
     by false (Err why) n = refused why n
 
 module _ (l : Ledger) (journal : List ℕ) where

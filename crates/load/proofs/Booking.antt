@@ -93,7 +93,7 @@ abbrev Calm : Decision → Type 0
 Calm d = is_book d.change ≡ false
 
 gated_calm : (g : Verdict) (d : Decision) → Calm d → Calm (gated g d)
-gated_calm (Ok tt) d h = h
+gated_calm (Ok _) d h = h
 gated_calm (Err why) d h = refl
 
 if_calm : (b : Bool) (x y : Decision) → Calm x → Calm y → Calm (cond b x y)

@@ -62,7 +62,7 @@ check_rival f (suc (suc (suc zero))) h p = simp (le-leb 1 f p, eq-eqb (f + 0) (f
 check_rival f (suc (suc (suc (suc r)))) h p = absurd (omega arith)
 
 pass_is : (v : Verdict) → is_pass v ≡ true → v ≡ Ok (tt {0})
-pass_is (Ok tt) e = refl
+pass_is (Ok _) e = refl
 pass_is (Err why) e = absurd (true≢false (sym e))
 
 side_checked : all_below 40 (λ j. is_pass (check_of (side_job j))) ≡ true

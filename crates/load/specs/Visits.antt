@@ -8,7 +8,7 @@ use Rattle.runfile.specs.Run.{Run, command_of, ended, turn}
 use Rattle.runfile.specs.Steps.{Command, draw, request, unreadable}
 
 abbrev pub is_pass : Verdict → Bool
-is_pass (Ok tt) = true
+is_pass (Ok _) = true
 is_pass (Err why) = false
 
 -- a preflight that passes checks 3, 5 and 4: "of booked jobs at sound vaults"

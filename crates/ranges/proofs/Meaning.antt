@@ -133,7 +133,7 @@ module _ (e : Estimate) where
   accession_keeps k = kept (checks_of e)
     where
       kept : (v : Verdict) → (settle v e).ranges ≡ e.ranges
-      kept (Ok tt) = simp (ne_eqb e.kind 1 (λ d. absurd (omega arith)))
+      kept (Ok _) = simp (ne_eqb e.kind 1 (λ d. absurd (omega arith)))
       kept (Err r) = refl
 
   -- a choice gives an unused entry 0

@@ -44,7 +44,7 @@ fail_pass : (r : Refusal) → Err r ≡ Ok (tt {0}) → ⊥
 fail_pass r e = let z : true ≡ false = cc in true≢false z
 
 both_pass : (v w : Verdict) → first_failing v w ≡ Ok (tt {0}) → (v ≡ Ok (tt {0})) × (w ≡ Ok (tt {0}))
-both_pass (Ok tt) w e = (refl, e)
+both_pass (Ok _) w e = (refl, e)
 both_pass (Err r) w e = absurd (fail_pass r e)
 
 balance_pass : (b : Bool) (r : Refusal) → cond b (Ok (tt {0})) (Err r) ≡ Ok (tt {0}) → b ≡ true

@@ -30,7 +30,7 @@ is_bounded e j i = cond (is_used j i) true (eqb (high e i) 0)
 
 -- whether the lowest counts balance is not asked
 abbrev pub without_balance : Verdict → Verdict
-without_balance (Ok tt) = Ok tt
+without_balance (Ok _) = Ok tt
 without_balance (Err r) = cond (eqb (refusal_number r) 9) (Ok tt) (Err r)
 
 unfoldable pub form_of : Estimate → Verdict

@@ -44,7 +44,7 @@ balance_of e = cond (can_balance e) (Ok tt) (Err NoneBalances)
 -- ---- "Checks, after 6 to 8, ..: 24 ..; then 25"
 abbrev pub first_failing : Verdict → Verdict → Verdict
 first_failing (Err r) later = Err r
-first_failing (Ok tt) later = later
+first_failing (Ok _) later = later
 
 unfoldable pub checks_of : Estimate → Verdict
 checks_of e = first_failing (form_of e) (first_failing (order_of e) (balance_of e))
@@ -81,7 +81,7 @@ refuse r e = record { outcome = Err r; ranges = e.ranges }
 
 abbrev pub settle : Verdict → Estimate → Tightened
 settle (Err r) e = refuse r e
-settle (Ok tt) e = record { outcome = Ok 0; ranges = tightest_of e }
+settle (Ok _) e = record { outcome = Ok 0; ranges = tightest_of e }
 
 unfoldable pub tighten_of : Estimate → Tightened
 tighten_of e = settle (checks_of e) e

@@ -19,11 +19,11 @@ tapes_freed l journal = freed_tapes l (job_at (version_of l) journal l.booked)
 
 -- checks 1 and 4 come first, as for kind 13; the value is the number of tapes
 abbrev pub counted : Verdict → List Freed → Outcome
-counted (Ok tt) tapes = Ok (length tapes)
+counted (Ok _) tapes = Ok (length tapes)
 counted (Err why) tapes = Err why
 
 abbrev pub printed : Verdict → List Freed → List ℕ
-printed (Ok tt) tapes = list_text tapes
+printed (Ok _) tapes = list_text tapes
 printed (Err why) tapes = []
 
 -- the list of any ledger and any journal, at the front of a buffer, which is otherwise as it was

@@ -35,7 +35,7 @@ pub record Bookless (d : Decision) : Type 0 where
   pub none : is_book d.change ≡ false
 
 behind : (g : Verdict) (d : Decision) → Bookless d → Bookless (gated g d)
-behind (Ok tt) d b = b
+behind (Ok _) d b = b
 behind (Err why) d b = record { none = refl }
 
 consented : (c : Consent) (next : Vault) (signers v : ℕ) → Bookless (consenting c next signers v)

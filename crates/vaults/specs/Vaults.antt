@@ -22,7 +22,7 @@ unsigning v k = record { held = v.held; signed = job_without v.signed k }
 
 -- the vault's answer where checks 11 to 14 are what decides
 abbrev pub consented : Verdict → Vault → ℕ → Signing
-consented (Ok tt) v k = record { consent = Fresh; vault = signing v k }
+consented (Ok _) v k = record { consent = Fresh; vault = signing v k }
 consented (Err why) v k = record { consent = Denied why; vault = v }
 
 -- "A job signed here before is accepted again and changes nothing. Otherwise the vault signs if and only if checks 11 to
