@@ -15,17 +15,15 @@ fn total(job: Job, half: usize) -> u64
 {
     let mut sum: u64 = 0;
     for i in 0..4 {
-        sum += entries::used_frames(job, half + i) as u64;
+        sum += u64::from(entries::used_frames(job, half + i));
     }
     sum
 }
 
 // Check 9. Five numbers of 32 bits fit 64.
+#[tactic(auto, unfolding(checks::specs::Checks::balanced))]
 pub fn is_balanced(job: Job) -> bool
     ensures { result ≡ balanced job }
 {
-    if job.kind == 1 {
-        return total(job, 0) == total(job, 4) + job.trimmed as u64;
-    }
-    true
+    job.kind != 1 || total(job, 0) == total(job, 4) + u64::from(job.trimmed)
 }

@@ -1,68 +1,49 @@
 // When two jobs conflict.
 #![tactic(auto)]
 
-ghost use Rattle.std.specs.Prelude.{◌≡◌, ◌+◌, ◌≤◌};
-ghost use Rattle.base.specs.Search.{any_below};
-ghost use Rattle.conflicts.specs.Conflicts.{is_label_at, shares_at, conflicting};
+ghost use Rattle.std.specs.Prelude.{◌≡◌};
+ghost use Rattle.conflicts.specs.Conflicts.{is_label_at, label_in, shares_at, shares_in, conflicting};
 
 use record::{Job, entries};
 
 // Inputs are the half from entry 0 on and outputs that from entry 4 on.
-const INPUTS: usize = 0;
+const INPUTS: u8 = 0;
 
-const OUTPUTS: usize = 4;
+const OUTPUTS: u8 = 4;
 
 // Entry half + i is used and has the label.
-fn is_label_at(half: usize, job: Job, label: u64, i: usize) -> bool
-    requires { (half ≤ 4) × (i ≤ 4) }
+#[tactic(auto, unfolding(crate::specs::Conflicts::is_label_at))]
+fn is_label_at(half: u8, job: Job, label: u64, i: u8) -> bool
     ensures { result ≡ is_label_at half job label i }
 {
-    if entries::used(job, half + i) {
-        return entries::label(job, half + i) == label;
-    }
-    false
+    let entry = usize::from(half) + usize::from(i);
+    entries::used(job, entry) && entries::label(job, entry) == label
 }
 
-fn label_in(half: usize, job: Job, label: u64) -> bool
-    requires { half ≤ 4 }
-    ensures { result ≡ any_below 4 (is_label_at half job label) }
+fn label_in(half: u8, job: Job, label: u64) -> bool
+    ensures { result ≡ label_in half job label }
 {
-    for i in 0..4 {
-        if is_label_at(half, job, label, i) {
-            return true;
-        }
-    }
-    false
+    (0..4).any(|i| is_label_at(half, job, label, i))
 }
 
-fn shares_at(half: usize, a: Job, b: Job, i: usize) -> bool
-    requires { (half ≤ 4) × (i ≤ 4) }
+#[tactic(auto, unfolding(crate::specs::Conflicts::shares_at))]
+fn shares_at(half: u8, a: Job, b: Job, i: u8) -> bool
     ensures { result ≡ shares_at half a b i }
 {
-    if entries::used(a, half + i) {
-        return label_in(half, b, entries::label(a, half + i));
-    }
-    false
+    let entry = usize::from(half) + usize::from(i);
+    entries::used(a, entry) && label_in(half, b, entries::label(a, entry))
 }
 
-fn shares_in(half: usize, a: Job, b: Job) -> bool
-    requires { half ≤ 4 }
-    ensures { result ≡ any_below 4 (shares_at half a b) }
+fn shares_in(half: u8, a: Job, b: Job) -> bool
+    ensures { result ≡ shares_in half a b }
 {
-    for i in 0..4 {
-        if shares_at(half, a, b, i) {
-            return true;
-        }
-    }
-    false
+    (0..4).any(|i| shares_at(half, a, b, i))
 }
 
 // Whether the jobs share an input label or an output label.
+#[tactic(auto, unfolding(crate::specs::Conflicts::conflicting))]
 pub fn conflict(a: Job, b: Job) -> bool
     ensures { result ≡ conflicting a b }
 {
-    if shares_in(INPUTS, a, b) {
-        return true;
-    }
-    shares_in(OUTPUTS, a, b)
+    shares_in(INPUTS, a, b) || shares_in(OUTPUTS, a, b)
 }

@@ -1,6 +1,7 @@
 -- The call's answer is right about the game, whichever vaults are equivocating, and no other answer is.
 use mathlib.Core.Bool.{Bool, cond}
 use mathlib.Core.Path.{◌≡◌}
+use Rattle.std.specs.Prelude.{Ok, Err}
 use Prim.Native.Nat.{ℕ, zero, suc, ◌+◌, ◌≤◌, ◌<◌, min}
 use native.Mathlib.Omega.{arith}
 use lib.Dec.{leb, ltb}
@@ -13,12 +14,10 @@ use Rattle.contest.proofs.Lawful.{reflect_lawful}
 use Rattle.contest.proofs.Rivals.{force_stop, force_unstopped, one_right}
 use Rattle.contest.proofs.Tallies.{free_start, left_start}
 use Rattle.contest.proofs.Winning.{can_force, can_stop}
-use Rattle.contest.specs.Contest.{both_of, forecast_of, is_lawful, prospect_of, share_of}
+use Rattle.contest.specs.Contest.{Answer, both_of, forecast_of, is_lawful, prospect_of, share_of}
 use Rattle.contest.specs.Game.{first, second, count}
 use Rattle.contest.specs.Meaning.{Right, Told, known, unlawful}
 use Rattle.contest.specs.Plans.{CanForce, CanStop}
-use Rattle.contest.specs.declared.Answer.{Answer}
-use Rattle.contest.specs.declared.Answer.TheVariants.{Known, Refused}
 use Rattle.contest.specs.declared.Prospect.TheVariants.{First, Neither}
 
 -- ---- who can force a win
@@ -70,7 +69,7 @@ below_count f (suc k) =
 pub forecast_means : (n f t : ℕ) → Told n f t (forecast_of n f t)
 unfolding forecast_of
 forecast_means n f t =
-    by_cases (λ b. Told n f t (cond b (Known (record { prospect = prospect_of n f t; both = both_of n f t })) (Refused NoContest))) (is_lawful n f t)
+    by_cases (λ b. Told n f t (cond b (Ok (record { prospect = prospect_of n f t; both = both_of n f t })) (Err NoContest))) (is_lawful n f t)
     (λ e. let l = (reflect_lawful n f t).sound e in
     known _ _ l (λ equivocates h. prospect_right n equivocates f t h l.one) (λ equivocates h. reflect_both n equivocates f t h))
     (λ e. unlawful (refuted (reflect_lawful n f t) e))

@@ -1,10 +1,10 @@
 -- What the call answers (document 02, M-111), by numbers alone; what the answers mean along lines of play is in Meaning.antt.
-use Rattle.std.specs.Prelude.{Bool, cond, ◌&&◌, ℕ, ◌+◌, ◌-◌, ◌*◌, ◌/◌, ◌≤◌, max, leb}
+use Rattle.std.specs.Prelude.{Bool, cond, ◌&&◌, Result, Ok, Err, ℕ, ◌+◌, ◌-◌, ◌*◌, ◌/◌, ◌≤◌, max, leb}
 use Rattle.outcome.specs.declared.Refusal.TheVariants.{NoContest}
+use Rattle.outcome.specs.declared.Refusal.{Refusal}
+use Rattle.contest.specs.declared.Outlook.{Outlook}
 use Rattle.contest.specs.declared.Prospect.{Prospect}
 use Rattle.contest.specs.declared.Prospect.TheVariants.{First, Neither}
-use Rattle.contest.specs.declared.Answer.{Answer}
-use Rattle.contest.specs.declared.Answer.TheVariants.{Known, Refused}
 
 -- "26 unless n is 1 to 16, f at most n, and t 1 to n"
 unfoldable pub is_lawful : ℕ → ℕ → ℕ → Bool
@@ -30,6 +30,10 @@ prospect_of n f t = cond (leb t (share_of n f)) First Neither
 unfoldable pub both_of : ℕ → ℕ → ℕ → Bool
 both_of n f t = leb (2 * max (t - f) 0) (n - f)
 
+-- the outlook, or the refusal where there is no such contest
+abbrev pub Answer : Type 0
+Answer = Result Outlook Refusal
+
 unfoldable pub forecast_of : ℕ → ℕ → ℕ → Answer
 forecast_of n f t =
-    cond (is_lawful n f t) (Known (record { prospect = prospect_of n f t; both = both_of n f t })) (Refused NoContest)
+    cond (is_lawful n f t) (Ok (record { prospect = prospect_of n f t; both = both_of n f t })) (Err NoContest)

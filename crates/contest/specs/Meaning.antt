@@ -1,12 +1,10 @@
 -- What each answer of the call means (M-111), whichever f of the n vaults are equivocating.
-use Rattle.std.specs.Prelude.{Bool, ◌≡◌, ℕ}
+use Rattle.std.specs.Prelude.{Bool, ◌≡◌, Result, Ok, Err, ℕ}
 use Rattle.base.specs.Reflect.{Reflects}
 use Rattle.outcome.specs.declared.Refusal.TheVariants.{NoContest}
-use Rattle.contest.specs.Contest.{Lawful}
+use Rattle.contest.specs.Contest.{Answer, Lawful}
 use Rattle.contest.specs.Game.{first, second, count}
 use Rattle.contest.specs.Plans.{BothReach, CanForce, CanStop}
-use Rattle.contest.specs.declared.Answer.{Answer}
-use Rattle.contest.specs.declared.Answer.TheVariants.{Known, Refused}
 use Rattle.contest.specs.declared.Prospect.{Prospect}
 use Rattle.contest.specs.declared.Prospect.TheVariants.{First, Second, Neither}
 
@@ -17,8 +15,8 @@ Right n equivocates t Second = CanForce n equivocates t second
 Right n equivocates t Neither = CanStop n equivocates t first × CanStop n equivocates t second
 
 pub data Told (n f t : ℕ) : Answer → Type 0 where
-  unlawful : (Lawful n f t → ⊥) → Told n f t (Refused NoContest)
+  unlawful : (Lawful n f t → ⊥) → Told n f t (Err NoContest)
   known : (r : Prospect) (both : Bool) → Lawful n f t
       → ((equivocates : ℕ → Bool) → count n equivocates ≡ f → Right n equivocates t r)
       → ((equivocates : ℕ → Bool) → count n equivocates ≡ f → Reflects both (BothReach n equivocates t))
-      → Told n f t (Known (record { prospect = r; both = both }))
+      → Told n f t (Ok (record { prospect = r; both = both }))

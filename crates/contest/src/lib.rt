@@ -21,59 +21,45 @@ pub struct Outlook {
     pub both: bool,
 }
 
-#[derive(Clone, Copy)]
-pub enum Answer {
-    Known(Outlook),
-    Refused(Refusal),
-}
-
+#[tactic(auto, unfolding(crate::specs::Contest::is_lawful))]
 fn is_lawful(n: u8, f: u8, t: u8) -> bool
     ensures { result ≡ is_lawful n f t }
 {
-    if n < 1 {
-        return false;
-    }
-    if n > 16 {
-        return false;
-    }
-    if n < f {
-        return false;
-    }
-    if t < 1 {
-        return false;
-    }
-    t <= n
+    1 <= n && n <= 16 && f <= n && 1 <= t && t <= n
 }
 
+#[tactic(auto, using(crate::proofs::Lawful::law), unfolding(crate::specs::Contest::prospect_of, crate::specs::Contest::share_of))]
 fn who_can_force(n: u8, f: u8, t: u8) -> Prospect
     requires { is_lawful n f t ≡ true }
     ensures { result ≡ prospect_of n f t }
 {
     let correct = n - f;
     if t <= f + (correct + 1) / 2 {
-        return Prospect::First;
+        Prospect::First
+    } else {
+        Prospect::Neither
     }
-    Prospect::Neither
 }
 
+#[tactic(auto, using(crate::proofs::Lawful::law), unfolding(crate::specs::Contest::both_of))]
 fn both_reach(n: u8, f: u8, t: u8) -> bool
     requires { is_lawful n f t ≡ true }
     ensures { result ≡ both_of n f t }
 {
-    if t <= f {
-        return true;
-    }
-    2 * (t - f) <= n - f
+    2 * t.saturating_sub(f) <= n - f
 }
 
 // n vaults, f of them equivocating, and t signatures to win; 26 where there is no such contest.
-pub fn forecast(n: u8, f: u8, t: u8) -> Answer
+#[tactic(auto, unfolding(crate::specs::Contest::forecast_of))]
+pub fn forecast(n: u8, f: u8, t: u8) -> Result<Outlook, Refusal>
     ensures { result ≡ forecast_of n f t }
 {
     if is_lawful(n, f, t) {
-        let prospect = who_can_force(n, f, t);
-        let both = both_reach(n, f, t);
-        return Answer::Known(Outlook { prospect, both });
+        Ok(Outlook {
+            prospect: who_can_force(n, f, t),
+            both: both_reach(n, f, t),
+        })
+    } else {
+        Err(Refusal::NoContest)
     }
-    Answer::Refused(Refusal::NoContest)
 }

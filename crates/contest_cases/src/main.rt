@@ -2,7 +2,8 @@
 // jobs could reach t, or the refusal's number. Document 02 (M-111) decides what they must be; `stdout` holds them, and `reference` plays them out.
 #![tactic(auto)]
 
-use contest::{Answer, Outlook, Prospect};
+use contest::{Outlook, Prospect};
+use outcome::Refusal;
 use std::io;
 
 fn say_prospect(rt: &HostRuntime, prospect: Prospect) -> io::Result<()> {
@@ -22,10 +23,10 @@ fn say_outlook(rt: &HostRuntime, outlook: Outlook) -> io::Result<()> {
     Ok(())
 }
 
-fn say(rt: &HostRuntime, answer: Answer) -> io::Result<()> {
+fn say(rt: &HostRuntime, answer: Result<Outlook, Refusal>) -> io::Result<()> {
     match answer {
-        Answer::Known(outlook) => say_outlook(rt, outlook)?,
-        Answer::Refused(why) => {
+        Ok(outlook) => say_outlook(rt, outlook)?,
+        Err(why) => {
             let number = why.number();
             print!(rt; "{number}")?;
         }

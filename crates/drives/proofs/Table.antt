@@ -9,10 +9,11 @@ use native.Mathlib.Omega.{arith}
 use lib.Dec.{eqb, ltb}
 use lib.ListN.{get_or}
 use borrow.Author.Tests.{le-leb, ltb-true, ne_eqb, not-true}
-use Rattle.base.proofs.Reflect.{and_false, and_true}
+use Rattle.base.proofs.Reflect.{and_false, and_true, by_cases}
 use Rattle.base.proofs.Search.{all_at}
 use Rattle.base.specs.Search.{all_below}
 use Rattle.drives.specs.Drives.{is_drive, is_in_table, is_listed, read_rows, supports, write_rows}
+use Rattle.record.proofs.Ranges.{reflect_between}
 use Rattle.record.specs.Labels.{M8, is_between, media}
 
 abbrev reads : List (List Bool)
@@ -87,3 +88,18 @@ module _ (writing : Bool) (d m : ℕ) (low : 5 ≤ d) (high : d ≤ 9) where
   unfolding supports is_drive is_between
   supports_none h =
       simp (past m (row writing d) h at_drive.0, ne_eqb m M8 (λ q. absurd (omega (arith, q))), and_false)
+
+at_5_to_9 : (d : ℕ) → is_drive d ≡ true → (5 ≤ d) × (d ≤ 9)
+unfolding is_drive
+at_5_to_9 d = (reflect_between 5 9 d).sound
+
+no_drive : (writing : Bool) (d m : ℕ) → is_drive d ≡ false → false ≡ supports writing d m
+unfolding supports
+no_drive writing d m t = rw t refl
+
+-- nothing writes or reads what is no medium
+pub none_supported : (writing : Bool) (d m : ℕ) → media ≤ m → false ≡ supports writing d m
+none_supported writing d m h =
+    by_cases (λ _. false ≡ supports writing d m) (is_drive d)
+    (λ t. let r = at_5_to_9 d t in supports_none writing d m r.0 r.1 h)
+    (no_drive writing d m)

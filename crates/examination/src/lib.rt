@@ -2,93 +2,85 @@
 #![tactic(auto)]
 
 ghost use Rattle.std.specs.Prelude.{◌≡◌};
-ghost use Rattle.base.specs.Search.{any_below, first_below};
+ghost use Rattle.base.specs.Search.{FirstFound, any_below};
+ghost use Rattle.drives.specs.Drives.{supports};
+ghost use Rattle.record.specs.Entries.{label_of};
+ghost use Rattle.record.specs.Labels.{medium_of};
 ghost use Rattle.checks.specs.Checks.{has_label_of, repeated_at, is_written, unsupported_at, check_of, examined};
 
 use outcome::{Refusal, Verdict};
 use record::{Job, entries, labels};
 
 // Entry k is used and has the label of entry i.
+#[tactic(auto, unfolding(checks::specs::Checks::has_label_of))]
 fn has_label_of(job: Job, i: usize, k: usize) -> bool
     ensures { result ≡ has_label_of job i k }
 {
-    if entries::used(job, k) {
-        return entries::label(job, k) == entries::label(job, i);
-    }
-    false
+    entries::used(job, k) && entries::label(job, k) == entries::label(job, i)
 }
 
 fn seen_before(job: Job, i: usize) -> bool
     ensures { result ≡ any_below i (has_label_of job i) }
 {
-    for k in 0..i {
-        if has_label_of(job, i, k) {
-            return true;
-        }
-    }
-    false
+    (0..i).any(|k| has_label_of(job, i, k))
 }
 
+#[tactic(auto, unfolding(checks::specs::Checks::repeated_at))]
 fn repeated_at(job: Job, i: usize) -> bool
     ensures { result ≡ repeated_at job i }
 {
-    if entries::used(job, i) {
-        return seen_before(job, i);
-    }
-    false
+    entries::used(job, i) && seen_before(job, i)
 }
 
-// Check 7: the first entry whose label an earlier one has, or 8.
-fn first_repeated(job: Job) -> u8
-    ensures { result ≡ first_below 8 (repeated_at job) }
+// Check 7: the first entry whose label an earlier one has.
+fn first_repeated(job: Job) -> Option<u8>
+    ensures { FirstFound 8 (repeated_at job) result }
 {
-    for i in 0..8 {
-        if repeated_at(job, i as usize) {
-            return i;
-        }
-    }
-    8
+    (0..8).find(|&i| repeated_at(job, usize::from(i)))
 }
 
 // Outputs of a migration are written; every other entry is only read.
+#[tactic(auto, unfolding(checks::specs::Checks::is_written))]
 fn is_written(job: Job, i: usize) -> bool
     ensures { result ≡ is_written job i }
 {
-    if 4 <= i {
-        return job.kind == 1;
-    }
-    false
+    4 <= i && job.kind == 1
 }
 
+// Whether the drive reads the medium of entry i, or writes it; a label that names no medium has none.
+#[tactic(auto, using(drives::proofs::Table::none_supported))]
+fn is_supported(job: Job, i: usize) -> bool
+    ensures { result ≡ supports (is_written job i) job.drive (medium_of (label_of job i)) }
+{
+    match labels::medium_of(entries::label(job, i)) {
+        Some(medium) => drives::supports(is_written(job, i), job.drive, medium),
+        None => false,
+    }
+}
+
+#[tactic(auto, unfolding(checks::specs::Checks::unsupported_at))]
 fn unsupported_at(job: Job, i: usize) -> bool
     ensures { result ≡ unsupported_at job i }
 {
-    if entries::used(job, i) {
-        let medium = labels::medium_of(entries::label(job, i));
-        return !drives::supports(is_written(job, i), job.drive, medium);
-    }
-    false
+    entries::used(job, i) && !is_supported(job, i)
 }
 
-// Check 8: the first entry that the drive can't read or write, or 8.
-fn first_unsupported(job: Job) -> u8
-    ensures { result ≡ first_below 8 (unsupported_at job) }
+// Check 8: the first entry that the drive can't read or write.
+fn first_unsupported(job: Job) -> Option<u8>
+    ensures { FirstFound 8 (unsupported_at job) result }
 {
-    for i in 0..8 {
-        if unsupported_at(job, i as usize) {
-            return i;
-        }
-    }
-    8
+    (0..8).find(|&i| unsupported_at(job, usize::from(i)))
 }
 
 // The first of checks 6 to 9 that the job fails.
+#[tactic(auto, unfolding(checks::specs::Checks::check_of))]
 pub fn check(job: Job) -> Verdict
     ensures { result ≡ check_of job }
 {
     if !forms::well_formed(job) {
         return Err(Refusal::Malformed);
     }
+<<<<<<< HEAD
     let repeated = first_repeated(job);
     if repeated < 8 {
         return Err(Refusal::Repeated(repeated));
@@ -101,6 +93,19 @@ pub fn check(job: Job) -> Verdict
         return Ok(());
     }
     Err(Refusal::Unbalanced)
+=======
+    if let Some(entry) = first_repeated(job) {
+        return Err(Refusal::Repeated(entry));
+    }
+    if let Some(entry) = first_unsupported(job) {
+        return Err(Refusal::Unsupported(entry));
+    }
+    if balances::is_balanced(job) {
+        Ok(())
+    } else {
+        Err(Refusal::Unbalanced)
+    }
+>>>>>>> db9e58a59980ad5f6baf5b2830df94e270fc32dc
 }
 
 // The same of a record's bytes; any other number of bytes than the version's records have is malformed.
@@ -108,7 +113,12 @@ pub fn examine(version: u16, bytes: &[u8]) -> Verdict
     ensures { result ≡ examined version bytes.now }
 {
     if bytes.len() == codec::record_size(version) {
-        return check(records::read(version, bytes));
+        check(records::read(version, bytes))
+    } else {
+        Err(Refusal::Malformed)
     }
+<<<<<<< HEAD
     Err(Refusal::Malformed)
+=======
+>>>>>>> db9e58a59980ad5f6baf5b2830df94e270fc32dc
 }

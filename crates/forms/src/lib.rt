@@ -1,100 +1,74 @@
 // Check 6: whether a record is well formed.
 #![tactic(auto)]
 
-ghost use Rattle.std.specs.Prelude.{◌&&◌, ◌≡◌};
+ghost use Rattle.std.specs.Prelude.{◌≡◌};
 ghost use Rattle.base.specs.Search.{all_below};
 ghost use Rattle.checks.specs.Checks.{inputs_formed, counts_formed, is_filled, is_blank, entry_formed, trimmed_formed, well_formed};
 
 use record::{Job, entries, labels};
 
+#[tactic(auto, unfolding(checks::specs::Checks::inputs_formed))]
 fn inputs_formed(job: Job) -> bool
     ensures { result ≡ inputs_formed job }
 {
-    if job.kind == 0 {
-        return job.inputs == 0;
+    match job.kind {
+        0 => job.inputs == 0,
+        1 => labels::between(1, 4, job.inputs),
+        _ => false,
     }
-    if job.kind == 1 {
-        return labels::between(1, 4, job.inputs);
-    }
-    false
 }
 
+#[tactic(auto, unfolding(checks::specs::Checks::counts_formed))]
 fn counts_formed(job: Job) -> bool
     ensures { result ≡ counts_formed job }
 {
-    if inputs_formed(job) {
-        return labels::between(1, 4, job.outputs);
-    }
-    false
+    inputs_formed(job) && labels::between(1, 4, job.outputs)
 }
 
 // A used entry has a label and at least one frame.
+#[tactic(auto, unfolding(checks::specs::Checks::is_filled))]
 fn is_filled(job: Job, i: usize) -> bool
     ensures { result ≡ is_filled job i }
 {
-    if labels::is_label(entries::label(job, i)) {
-        return 1 <= entries::frames(job, i);
-    }
-    false
+    labels::is_label(entries::label(job, i)) && 1 <= entries::frames(job, i)
 }
 
 // An unused entry is all zero.
+#[tactic(auto, unfolding(checks::specs::Checks::is_blank))]
 fn is_blank(job: Job, i: usize) -> bool
     ensures { result ≡ is_blank job i }
 {
-    if entries::label(job, i) == 0 {
-        return entries::frames(job, i) == 0;
-    }
-    false
+    entries::label(job, i) == 0 && entries::frames(job, i) == 0
 }
 
+#[tactic(auto, unfolding(checks::specs::Checks::entry_formed))]
 fn entry_formed(job: Job, i: usize) -> bool
     ensures { result ≡ entry_formed job i }
 {
     if entries::used(job, i) {
-        return is_filled(job, i);
+        is_filled(job, i)
+    } else {
+        is_blank(job, i)
     }
-    is_blank(job, i)
 }
 
 fn entries_formed(job: Job) -> bool
     ensures { result ≡ all_below 8 (entry_formed job) }
 {
-    for i in 0..8 {
-        if !entry_formed(job, i) {
-            return false;
-        }
-    }
-    true
+    (0..8).all(|i| entry_formed(job, i))
 }
 
 // An accession trims nothing.
+#[tactic(auto, unfolding(checks::specs::Checks::trimmed_formed))]
 fn trimmed_formed(job: Job) -> bool
     ensures { result ≡ trimmed_formed job }
 {
-    if job.kind == 0 {
-        return job.trimmed == 0;
-    }
-    true
+    job.kind != 0 || job.trimmed == 0
 }
 
-fn filled(job: Job) -> bool
-    ensures { result ≡ (trimmed_formed job && all_below 8 (entry_formed job)) }
-{
-    if trimmed_formed(job) {
-        return entries_formed(job);
-    }
-    false
-}
-
+#[tactic(auto, unfolding(checks::specs::Checks::well_formed))]
 pub fn well_formed(job: Job) -> bool
     ensures { result ≡ well_formed job }
 {
-    if drives::is_drive(job.drive) {
-        if counts_formed(job) {
-            return filled(job);
-        }
-        return false;
-    }
-    false
+    drives::is_drive(job.drive) && counts_formed(job) && trimmed_formed(job) && entries_formed(job)
 }

@@ -1,25 +1,10 @@
--- The loop's invariant: no number before the present one passes, so it returns at the first that does.
-use Prim.Native.Nat.{◌-◌}
-use Rattle.base.proofs.Search.{loops}
+-- Each of the half's entries is tested, in order: `any` over the four numbers is the search that the definition names.
+use Rattle.std.proofs.Common.{rules}
+use mathlib.Core.Path.{refl}
+use Rattle.base.proofs.Ranges.{any_of_range}
+use Rattle.conflicts.specs.Conflicts.{label_in}
 use Rattle.conflicts.proofs.label_in.Goals as goal
 
-pub loop-i-init : goal.loop-i-init
-loop-i-init c = search loops depth 8
-
-pub is_label_at-requires : goal.is_label_at-requires
-is_label_at-requires c = search loops depth 8
-
-pub returns-then-is_label_at : goal.returns-then-is_label_at
-returns-then-is_label_at c = search loops depth 8
-
-pub overflow_step-i : goal.overflow_step-i
-overflow_step-i c = search loops depth 8
-
-pub loop-i-smaller : goal.loop-i-smaller
-loop-i-smaller c = search loops depth 8
-
-pub loop-i-preserved : goal.loop-i-preserved
-loop-i-preserved c = search loops depth 8
-
 pub returns : goal.returns
-returns c = search loops depth 8
+unfolding label_in
+returns c = any_of_range _ _ _ _ _ refl (λ x r q k. search rules) c.any.ensures.ran

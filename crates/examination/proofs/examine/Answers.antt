@@ -14,8 +14,8 @@ returns-then-bytes-record_size c =
     let n : length a.bytes.now ≡ record_size a.version = c.if-bytes-record_size.true ∙ c.record_size.ensures.0 in
     simp (eq-eqb _ _ n) (c.check.ensures ∙ ap check_of (c.read.ensures ∙ front_whole _ _ n))
 
-pub returns : goal.returns
+pub returns-else-bytes-record_size : goal.returns-else-bytes-record_size
 unfolding examined
-returns c =
+returns-else-bytes-record_size c =
     let a = c.args in
     simp (ne_eqb (length a.bytes.now) (record_size a.version) (λ e. c.if-bytes-record_size.false (e ∙ sym c.record_size.ensures.0)))
