@@ -19,23 +19,17 @@ pub fn is_whole(version: u16, journal: &[u8], booked: usize) -> bool
 pub fn is_booked(version: u16, journal: &[u8], booked: usize, job: usize) -> bool
     ensures { result ≡ is_booked version journal.now booked job }
 {
-    if is_whole(version, journal, booked) {
-        return job < booked;
-    }
-    false
+    is_whole(version, journal, booked) && job < booked
 }
 
 // The job's record inside the journal, or the empty part where check 4 fails.
 pub fn lookup(version: u16, journal: &[u8], booked: usize, job: usize) -> &[u8]
     ensures { result.now ≡ record_at version journal.now booked job }
 {
-    if booked > codec::whole_in(version, journal.len()) {
-        return &journal[0..0];
+    if is_booked(version, journal, booked, job) {
+        return slot(version, journal, job);
     }
-    if job >= booked {
-        return &journal[0..0];
-    }
-    slot(version, journal, job)
+    &[]
 }
 
 // The bytes in place k. A helper for whoever keeps a journal, not a step: the place lies inside. The index reads entries by it, and a test
@@ -53,11 +47,7 @@ pub fn slot(version: u16, journal: &[u8], k: usize) -> &[u8]
 pub fn inside(version: u16, journal: &[u8], booked: usize) -> usize
     ensures { result ≡ inside_of version journal.now booked }
 {
-    let fit = codec::whole_in(version, journal.len());
-    if booked <= fit {
-        return booked;
-    }
-    fit
+    booked.min(codec::whole_in(version, journal.len()))
 }
 
 // The bytes in place k, which lies inside, are these.
@@ -72,10 +62,7 @@ pub fn equal_at(version: u16, journal: &[u8], bytes: &[u8], k: usize) -> bool
 pub fn has_room(version: u16, journal: &[u8], booked: usize) -> bool
     ensures { result ≡ has_room version journal.now booked }
 {
-    if booked < CAPACITY {
-        return booked < codec::whole_in(version, journal.len());
-    }
-    false
+    booked < CAPACITY && booked < codec::whole_in(version, journal.len())
 }
 
 // Puts a record's bytes in place k. A helper for whoever keeps a journal, not a step: the caller has the room.

@@ -36,11 +36,7 @@ fn said(bytes: &[u8]) -> Job
 fn front(version: u16, bytes: &[u8]) -> &[u8]
     ensures { result.now ≡ take (record_size version) bytes.now }
 {
-    let size = record_size(version);
-    if size < bytes.len() {
-        return &bytes[..size];
-    }
-    bytes
+    &bytes[..bytes.len().min(record_size(version))]
 }
 
 // The job of the record at the front; bytes past the end count as 0, and what follows the record is not read.
@@ -74,7 +70,6 @@ pub fn write(version: u16, job: Job, out: &mut [u8]) -> bool
     put_body(job, out);
     if says_trimmed(version) {
         put_number(out, BODY, 4, job.trimmed as u64);
-        return true;
     }
     true
 }

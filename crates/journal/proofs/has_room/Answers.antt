@@ -7,6 +7,6 @@ pub returns-then-booked-lt-CAPACITY : goal.returns-then-booked-lt-CAPACITY
 unfolding has_room
 returns-then-booked-lt-CAPACITY c = simp (← c.whole_in.ensures, lt-ltb _ _ c.if-booked-lt-CAPACITY.true)
 
-pub returns : goal.returns
+pub returns-else-booked-lt-CAPACITY : goal.returns-else-booked-lt-CAPACITY
 unfolding has_room
-returns c = simp (le-ltb _ _ c.if-booked-lt-CAPACITY.false)
+returns-else-booked-lt-CAPACITY c = simp (le-ltb _ _ c.if-booked-lt-CAPACITY.false)

@@ -7,6 +7,6 @@ pub returns-then-is_whole : goal.returns-then-is_whole
 unfolding is_booked
 returns-then-is_whole c = search chain depth 8
 
-pub returns : goal.returns
+pub returns-else-is_whole : goal.returns-else-is_whole
 unfolding is_booked
-returns c = search chain depth 8
+returns-else-is_whole c = search chain depth 8

@@ -38,9 +38,9 @@ returns-then-says_trimmed c =
     let says = sym c.says_trimmed.ensures ∙ c.if-says_trimmed.true in
     (sym (le-leb _ _ fits), write_trimmed a.version a.out.now _ _ a.job says n fits b.put_body.ensures c.put_number.ensures)
 
-pub returns : goal.returns
+pub returns-else-says_trimmed : goal.returns-else-says_trimmed
 unfolding fits_record
-returns c =
+returns-else-says_trimmed c =
     let given = c.args in
     let n : length given.job.entries ≡ 8 = search length_mapped in
     let b = c in
