@@ -20,7 +20,7 @@ pub fn apply(mut ledger: Ledger, change: Change, vault: u8, job: u8) -> Ledger
     match change {
         Change::Nothing => ledger,
         Change::Book => {
-            ledger.booked = ledger.booked + 1;
+            ledger.booked += 1;
             ledger
         }
         Change::Sign(state) => {
@@ -67,31 +67,11 @@ pub fn apply(mut ledger: Ledger, change: Change, vault: u8, job: u8) -> Ledger
 pub fn is_nothing(change: Change) -> bool
     ensures { result ≡ is_nothing change }
 {
-    match change {
-        Change::Nothing => true,
-        Change::Book => false,
-        Change::Sign(_) => false,
-        Change::Hold(_) => false,
-        Change::Release(_) => false,
-        Change::Record(_) => false,
-        Change::See(_) => false,
-        Change::Count(_) => false,
-        Change::Grant(_) => false,
-    }
+    matches!(change, Change::Nothing)
 }
 
 pub fn is_book(change: Change) -> bool
     ensures { result ≡ is_book change }
 {
-    match change {
-        Change::Nothing => false,
-        Change::Book => true,
-        Change::Sign(_) => false,
-        Change::Hold(_) => false,
-        Change::Release(_) => false,
-        Change::Record(_) => false,
-        Change::See(_) => false,
-        Change::Count(_) => false,
-        Change::Grant(_) => false,
-    }
+    matches!(change, Change::Book)
 }

@@ -68,20 +68,5 @@ pub fn operation_of(version: u16, byte: u8) -> Operation
 pub fn is_unknown(kind: Kind) -> bool
     ensures { result ≡ is_unknown kind }
 {
-    match kind {
-        Kind::Propose => false,
-        Kind::Preflight => false,
-        Kind::Commit => false,
-        Kind::FaultySign => false,
-        Kind::FaultyAcknowledge => false,
-        Kind::Show => false,
-        Kind::Draw => false,
-        Kind::Generations => false,
-        Kind::Snapshot => false,
-        Kind::Release => false,
-        Kind::Dependencies => false,
-        Kind::ClientPreflight => false,
-        Kind::Equivocating => false,
-        Kind::Unknown => true,
-    }
+    matches!(kind, Kind::Unknown)
 }
