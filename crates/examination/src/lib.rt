@@ -80,20 +80,6 @@ pub fn check(job: Job) -> Verdict
     if !forms::well_formed(job) {
         return Err(Refusal::Malformed);
     }
-<<<<<<< HEAD
-    let repeated = first_repeated(job);
-    if repeated < 8 {
-        return Err(Refusal::Repeated(repeated));
-    }
-    let unsupported = first_unsupported(job);
-    if unsupported < 8 {
-        return Err(Refusal::Unsupported(unsupported));
-    }
-    if balances::is_balanced(job) {
-        return Ok(());
-    }
-    Err(Refusal::Unbalanced)
-=======
     if let Some(entry) = first_repeated(job) {
         return Err(Refusal::Repeated(entry));
     }
@@ -105,7 +91,6 @@ pub fn check(job: Job) -> Verdict
     } else {
         Err(Refusal::Unbalanced)
     }
->>>>>>> db9e58a59980ad5f6baf5b2830df94e270fc32dc
 }
 
 // The same of a record's bytes; any other number of bytes than the version's records have is malformed.
@@ -117,8 +102,4 @@ pub fn examine(version: u16, bytes: &[u8]) -> Verdict
     } else {
         Err(Refusal::Malformed)
     }
-<<<<<<< HEAD
-    Err(Refusal::Malformed)
-=======
->>>>>>> db9e58a59980ad5f6baf5b2830df94e270fc32dc
 }
