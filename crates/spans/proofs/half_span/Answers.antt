@@ -1,5 +1,4 @@
 -- Each sum so far with that of the entries that remain is the sum of all; five numbers of 32 bits fit 64.
-use Prim.Native.Nat.{◌-◌}
 use native.Mathlib.Nat.{add-zero}
 use native.Mathlib.Omega.{arith}
 use Rattle.base.proofs.Search.{sum_end, sum_next}
