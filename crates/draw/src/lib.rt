@@ -8,8 +8,10 @@ ghost use Rattle.binomials.specs.Draw.{draw_of, thousandths};
 
 use federation::Settings;
 use outcome::{Outcome, Refusal};
+use std::cmp::Ordering;
 
 // An exact half goes to the even neighbour.
+#[tactic(auto, unfolding(binomials::specs::Draw::thousandths, binomials::specs::Draw::to_even))]
 fn thousandths(part: u64, whole: u64) -> u64
     requires { (0 < whole) × (part ≤ whole) × (whole < 20923000000000) }
     ensures { result ≡ thousandths part whole }
@@ -17,13 +19,11 @@ fn thousandths(part: u64, whole: u64) -> u64
     let parts = 1000 * part;
     let down = parts / whole;
     let over = 2 * (parts % whole);
-    if over < whole {
-        return down;
+    match over.cmp(&whole) {
+        Ordering::Less => down,
+        Ordering::Greater => down + 1,
+        Ordering::Equal => down + down % 2,
     }
-    if whole < over {
-        return down + 1;
-    }
-    down + down % 2
 }
 
 // The chance in thousandths; 17 where more vaults are away than there are, and 1 where the settings are not lawful.

@@ -41,9 +41,10 @@ fn entry(row: usize, place: usize) -> u64
     ensures { result ≡ entry_at row place }
 {
     if place < 9 {
-        return LEFT[row][place];
+        LEFT[row][place]
+    } else {
+        RIGHT[row - 9][place - 9]
     }
-    RIGHT[row - 9][place - 9]
 }
 
 // C, 0 past the row's end.
@@ -51,8 +52,5 @@ pub(crate) fn choose(n: usize, k: usize) -> u64
     requires { n ≤ 16 }
     ensures { result ≡ choose n k }
 {
-    if n < k {
-        return 0;
-    }
-    entry(n, k)
+    if n < k { 0 } else { entry(n, k) }
 }

@@ -33,47 +33,41 @@ fn lowest_job(e: Estimate) -> Job
 }
 
 // An unused entry's highest is 0.
+#[tactic(auto, unfolding(ranges::specs::Form::is_bounded))]
 fn is_bounded(e: Estimate, job: Job, i: usize) -> bool
     requires { i < 8 }
     ensures { result ≡ is_bounded e job i }
 {
-    if record::used(job, i) {
-        return true;
-    }
-    e.ranges[i].highest == 0
+    record::used(job, i) || e.ranges[i].highest == 0
 }
 
 fn all_bounded(e: Estimate, job: Job) -> bool
     ensures { result ≡ all_below 8 (is_bounded e job) }
 {
-    for i in 0..8 {
-        if !is_bounded(e, job, i) {
-            return false;
-        }
-    }
-    true
+    (0..8).all(
+        |i|
+            requires { i < 8 }
+        { is_bounded(e, job, i) },
+    )
 }
 
 fn without_balance(verdict: Verdict) -> Verdict
     ensures { result ≡ without_balance verdict }
 {
     match verdict {
-        Ok(()) => Ok(()),
-        Err(why) => {
-            if why.number() == 9 {
-                return Ok(());
-            }
-            Err(why)
-        }
+        Verdict::Fail(why) if why.number() == 9 => Verdict::Pass,
+        _ => verdict,
     }
 }
 
+#[tactic(auto, unfolding(ranges::specs::Form::form_of))]
 pub fn check(e: Estimate) -> Verdict
     ensures { result ≡ form_of e }
 {
     let job = lowest_job(e);
     if all_bounded(e, job) {
-        return without_balance(examination::check(job));
+        without_balance(examination::check(job))
+    } else {
+        Verdict::Fail(Refusal::Malformed)
     }
-    Err(Refusal::Malformed)
 }

@@ -1,10 +1,8 @@
 // The lines of the input tapes of all finished jobs, in the release list.
 #![tactic(auto)]
 
-ghost use Rattle.std.specs.Prelude.{◌≡◌, ◌*◌, ◌+◌, ◌<◌, ◌≤◌, leb, length};
-ghost use Rattle.std.specs.Int.Count.{ones};
+ghost use Rattle.std.specs.Prelude.{◌≡◌, ◌*◌, ◌+◌, ◌<◌, ◌≤◌, length};
 ghost use Rattle.codec.specs.Codec.{place_of};
-ghost use Rattle.federation.specs.Federation.{threshold_of};
 ghost use Rattle.journal.specs.Journal.{Booked, job_at};
 ghost use Rattle.consequences.specs.Freed.{freed_tapes};
 ghost use Rattle.ledger.specs.State.{version_of};
@@ -15,13 +13,6 @@ use federation::Settings;
 use ledger::Ledger;
 use release_lines::Cursor;
 use vaults::Votes;
-
-// As many acknowledgements as finish a job.
-fn is_finished(settings: Settings, acknowledgements: u16) -> bool
-    ensures { result ≡ leb (threshold_of settings) (ones acknowledgements) }
-{
-    settings.threshold() <= sets::vaults::size(acknowledgements)
-}
 
 // The inputs of job k, where its votes finish it.
 fn list_job(
@@ -38,12 +29,13 @@ fn list_job(
     ensures { Listed out.old cursor (freed_with settings votes (job_at settings.version journal.now booked k) k)
         out.new result }
 {
-    if is_finished(settings, votes.acknowledgements) {
+    if settings.is_quorum(votes.acknowledgements) {
         let version = settings.version;
         let job = records::read(version, journal::lookup(version, journal, booked, k));
-        return release_lines::list_inputs(out, cursor, job, k as u32);
+        release_lines::list_inputs(out, cursor, job, k as u32)
+    } else {
+        cursor
     }
-    cursor
 }
 
 // The inputs of all finished jobs, by job and then by entry.

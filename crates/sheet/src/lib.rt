@@ -39,24 +39,20 @@ fn size(set: u16) -> u8
 fn state_of(settings: Settings, votes: Votes) -> u32
     ensures { result ≡ status_of settings votes }
 {
-    let decision = decisions::show(Ok(()), settings, votes);
-    let outcome = decision.outcome;
-    outcome::value(outcome)
+    let decision = decisions::show(Verdict::Pass, settings, votes);
+    decision.outcome.value()
 }
 
 // The vaults below n that are not among the signers.
+#[tactic(auto, using(crate::proofs::Unsigned::sign_begun, crate::proofs::Unsigned::sign_pass, crate::proofs::Unsigned::sign_more, crate::proofs::Unsigned::sign_end))]
 fn to_sign(n: u8, signers: u16) -> JobSet
     ensures { result ≡ to_sign n signers }
 {
     let mut found = JobSet::empty();
-    let mut v: u8 = 0;
-    while v < n {
-        if sets::vaults::has(signers, v) {
-            v += 1;
-            continue;
+    for v in 0..n {
+        if !sets::vaults::has(signers, v) {
+            found = found.with(usize::from(v));
         }
-        found = found.with(v as usize);
-        v += 1;
     }
     found
 }
@@ -93,7 +89,8 @@ pub fn job_line(ledger: Ledger, job: usize, out: &mut [u8]) -> usize
 {
     if job < 128 {
         let votes = ledger.votes[job];
-        return put_job(out, ledger.settings, votes, job as u8);
+        put_job(out, ledger.settings, votes, job as u8)
+    } else {
+        0
     }
-    0
 }

@@ -2,18 +2,12 @@
 #![tactic(auto)]
 
 ghost use Rattle.std.specs.Prelude.{◌≡◌, ◌+◌, ◌≤◌, ◌<◌};
-ghost use Rattle.base.specs.Search.{first_below};
+ghost use Rattle.base.specs.Search.{FirstFound};
 ghost use Rattle.ranges.specs.Ranges.{low, high};
 ghost use Rattle.ranges.specs.Tighten.{span_of, inflow, outflow, meets, can_balance, is_reversed, order_of, balance_of};
 
 use outcome::{Refusal, Verdict};
-use ranges::{Estimate, Span};
-
-pub fn wide(x: u32) -> u64
-    ensures { (result ≡ x) × (result ≤ 4294967295) }
-{
-    x as u64
-}
+use ranges::{Estimate, Range, Span};
 
 // The ends of four entries' ranges from `half` on, added up, with `extra`.
 fn half_span(e: Estimate, half: usize, extra: u64) -> Span
@@ -24,12 +18,14 @@ fn half_span(e: Estimate, half: usize, extra: u64) -> Span
     let mut least = extra;
     let mut most = extra;
     for i in 0..4 {
-        least += wide(e.ranges[half + i].lowest);
-        most += wide(e.ranges[half + i].highest);
+        let Range { lowest, highest } = e.ranges[half + i];
+        least += u64::from(lowest);
+        most += u64::from(highest);
     }
     Span { least, most }
 }
 
+#[tactic(auto, unfolding(ranges::specs::Tighten::inflow))]
 pub fn inward(e: Estimate) -> Span
     ensures value { result ≡ inflow e }
     ensures least_bound { (result.least ≤ 21474836475) × (result.most ≤ 21474836475) }
@@ -37,31 +33,29 @@ pub fn inward(e: Estimate) -> Span
     half_span(e, 0, 0)
 }
 
+#[tactic(auto, unfolding(ranges::specs::Tighten::outflow))]
 pub fn outward(e: Estimate) -> Span
     ensures value { result ≡ outflow e }
     ensures least_bound { (result.least ≤ 21474836475) × (result.most ≤ 21474836475) }
 {
-    half_span(e, 4, wide(e.trimmed))
+    half_span(e, 4, u64::from(e.trimmed))
 }
 
+#[tactic(auto, unfolding(ranges::specs::Tighten::meets))]
 fn meet(a: Span, b: Span) -> bool
     ensures { result ≡ meets a b }
 {
-    if a.least <= b.most {
-        return b.least <= a.most;
-    }
-    false
+    a.least <= b.most && b.least <= a.most
 }
 
+#[tactic(auto, unfolding(ranges::specs::Tighten::can_balance))]
 fn can_balance(e: Estimate) -> bool
     ensures { result ≡ can_balance e }
 {
-    if e.kind == 1 {
-        return meet(inward(e), outward(e));
-    }
-    true
+    e.kind != 1 || meet(inward(e), outward(e))
 }
 
+#[tactic(auto, unfolding(ranges::specs::Tighten::is_reversed))]
 fn is_reversed(e: Estimate, i: usize) -> bool
     requires { i < 8 }
     ensures { result ≡ is_reversed e i }
@@ -69,35 +63,36 @@ fn is_reversed(e: Estimate, i: usize) -> bool
     e.ranges[i].highest < e.ranges[i].lowest
 }
 
-// The first entry whose lowest count exceeds its highest, or 8.
-fn first_reversed(e: Estimate) -> u8
-    ensures { result ≡ first_below 8 (is_reversed e) }
+// The first entry whose lowest count exceeds its highest.
+fn first_reversed(e: Estimate) -> Option<u8>
+    ensures { FirstFound 8 (is_reversed e) result }
 {
-    for i in 0..8 {
-        if is_reversed(e, i as usize) {
-            return i;
-        }
-    }
-    8
+    (0..8).find(
+        |&i|
+            requires { i < 8 }
+        { is_reversed(e, usize::from(i)) },
+    )
 }
 
 // Check 24.
+#[tactic(auto, unfolding(ranges::specs::Tighten::order_of))]
 pub fn check_order(e: Estimate) -> Verdict
     ensures { result ≡ order_of e }
 {
-    let reversed = first_reversed(e);
-    if reversed < 8 {
-        return Err(Refusal::Reversed(reversed));
+    match first_reversed(e) {
+        Some(entry) => Verdict::Fail(Refusal::Reversed(entry)),
+        None => Verdict::Pass,
     }
-    Ok(())
 }
 
 // Check 25.
+#[tactic(auto, unfolding(ranges::specs::Tighten::balance_of))]
 pub fn check_balance(e: Estimate) -> Verdict
     ensures { result ≡ balance_of e }
 {
     if can_balance(e) {
-        return Ok(());
+        Verdict::Pass
+    } else {
+        Verdict::Fail(Refusal::NoneBalances)
     }
-    Err(Refusal::NoneBalances)
 }

@@ -8,51 +8,47 @@ ghost use Rattle.ranges.specs.Spans.{Meeting};
 use ranges::{Estimate, Range, Span};
 
 // What is missing where all else on its own side is at its most and the other side at its least.
+#[tactic(auto, unfolding(ranges::specs::Tighten::lower_end))]
 fn lower_end(own: Span, other: Span, range: Range) -> u32
     requires { Meeting own other }
     ensures { result ≡ lower_end own other range }
 {
-    let wanted = other.least + spans::wide(range.highest);
-    if wanted <= own.most {
-        return range.lowest;
-    }
-    let least = wanted - own.most;
-    if least <= spans::wide(range.lowest) {
-        return range.lowest;
-    }
-    least as u32
+    let missing = (other.least + u64::from(range.highest)).saturating_sub(own.most);
+    missing.max(u64::from(range.lowest)) as u32
 }
 
 // What there is room for where all else on its own side is at its least and the other side at its most.
+#[tactic(auto, unfolding(ranges::specs::Tighten::upper_end))]
 fn upper_end(own: Span, other: Span, range: Range) -> u32
     requires { Meeting own other }
     ensures { result ≡ upper_end own other range }
 {
-    let room = other.most + spans::wide(range.lowest) - own.least;
-    if spans::wide(range.highest) <= room {
-        return range.highest;
-    }
-    room as u32
+    let room = other.most + u64::from(range.lowest) - own.least;
+    room.min(u64::from(range.highest)) as u32
 }
 
+#[tactic(auto, unfolding(ranges::specs::Tighten::tightest_in))]
 fn tightest_in(own: Span, other: Span, range: Range) -> Range
     requires { Meeting own other }
     ensures { result ≡ tightest_in own other range }
 {
-    let lowest = lower_end(own, other, range);
-    let highest = upper_end(own, other, range);
-    Range { lowest, highest }
+    Range {
+        lowest: lower_end(own, other, range),
+        highest: upper_end(own, other, range),
+    }
 }
 
 // Entry i's own side is what goes in, or what comes out.
+#[tactic(auto, unfolding(ranges::specs::Tighten::tightest_by))]
 fn tightest_by(inward: Span, outward: Span, i: usize, range: Range) -> Range
     requires { Meeting inward outward × Meeting outward inward }
     ensures { result ≡ tightest_by inward outward i range }
 {
     if i < 4 {
-        return tightest_in(inward, outward, range);
+        tightest_in(inward, outward, range)
+    } else {
+        tightest_in(outward, inward, range)
     }
-    tightest_in(outward, inward, range)
 }
 
 // An accession keeps its ranges.

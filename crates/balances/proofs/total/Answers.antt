@@ -1,6 +1,5 @@
 -- The sum so far with that of the entries that remain is the sum of all; four numbers of 32 bits fit 64.
 use mathlib.Core.Path.{refl}
-use Prim.Native.Nat.{◌-◌}
 use native.Mathlib.Omega.{arith}
 use Rattle.base.proofs.Search.{sum_end, sum_next, sum_start}
 use Rattle.balances.proofs.total.Goals as goal

@@ -8,6 +8,3 @@ use Rattle.balances.proofs.total.Given as goal
 abbrev pub invariant-loop-i : goal.invariant-loop-i
 invariant-loop-i l =
     (l.i ≤ 4) × ((l.half ≤ 4) × ((l.sum ≤ l.i * 4294967295) × (l.sum + sum_from (used_frames l.job) (l.half + l.i) (4 - l.i) ≡ sum_from (used_frames l.job) l.half 4)))
-
-abbrev pub decreases-loop-i : goal.decreases-loop-i
-decreases-loop-i l = 4 - l.i

@@ -1,25 +1,12 @@
--- The loop's invariant: each number before the present one passes, so it returns at the first that does not.
-use Prim.Native.Nat.{◌-◌}
-use Rattle.base.proofs.Search.{loops}
+-- Each entry is tested, in order: `all` over the eight numbers is the search that the contract names.
+use Rattle.std.proofs.Common.{rules}
+use Rattle.std.proofs.lemmas.Iterator.{serves_from_Range}
+use mathlib.Core.Path.{refl}
+use Rattle.base.proofs.Ranges.{all_of_range}
 use Rattle.estimate_forms.proofs.all_bounded.Goals as goal
 
-pub loop-i-init : goal.loop-i-init
-loop-i-init c = search loops depth 8
-
-pub is_bounded-requires : goal.is_bounded-requires
-is_bounded-requires c = search loops depth 8
-
-pub returns-then-not-is_bounded : goal.returns-then-not-is_bounded
-returns-then-not-is_bounded c = search loops depth 8
-
-pub overflow_step-i : goal.overflow_step-i
-overflow_step-i c = search loops depth 8
-
-pub loop-i-smaller : goal.loop-i-smaller
-loop-i-smaller c = search loops depth 8
-
-pub loop-i-preserved : goal.loop-i-preserved
-loop-i-preserved c = search loops depth 8
+pub all-requires : goal.all-requires
+all-requires c = record { can = tt; finite = tt; callable = serves_from_Range (λ x q k. search rules) (λ x low high. search rules) }
 
 pub returns : goal.returns
-returns c = search loops depth 8
+returns c = all_of_range _ _ _ _ _ refl (λ x r q k. search rules) c.all.ensures.ran

@@ -1,6 +1,5 @@
 -- Each turn stores one entry, and what is stored with what remains is the whole list of entries.
 use mathlib.Core.Path.{refl}
-use Prim.Native.Nat.{◌-◌}
 use native.Mathlib.Omega.{arith}
 use lib.ListN.{length-set}
 use Rattle.ranges.proofs.Lists.{list_end, list_next, list_start}

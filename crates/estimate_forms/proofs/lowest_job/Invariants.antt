@@ -10,6 +10,3 @@ use Rattle.estimate_forms.proofs.lowest_job.Given as goal
 abbrev pub invariant-loop-i : goal.invariant-loop-i
 invariant-loop-i l =
     (l.i ≤ 8) × ((length l.entries ≡ 8) × (sets l.entries l.i (list_from (lowest_entry l.e) l.i (8 - l.i)) ≡ list_from (lowest_entry l.e) 0 8))
-
-abbrev pub decreases-loop-i : goal.decreases-loop-i
-decreases-loop-i l = 8 - l.i

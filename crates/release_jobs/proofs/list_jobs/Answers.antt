@@ -1,6 +1,5 @@
 -- The jobs before k are listed; there is room, since each takes four lines at most.
 use mathlib.Core.Path.{◌≡◌}
-use Prim.Native.Nat.{◌-◌}
 use native.Mathlib.Omega.{arith}
 use borrow.Author.Rules.{rules}
 use Rattle.journal.specs.Journal.{job_at}
@@ -42,18 +41,3 @@ returns c =
 
 pub loop-k-init : goal.loop-k-init
 loop-k-init c = search by
-
-pub offset_bounds-ledger-k : goal.offset_bounds-ledger-k
-offset_bounds-ledger-k c = search by
-
-pub bounds-ledger-k : goal.bounds-ledger-k
-bounds-ledger-k c = search by
-
-pub overflow_step-k : goal.overflow_step-k
-overflow_step-k c = search by
-
-pub loop-k-smaller : goal.loop-k-smaller
-loop-k-smaller c = search by
-
-pub shape_of-out : goal.shape_of-out
-shape_of-out c = search by

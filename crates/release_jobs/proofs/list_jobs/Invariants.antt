@@ -1,6 +1,6 @@
 -- The jobs before k are listed; there is room, since each takes four lines at most.
 use mathlib.Core.Path.{◌≡◌}
-use Prim.Native.Nat.{◌-◌, ◌≤◌}
+use Prim.Native.Nat.{◌≤◌}
 use lib.ListN.{length}
 use Rattle.codec.specs.Codec.{place_of}
 use Rattle.journal.specs.Journal.{job_at}
@@ -15,6 +15,3 @@ invariant-loop-k l =
     × (Listed l.initial.out (record { at = 0; count = 0 }) (freed_from l.ledger (job_at (version_of l.ledger) l.journal l.ledger.booked) 0 l.k) l.out l.cursor
     × ((length l.out ≡ length l.initial.out)
     × ((l.ledger.booked ≤ 128) × ((place_of (version_of l.ledger) l.ledger.booked ≤ length l.journal) × (12800 ≤ length l.initial.out)))))
-
-abbrev pub decreases-loop-k : goal.decreases-loop-k
-decreases-loop-k l = l.ledger.booked - l.k

@@ -9,5 +9,5 @@ returns-then-job-lt128 c =
     let start = test in
     listed_here start.args.ledger start.args.job test.if-job-lt128.true start.requires put.put_job.ensures.0 put.put_job.ensures.1
 
-pub returns : goal.returns
-returns c = let start = c in listed_past start.args.ledger start.args.job c.if-job-lt128.false
+pub returns-else-job-lt128 : goal.returns-else-job-lt128
+returns-else-job-lt128 c = let start = c in listed_past start.args.ledger start.args.job c.if-job-lt128.false

@@ -1,28 +1,12 @@
--- The loop's invariant: no number before the present one passes, so it returns at the first that does.
-use Prim.Native.Nat.{◌-◌}
-use Rattle.base.proofs.Search.{loops}
+-- Each entry is tested, in order: `find` over the eight numbers is the search that the contract names.
+use Rattle.std.proofs.Common.{rules}
+use Rattle.std.proofs.lemmas.Iterator.{serves_from_Range}
+use mathlib.Core.Path.{refl}
+use Rattle.base.proofs.Ranges.{first_of_range}
 use Rattle.spans.proofs.first_reversed.Goals as goal
 
-pub loop-i-init : goal.loop-i-init
-loop-i-init c = search loops depth 8
-
-pub overflow_cast-i : goal.overflow_cast-i
-overflow_cast-i c = search loops depth 8
-
-pub is_reversed-requires : goal.is_reversed-requires
-is_reversed-requires c = search loops depth 8
-
-pub returns-then-is_reversed : goal.returns-then-is_reversed
-returns-then-is_reversed c = search loops depth 8
-
-pub overflow_step-i : goal.overflow_step-i
-overflow_step-i c = search loops depth 8
-
-pub loop-i-smaller : goal.loop-i-smaller
-loop-i-smaller c = search loops depth 8
-
-pub loop-i-preserved : goal.loop-i-preserved
-loop-i-preserved c = search loops depth 8
+pub find-requires : goal.find-requires
+find-requires c = record { can = tt; finite = tt; callable = serves_from_Range (λ x q k. search rules) (λ x low high. search rules) }
 
 pub returns : goal.returns
-returns c = search loops depth 8
+returns c = first_of_range _ _ _ _ _ refl (λ x r q k. search rules) c.find.ensures.ran

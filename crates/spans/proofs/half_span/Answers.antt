@@ -1,5 +1,4 @@
 -- Each sum so far with that of the entries that remain is the sum of all; five numbers of 32 bits fit 64.
-use Prim.Native.Nat.{◌-◌}
 use native.Mathlib.Nat.{add-zero}
 use native.Mathlib.Omega.{arith}
 use Rattle.base.proofs.Search.{sum_end, sum_next}
@@ -18,10 +17,10 @@ loop-i-preserved c =
       (
         l.invariant.1.0,
         (
-          (omega (arith, c.wide-least.ensures), omega (arith, c.wide-most.ensures)),
+          (omega (arith, c.from-least.ensures), omega (arith, c.from-most.ensures)),
           (
-            rw c.wide-least.ensures.0 (sum_next _ _ _ _ l.i l.least inside sums.0),
-            rw c.wide-most.ensures.0 (sum_next _ _ _ _ l.i l.most inside sums.1),
+            rw c.from-least.ensures (sum_next _ _ _ _ l.i l.least inside sums.0),
+            rw c.from-most.ensures (sum_next _ _ _ _ l.i l.most inside sums.1),
           ),
         ),
       ),
@@ -39,7 +38,7 @@ returns c =
     }
 
 pub overflow_add-least : goal.overflow_add-least
-overflow_add-least c = omega (arith, c.wide-least.ensures)
+overflow_add-least c = omega (arith, c.from-least.ensures)
 
 pub overflow_add-most : goal.overflow_add-most
-overflow_add-most c = omega (arith, c.wide-most.ensures)
+overflow_add-most c = omega (arith, c.from-most.ensures)

@@ -12,6 +12,3 @@ invariant-loop-i l =
     × (((l.least ≤ (l.i + 1) * 4294967295) × (l.most ≤ (l.i + 1) * 4294967295))
     × ((l.least + sum_from (low l.e) (l.half + l.i) (4 - l.i) ≡ l.extra + sum_from (low l.e) l.half 4)
     × (l.most + sum_from (high l.e) (l.half + l.i) (4 - l.i) ≡ l.extra + sum_from (high l.e) l.half 4))))
-
-abbrev pub decreases-loop-i : goal.decreases-loop-i
-decreases-loop-i l = 4 - l.i

@@ -1,6 +1,5 @@
 -- Each turn stores one range, and what is stored with what remains is the whole list; an accession's list is returned as it was.
 use mathlib.Core.Path.{◌≡◌}
-use Prim.Native.Nat.{◌-◌}
 use native.Mathlib.Omega.{arith}
 use lib.ListN.{length, length-set}
 use borrow.Author.Tests.{eq-eqb, ne_eqb}

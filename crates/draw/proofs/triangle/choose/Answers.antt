@@ -7,5 +7,5 @@ use Rattle.draw.proofs.triangle.choose.Goals as goal
 pub returns-then-n-k : goal.returns-then-n-k
 returns-then-n-k c = sym (choose_past _ _ c.if-n-k.true)
 
-pub returns : goal.returns
-returns c = c.entry.ensures ∙ pascal.is_choose _ _ c.requires c.if-n-k.false
+pub returns-else-n-k : goal.returns-else-n-k
+returns-else-n-k c = c.entry.ensures ∙ pascal.is_choose _ _ c.requires c.if-n-k.false

@@ -6,5 +6,5 @@ use Rattle.draw.proofs.triangle.entry.Goals as goal
 pub returns-then-place-lt9 : goal.returns-then-place-lt9
 returns-then-place-lt9 c = on_left _ _ (omega arith) (omega arith)
 
-pub returns : goal.returns
-returns c = on_right _ _ (omega arith) (omega arith) (omega arith)
+pub returns-else-place-lt9 : goal.returns-else-place-lt9
+returns-else-place-lt9 c = on_right _ _ (omega arith) (omega arith) (omega arith)
