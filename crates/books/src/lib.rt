@@ -63,20 +63,15 @@ pub fn new(n: u8, b: u8, faulty: u16, version: u16) -> Reply
 }
 
 // Whether a run can have led here, as far as the settings and the counts tell.
+#[tactic(auto, unfolding(ledger::specs::State::is_sane))]
 pub fn is_sane(ledger: Ledger) -> bool
     ensures { result ≡ is_sane ledger }
 {
     let settings = ledger.settings;
-    if settings.is_lawful() {
-        if ledger.booked > CAPACITY {
-            return false;
-        }
-        if ledger.arrivals > CAPACITY {
-            return false;
-        }
-        return ledger.next < settings.n;
-    }
-    false
+    settings.is_lawful()
+        && ledger.booked <= CAPACITY
+        && ledger.arrivals <= CAPACITY
+        && ledger.next < settings.n
 }
 
 // Checks 1 and 4 of what names no job.

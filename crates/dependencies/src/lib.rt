@@ -21,10 +21,7 @@ use vaults::Vault;
 fn holds(faulty: u16, held: JobSet, vault: u8, job: usize) -> bool
     ensures { result ≡ (not (has_bit faulty vault) && job_has held job) }
 {
-    if sets::vaults::has(faulty, vault) {
-        return false;
-    }
-    held.has(job)
+    !sets::vaults::has(faulty, vault) && held.has(job)
 }
 
 // Check 18: some correct vault holds the job.
@@ -32,15 +29,7 @@ fn is_held(settings: Settings, vaults: [Vault; 16], job: usize) -> bool
     requires { settings.n ≤ 16 }
     ensures { result ≡ is_held settings vaults job }
 {
-    let n = settings.n;
-    for v in 0..n {
-        let at = v as usize;
-        let vault = vaults[at];
-        if holds(settings.faulty, vault.held, v, job) {
-            return true;
-        }
-    }
-    false
+    (0..settings.n as usize).any(|v| holds(settings.faulty, vaults[v].held, v as u8, job))
 }
 
 // Kind 8, where the job is booked. The memo has the generations that were found before.

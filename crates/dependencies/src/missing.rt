@@ -1,11 +1,9 @@
 // Kind 11: the jobs that a vault must hold before it can sign.
-ghost use Rattle.std.specs.Prelude.{cond, ◌≡◌, ◌<◌, ◌≤◌};
+ghost use Rattle.std.specs.Prelude.{◌≡◌, ◌<◌, ◌≤◌};
 ghost use Rattle.index.specs.Index.{IndexedEntries};
 ghost use Rattle.ledger.specs.Decisions.{gated_listing, if_admitted, requiring, supplying};
 ghost use Rattle.ledger.specs.Given.{Known};
 ghost use Rattle.ledger.specs.Holders.{held_somewhere};
-ghost use Rattle.sets.specs.Bits.{has_bit};
-ghost use Rattle.job_sets.specs.Jobs.{job_union};
 
 use federation::Settings;
 use job_sets::JobSet;
@@ -13,27 +11,16 @@ use ledger::Listing;
 use outcome::{Refusal, Verdict};
 use vaults::Vault;
 
-// The jobs so far, and those of a vault that is not faulty.
-fn held_with(faulty: u16, held: JobSet, vault: u8, jobs: JobSet) -> JobSet
-    ensures { result ≡ cond (has_bit faulty vault) jobs (job_union jobs held) }
-{
-    if sets::vaults::has(faulty, vault) {
-        return jobs;
-    }
-    jobs.union(held)
-}
-
 // The jobs that at least one correct vault holds.
 fn held_somewhere(settings: Settings, vaults: [Vault; 16]) -> JobSet
     requires { settings.n ≤ 16 }
     ensures { result ≡ held_somewhere settings vaults }
 {
-    let n = settings.n;
     let mut jobs = JobSet::empty();
-    for v in 0..n {
-        let at = v as usize;
-        let vault = vaults[at];
-        jobs = held_with(settings.faulty, vault.held, v, jobs);
+    for v in 0..settings.n {
+        if !sets::vaults::has(settings.faulty, v) {
+            jobs = jobs.union(vaults[v as usize].held);
+        }
     }
     jobs
 }

@@ -2,8 +2,7 @@
 // the journal's.
 #![tactic(auto)]
 
-ghost use Rattle.std.specs.Prelude.{◌≡◌, ◌≤◌, cond, leb};
-ghost use Rattle.std.specs.Int.Bits.{bit_or};
+ghost use Rattle.std.specs.Prelude.{◌≡◌, ◌≤◌, cond};
 ghost use Rattle.index.specs.Index.{IndexedEntries};
 ghost use Rattle.journal.specs.Journal.{job_at};
 ghost use Rattle.ledger.specs.Equivocation.{equivocators};
@@ -16,7 +15,6 @@ ghost use Rattle.equivocation.specs.Partners.{
   recorded_in,
   signed_pairs,
   signers_among,
-  with_if,
 };
 
 use federation::Settings;
@@ -30,16 +28,6 @@ struct Few {
     one: JobSet,
 }
 
-// The set, and the job where so many are at least the others.
-fn with_enough(enough: u32, there: u32, found: JobSet, k: usize) -> JobSet
-    ensures { result ≡ with_if (leb enough there) found k }
-{
-    if enough <= there {
-        return found.with(k);
-    }
-    found
-}
-
 fn certified_jobs(settings: Settings, votes: [Votes; 128], booked: usize) -> JobSet
     requires { booked ≤ 128 }
     ensures { result ≡ certified_jobs settings (recorded_in votes) booked }
@@ -47,8 +35,9 @@ fn certified_jobs(settings: Settings, votes: [Votes; 128], booked: usize) -> Job
     let threshold = settings.threshold();
     let mut found = JobSet::empty();
     for k in 0..booked {
-        let one = votes[k];
-        found = with_enough(threshold, sets::vaults::size(one.signatures), found, k);
+        if threshold <= sets::vaults::size(votes[k].signatures) {
+            found = found.with(k);
+        }
     }
     found
 }
@@ -70,8 +59,12 @@ fn few_excuses(
     for k in 0..booked {
         let rivals = rivalry::rivals_of(numbers, sets, version, journal, booked, k);
         let excuses = rivals.common(certified).count();
-        none = with_enough(excuses, 0, none, k);
-        one = with_enough(excuses, 1, one, k);
+        if excuses == 0 {
+            none = none.with(k);
+        }
+        if excuses <= 1 {
+            one = one.with(k);
+        }
     }
     Few { none, one }
 }
@@ -99,15 +92,6 @@ fn partners_of(rivals: JobSet, certified: JobSet, few: Few, k: usize) -> JobSet
     JobSet::empty()
 }
 
-fn joined(jobs: JobSet, k: usize, signers: u16, all: u16) -> u16
-    ensures { result ≡ cond (job_has jobs k) (bit_or signers all) all }
-{
-    if jobs.has(k) {
-        return signers | all;
-    }
-    all
-}
-
 // The vaults that signed one of these jobs.
 fn signers_among(votes: [Votes; 128], booked: usize, jobs: JobSet) -> u16
     requires { booked ≤ 128 }
@@ -116,10 +100,11 @@ fn signers_among(votes: [Votes; 128], booked: usize, jobs: JobSet) -> u16
     if jobs.is_empty() {
         return 0;
     }
-    let mut all: u16 = 0;
+    let mut all = 0;
     for k in 0..booked {
-        let one = votes[k];
-        all = joined(jobs, k, one.signatures, all);
+        if jobs.has(k) {
+            all |= votes[k].signatures;
+        }
     }
     all
 }
@@ -138,23 +123,13 @@ fn signed_pairs(
     requires { IndexedEntries version journal.now booked numbers.now sets.now }
     ensures { result ≡ signed_pairs (recorded_in votes) (job_at version journal.now booked) booked certified few.none few.one booked }
 {
-    let mut all: u16 = 0;
+    let mut all = 0;
     for k in 0..booked {
         let rivals = rivalry::rivals_of(numbers, sets, version, journal, booked, k);
-        let one = votes[k];
         let others = signers_among(votes, booked, partners_of(rivals, certified, few, k));
-        all = one.signatures & others | all;
+        all |= votes[k].signatures & others;
     }
     all
-}
-
-fn with_vault(all: u16, v: u8, found: JobSet) -> JobSet
-    ensures { result ≡ with_if (has_bit all v) found v }
-{
-    if sets::vaults::has(all, v) {
-        return found.with(v as usize);
-    }
-    found
 }
 
 // Those below n, as a set of numbers.
@@ -163,7 +138,9 @@ fn vaults_below(n: u8, all: u16) -> JobSet
 {
     let mut found = JobSet::empty();
     for v in 0..n {
-        found = with_vault(all, v, found);
+        if sets::vaults::has(all, v) {
+            found = found.with(v as usize);
+        }
     }
     found
 }

@@ -11,6 +11,7 @@ use outcome::{Outcome, Refusal, Verdict};
 use vaults::Vault;
 
 // Check 20: the vault holds the other job, which is a rival.
+#[tactic(auto, unfolding(ledger::specs::Decisions::superseded_at))]
 fn is_superseded(
     state: Vault,
     numbers: &[u16],
@@ -24,13 +25,9 @@ fn is_superseded(
     requires { (job < booked) × (rival < booked) × IndexedEntries version journal.now booked numbers.now sets.now }
     ensures { result ≡ superseded_at state version journal.now booked job rival }
 {
-    if job == rival {
-        return false;
-    }
-    if state.held.has(rival) {
-        return rivalry::conflict(numbers, sets, version, journal, booked, job, rival);
-    }
-    false
+    job != rival
+        && state.held.has(rival)
+        && rivalry::conflict(numbers, sets, version, journal, booked, job, rival)
 }
 
 // Check 4 of the rival, then 19 and 20.
@@ -47,16 +44,16 @@ fn supersession(
     requires { (job < booked) × IndexedEntries version journal.now booked numbers.now sets.now }
     ensures { result ≡ supersession state version journal.now booked job rival }
 {
-    if journal::is_booked(version, journal, booked, rival) {
-        if state.signed.has(job) {
-            if is_superseded(state, numbers, sets, version, journal, booked, job, rival) {
-                return Ok(());
-            }
-            return Err(Refusal::NotSuperseded);
-        }
-        return Err(Refusal::NotSignedHere);
+    if !journal::is_booked(version, journal, booked, rival) {
+        return Verdict::Fail(Refusal::NotBooked);
     }
-    Err(Refusal::NotBooked)
+    if !state.signed.has(job) {
+        return Verdict::Fail(Refusal::NotSignedHere);
+    }
+    if is_superseded(state, numbers, sets, version, journal, booked, job, rival) {
+        return Verdict::Pass;
+    }
+    Verdict::Fail(Refusal::NotSuperseded)
 }
 
 fn give_up(
@@ -75,11 +72,11 @@ fn give_up(
 {
     let verdict = supersession(state, numbers, sets, version, journal, booked, job, rival);
     match verdict {
-        Ok(()) => Decision {
-            outcome: Ok(sets::vaults::size(signers)),
+        Verdict::Pass => Decision {
+            outcome: Outcome::Done(sets::vaults::size(signers)),
             change: Change::Release(state.release(job)),
         },
-        Err(why) => decisions::refuse(why),
+        Verdict::Fail(why) => decisions::refuse(why),
     }
 }
 
@@ -100,9 +97,9 @@ pub fn release(
     ensures { result ≡ gated gate (releasing state version journal.now booked signers job rival) }
 {
     match gate {
-        Ok(()) => give_up(
+        Verdict::Pass => give_up(
             state, numbers, sets, version, journal, booked, signers, job, rival,
         ),
-        Err(why) => decisions::refuse(why),
+        Verdict::Fail(why) => decisions::refuse(why),
     }
 }

@@ -1,7 +1,6 @@
 -- The vaults so far signed one of the jobs so far and a partner of it.
-use mathlib.Core.Path.{refl}
-use Prim.Native.Nat.{◌-◌}
 use native.Mathlib.Omega.{arith}
+use Rattle.std.proofs.lemmas.Nat.{or_comm}
 use borrow.Author.Rules.{rules}
 use Rattle.equivocation.proofs.Gathering.{pairing, pairs_more}
 use Rattle.equivocation.proofs.signed_pairs.Goals as goal
@@ -16,7 +15,7 @@ loop-k-preserved c =
       (
         omega arith,
         pairs_more _ _ _ _ _ _ l.k l.all _ _ _ _ l.invariant.1.1 found.rivals_of-rivals.ensures c.partners_of.ensures
-            c.signers_among-others.ensures refl,
+            c.signers_among-others.ensures (or_comm l.all _),
       ),
     )
 

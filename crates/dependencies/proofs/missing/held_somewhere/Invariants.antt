@@ -5,7 +5,7 @@ use Rattle.ledger.specs.Holders.{held_below}
 use Rattle.dependencies.proofs.missing.held_somewhere.Given as goal
 
 abbrev pub invariant-loop-v : goal.invariant-loop-v
-invariant-loop-v l = (l.n ≡ l.settings.n) × ((l.n ≤ 16) × ((l.v ≤ l.n) × (l.jobs ≡ held_below l.settings l.vaults l.v)))
+invariant-loop-v l = (l.v ≤ l.settings.n) × (l.jobs ≡ held_below l.settings l.vaults l.v)
 
 abbrev pub decreases-loop-v : goal.decreases-loop-v
-decreases-loop-v l = l.n - l.v
+decreases-loop-v l = l.settings.n - l.v
