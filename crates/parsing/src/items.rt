@@ -5,12 +5,6 @@ ghost use Rattle.parsing.specs.Took.{Took};
 
 use crate::{Token, numbers};
 
-fn wide(x: u8) -> u32
-    ensures { (result ≡ x) × (result < 256) }
-{
-    x as u32
-}
-
 fn token(reason: u8, value: u32, next: usize) -> Token
     ensures { result ≡ record { reason = reason; value = value; next = next } }
 {
@@ -53,16 +47,11 @@ fn set(text: &[u8], at: usize) -> Token
 fn hex_of(c: u8) -> u32
     ensures { result ≡ hex_of c }
 {
-    if numbers::is_digit(c) {
-        return wide(c - 48);
+    match c {
+        b'0'..=b'9' => (c - b'0') as u32,
+        b'a'..=b'f' => (c - b'a') as u32 + 10,
+        _ => 16,
     }
-    if c < b'a' {
-        return 16;
-    }
-    if c > b'f' {
-        return 16;
-    }
-    wide(c - 87)
 }
 
 fn hex(text: &[u8], at: usize) -> Token
@@ -86,25 +75,15 @@ fn hex(text: &[u8], at: usize) -> Token
 pub fn is_plain(c: u8) -> bool
     ensures { result ≡ is_plain c }
 {
-    if c < b'A' {
-        return numbers::is_digit(c);
-    }
-    if c > b'Z' {
-        return numbers::is_digit(c);
-    }
-    true
+    c.is_ascii_uppercase() || c.is_ascii_digit()
 }
 
 fn plain(text: &[u8], at: usize) -> Token
     requires { at ≤ length text.now }
     ensures { Took (plain_in (drop at text.now)) text.now result }
 {
-    if at < text.len() {
-        let c = text[at];
-        if is_plain(c) {
-            return token(0, wide(c), at + 1);
-        }
-        return token(4, 0, at);
+    if at < text.len() && is_plain(text[at]) {
+        return token(0, text[at] as u32, at + 1);
     }
     token(4, 0, at)
 }
@@ -113,21 +92,15 @@ fn plain(text: &[u8], at: usize) -> Token
 fn lacks(i: u8) -> u8
     ensures { result ≡ lacks i }
 {
-    if i == b':' {
-        return 4;
-    }
-    6
+    if i == b':' { 4 } else { 6 }
 }
 
 fn literal(i: u8, text: &[u8], at: usize) -> Token
     requires { (at ≤ length text.now) × (0 < i) }
     ensures { Took (literal_in i (drop at text.now)) text.now result }
 {
-    if at < text.len() {
-        if text[at] == i {
-            return token(0, 0, at + 1);
-        }
-        return token(lacks(i), 0, at);
+    if at < text.len() && text[at] == i {
+        return token(0, 0, at + 1);
     }
     token(lacks(i), 0, at)
 }
@@ -136,48 +109,25 @@ fn literal(i: u8, text: &[u8], at: usize) -> Token
 pub fn width(i: u8) -> usize
     ensures { (result ≡ width (form_of i)) × (result ≤ 4) }
 {
-    if i < 32 {
-        return 1;
+    match i {
+        0..=31 | b'#' | b'%' | b'?' => 1,
+        b'@' => 2,
+        b'$' => 4,
+        _ => 0,
     }
-    if i == b'#' {
-        return 1;
-    }
-    if i == b'$' {
-        return 4;
-    }
-    if i == b'@' {
-        return 2;
-    }
-    if i == b'%' {
-        return 1;
-    }
-    if i == b'?' {
-        return 1;
-    }
-    0
 }
 
 pub(crate) fn item(i: u8, text: &[u8], at: usize) -> Token
     requires { at ≤ length text.now }
     ensures { Took (take_as (form_of i) i (drop at text.now)) text.now result }
 {
-    if i < 32 {
-        return token(0, wide(i), at);
+    match i {
+        0..=31 => token(0, i as u32, at),
+        b'#' => numbers::numbers(false, 256, text, at),
+        b'$' => numbers::numbers(false, 4294967296, text, at),
+        b'@' => set(text, at),
+        b'%' => hex(text, at),
+        b'?' => plain(text, at),
+        _ => literal(i, text, at),
     }
-    if i == b'#' {
-        return numbers::numbers(false, 256, text, at);
-    }
-    if i == b'$' {
-        return numbers::numbers(false, 4294967296, text, at);
-    }
-    if i == b'@' {
-        return set(text, at);
-    }
-    if i == b'%' {
-        return hex(text, at);
-    }
-    if i == b'?' {
-        return plain(text, at);
-    }
-    literal(i, text, at)
 }

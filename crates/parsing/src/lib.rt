@@ -33,7 +33,7 @@ fn put_value(out: &mut [u8], at: usize, count: usize, value: u32) -> usize
     requires { at + count ≤ length out.old }
     ensures { (out.new ≡ sets out.old at (le_bytes count value)) × (result ≡ at + count) }
 {
-    codec::put_number(out, at, count, value as u64);
+    codec::put_number(out, at, count, u64::from(value));
     at + count
 }
 
@@ -44,9 +44,7 @@ pub fn read_row(row: &[u8], text: &[u8], from: usize, out: &mut [u8], start: usi
 {
     let mut at = from;
     let mut end = start;
-    let mut i = 0;
-    while i < row.len() {
-        let c = row[i];
+    for &c in row {
         let t = items::item(c, text, at);
         if t.reason != 0 {
             return Parsed {
@@ -57,7 +55,6 @@ pub fn read_row(row: &[u8], text: &[u8], from: usize, out: &mut [u8], start: usi
         }
         end = put_value(out, end, items::width(c), t.value);
         at = t.next;
-        i += 1;
     }
     Parsed {
         reason: 0,

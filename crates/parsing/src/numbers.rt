@@ -9,10 +9,7 @@ use crate::Token;
 pub(crate) fn is_digit(c: u8) -> bool
     ensures { result ≡ is_digit c }
 {
-    if c < b'0' {
-        return false;
-    }
-    c <= b'9'
+    c.is_ascii_digit()
 }
 
 // What a digit is worth.
@@ -26,20 +23,14 @@ fn worth(c: u8) -> u64
 fn is_comma(many: bool, c: u8) -> bool
     ensures { result ≡ (many && eqb c 44) }
 {
-    if many {
-        return c == b',';
-    }
-    false
+    many && c == b','
 }
 
 // The reason of a number that is not below its bound.
 fn over(many: bool) -> u8
     ensures { result ≡ cond many no_vault too_large }
 {
-    if many {
-        return 3;
-    }
-    2
+    if many { 3 } else { 2 }
 }
 
 // A set with one vault more; no set has one above 15.
@@ -57,9 +48,10 @@ fn closing(many: bool, set: u16, n: u64) -> u32
     ensures { result ≡ closed many set n }
 {
     if many {
-        return joined(set, n) as u32;
+        joined(set, n) as u32
+    } else {
+        n as u32
     }
-    n as u32
 }
 
 // A number below the bound, or a list of such numbers, as a set.
@@ -67,18 +59,16 @@ pub(crate) fn numbers(many: bool, bound: u64, text: &[u8], from: usize) -> Token
     requires { (from ≤ length text.now) × (0 < bound) × (bound ≤ 2 ^ 32) }
     ensures { Took (numbers_in many bound false 0 0 (drop from text.now)) text.now result }
 {
-    let mut at = from;
     let mut seen = false;
     let mut set: u16 = 0;
     let mut n: u64 = 0;
-    while at < text.len() {
+    for at in from..text.len() {
         let c = text[at];
         if is_digit(c) {
             let m = n * 10 + worth(c);
             if m < bound {
                 n = m;
                 seen = true;
-                at += 1;
                 continue;
             }
             return Token {
@@ -92,7 +82,6 @@ pub(crate) fn numbers(many: bool, bound: u64, text: &[u8], from: usize) -> Token
                 set = joined(set, n);
                 n = 0;
                 seen = false;
-                at += 1;
                 continue;
             }
             return Token {
@@ -111,12 +100,12 @@ pub(crate) fn numbers(many: bool, bound: u64, text: &[u8], from: usize) -> Token
         return Token {
             reason: 0,
             value: closing(many, set, n),
-            next: at,
+            next: text.len(),
         };
     }
     Token {
         reason: 1,
         value: 0,
-        next: at,
+        next: text.len(),
     }
 }

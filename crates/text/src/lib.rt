@@ -13,12 +13,6 @@ use outcome::Outcome;
 // No text of a step has more bytes: a line, and a list of 128 numbers.
 pub const LONGEST: usize = 663;
 
-fn wide(x: u8) -> u32
-    ensures { (result ≡ x) × (result < 256) }
-{
-    x as u32
-}
-
 fn write_figures(out: &mut [u8], at: usize, step: u32, number: u32, value: u32) -> usize
     requires { (step < 1000000) × (number < 256) × (at + longest_line ≤ length out.old) }
     ensures { Put out.old at (line_of step number value) out.new result × (result ≤ at + longest_line) }
@@ -36,7 +30,7 @@ pub fn write_line(out: &mut [u8], at: usize, step: u32, outcome: Outcome) -> usi
     requires { (step < 1000000) × (at + longest_line ≤ length out.old) }
     ensures { Put out.old at (line_for step outcome) out.new result × (result ≤ at + longest_line) }
 {
-    write_figures(out, at, step, wide(outcome::number(outcome)), outcome::value(outcome))
+    write_figures(out, at, step, u32::from(outcome.number()), outcome.value())
 }
 
 // The text of a step: its line, and the numbers that it lists.

@@ -1,6 +1,5 @@
 // The numbers of a set, each alone on a line, ascending: from one member to the next.
 ghost use Rattle.std.specs.Prelude.{◌≡◌, ◌+◌, ◌<◌, ◌≤◌, length};
-ghost use Rattle.std.specs.Int.Count.{count_trailing_zeros};
 ghost use Rattle.base.specs.Search.{first_below};
 ghost use Rattle.job_sets.specs.Jobs.{job_has};
 ghost use Rattle.digits.specs.Digits.{Put};
@@ -8,21 +7,15 @@ ghost use Rattle.text.specs.Text.{lines_of, longest_lines, members_of, number_li
 
 use job_sets::JobSet;
 
-// The first bit of a word, or 64.
-fn first_bit(word: u64) -> u32
-    ensures { (result ≡ count_trailing_zeros 64 word) × (result ≤ 64) }
-{
-    u64::trailing_zeros(word)
-}
-
 // The first member, or 128.
 fn first(set: JobSet) -> u32
     ensures { (result ≡ first_below 128 (job_has set)) × (result ≤ 128) }
 {
     if set.low == 0 {
-        return 64 + first_bit(set.high);
+        64 + set.high.trailing_zeros()
+    } else {
+        set.low.trailing_zeros()
     }
-    first_bit(set.low)
 }
 
 fn write_alone(out: &mut [u8], at: usize, number: u32) -> usize

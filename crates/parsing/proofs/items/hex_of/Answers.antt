@@ -1,32 +1,24 @@
-use Rattle.parsing.proofs.Singles.{characters}
-use borrow.Author.Rules.{rules}
+use Rattle.std.proofs.Common.{arith}
+use Rattle.std.proofs.lemmas.Grind.{common_steps}
+use Rattle.rows.specs.Items.{between, hex_of}
 use Rattle.parsing.proofs.items.hex_of.Goals as goal
 
-ruleset by = (characters, rules)
+pub returns-in-48-to-57 : goal.returns-in-48-to-57
+unfolding hex_of between
+returns-in-48-to-57 c = grind (arith, common_steps)
 
-pub is_digit-requires : goal.is_digit-requires
-is_digit-requires c = search by
+pub returns-in-97-to-102 : goal.returns-in-97-to-102
+unfolding hex_of between
+returns-in-97-to-102 c = grind (arith, common_steps)
 
-pub overflow_sub-c : goal.overflow_sub-c
-overflow_sub-c c = search by
+pub returns-in_default : goal.returns-in_default
+unfolding hex_of between
+returns-in_default c = grind (arith, common_steps)
 
-pub wide-requires : goal.wide-requires
-wide-requires c = search by
+pub returns-in_default-2 : goal.returns-in_default-2
+unfolding hex_of between
+returns-in_default-2 c = grind (arith, common_steps)
 
-pub returns-then-is_digit : goal.returns-then-is_digit
-returns-then-is_digit c = search by
-
-pub returns-then-c-lt97 : goal.returns-then-c-lt97
-returns-then-c-lt97 c = search by
-
-pub returns-then-c-gt102 : goal.returns-then-c-gt102
-returns-then-c-gt102 c = search by
-
-pub overflow_sub-c-2 : goal.overflow_sub-c-2
-overflow_sub-c-2 c = search by
-
-pub wide-requires-2 : goal.wide-requires-2
-wide-requires-2 c = search by
-
-pub returns : goal.returns
-returns c = search by
+pub returns-in_default-3 : goal.returns-in_default-3
+unfolding hex_of between
+returns-in_default-3 c = grind (arith, common_steps)

@@ -4,47 +4,23 @@ use Rattle.parsing.proofs.items.item.Goals as goal
 
 ruleset by = (forms, rules)
 
-pub wide-requires : goal.wide-requires
-wide-requires c = search by
+pub returns-in-35 : goal.returns-in-35
+returns-in-35 c = search by
 
-pub token-requires : goal.token-requires
-token-requires c = search by
+pub returns-in-36 : goal.returns-in-36
+returns-in-36 c = search by
 
-pub returns-then-i-lt32 : goal.returns-then-i-lt32
-returns-then-i-lt32 c = search by
+pub returns-in-64 : goal.returns-in-64
+returns-in-64 c = search by
 
-pub numbers-requires : goal.numbers-requires
-numbers-requires c = search by
+pub returns-in-37 : goal.returns-in-37
+returns-in-37 c = search by
 
-pub returns-then-i-eq35 : goal.returns-then-i-eq35
-returns-then-i-eq35 c = search by
+pub returns-in-63 : goal.returns-in-63
+returns-in-63 c = search by
 
-pub numbers-requires-then-i-eq36 : goal.numbers-requires-then-i-eq36
-numbers-requires-then-i-eq36 c = search by
+pub returns-in-0-to-31 : goal.returns-in-0-to-31
+returns-in-0-to-31 c = search by
 
-pub returns-then-i-eq36 : goal.returns-then-i-eq36
-returns-then-i-eq36 c = search by
-
-pub set-requires : goal.set-requires
-set-requires c = search by
-
-pub returns-then-i-eq64 : goal.returns-then-i-eq64
-returns-then-i-eq64 c = search by
-
-pub hex-requires : goal.hex-requires
-hex-requires c = search by
-
-pub returns-then-i-eq37 : goal.returns-then-i-eq37
-returns-then-i-eq37 c = search by
-
-pub plain-requires : goal.plain-requires
-plain-requires c = search by
-
-pub returns-then-i-eq63 : goal.returns-then-i-eq63
-returns-then-i-eq63 c = search by
-
-pub literal-requires : goal.literal-requires
-literal-requires c = search by
-
-pub returns : goal.returns
-returns c = search by
+pub returns-in_default : goal.returns-in_default
+returns-in_default c = search by

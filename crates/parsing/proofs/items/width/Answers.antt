@@ -4,23 +4,17 @@ use Rattle.parsing.proofs.items.width.Goals as goal
 
 ruleset by = (wides, rules)
 
-pub returns-then-i-lt32 : goal.returns-then-i-lt32
-returns-then-i-lt32 c = search by
+pub returns-in-64 : goal.returns-in-64
+returns-in-64 c = search by
 
-pub returns-then-i-eq35 : goal.returns-then-i-eq35
-returns-then-i-eq35 c = search by
+pub returns-in-36 : goal.returns-in-36
+returns-in-36 c = search by
 
-pub returns-then-i-eq36 : goal.returns-then-i-eq36
-returns-then-i-eq36 c = search by
+pub returns-in_default : goal.returns-in_default
+returns-in_default c = search by
 
-pub returns-then-i-eq64 : goal.returns-then-i-eq64
-returns-then-i-eq64 c = search by
+pub returns-in-0-to-31 : goal.returns-in-0-to-31
+returns-in-0-to-31 c = search by
 
-pub returns-then-i-eq37 : goal.returns-then-i-eq37
-returns-then-i-eq37 c = search by
-
-pub returns-then-i-eq63 : goal.returns-then-i-eq63
-returns-then-i-eq63 c = search by
-
-pub returns : goal.returns
-returns c = search by
+pub returns-in-0-to-31-2 : goal.returns-in-0-to-31-2
+returns-in-0-to-31-2 c = search by

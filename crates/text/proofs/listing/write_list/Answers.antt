@@ -32,20 +32,5 @@ returns c =
     let l = c.loop-number in
     listed_end l.invariant.0 _ l.invariant.1.0 c.loop-number-test.false
 
-pub first-number-requires : goal.first-number-requires
-first-number-requires c = search by
-
 pub loop-number-init : goal.loop-number-init
 loop-number-init c = search by
-
-pub overflow_cast-number : goal.overflow_cast-number
-overflow_cast-number c = search by
-
-pub without-rest-requires : goal.without-rest-requires
-without-rest-requires c = search by
-
-pub first-number-requires-in-loop-number : goal.first-number-requires-in-loop-number
-first-number-requires-in-loop-number c = search by
-
-pub shape_of-out : goal.shape_of-out
-shape_of-out c = search by
