@@ -55,7 +55,7 @@ fn without_balance(verdict: Verdict) -> Verdict
     ensures { result ≡ without_balance verdict }
 {
     match verdict {
-        Verdict::Fail(why) if why.number() == 9 => Verdict::Pass,
+        Err(why) if why.number() == 9 => Ok(()),
         _ => verdict,
     }
 }
@@ -68,6 +68,6 @@ pub fn check(e: Estimate) -> Verdict
     if all_bounded(e, job) {
         without_balance(examination::check(job))
     } else {
-        Verdict::Fail(Refusal::Malformed)
+        Err(Refusal::Malformed)
     }
 }

@@ -39,8 +39,8 @@ fn size(set: u16) -> u8
 fn state_of(settings: Settings, votes: Votes) -> u32
     ensures { result ≡ status_of settings votes }
 {
-    let decision = decisions::show(Verdict::Pass, settings, votes);
-    decision.outcome.value()
+    let decision = decisions::show(Ok(()), settings, votes);
+    outcome::value(decision.outcome)
 }
 
 // The vaults below n that are not among the signers.

@@ -80,8 +80,8 @@ pub fn check_order(e: Estimate) -> Verdict
     ensures { result ≡ order_of e }
 {
     match first_reversed(e) {
-        Some(entry) => Verdict::Fail(Refusal::Reversed(entry)),
-        None => Verdict::Pass,
+        Some(entry) => Err(Refusal::Reversed(entry)),
+        None => Ok(()),
     }
 }
 
@@ -91,8 +91,8 @@ pub fn check_balance(e: Estimate) -> Verdict
     ensures { result ≡ balance_of e }
 {
     if can_balance(e) {
-        Verdict::Pass
+        Ok(())
     } else {
-        Verdict::Fail(Refusal::NoneBalances)
+        Err(Refusal::NoneBalances)
     }
 }

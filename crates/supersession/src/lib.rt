@@ -45,15 +45,15 @@ fn supersession(
     ensures { result ≡ supersession state version journal.now booked job rival }
 {
     if !journal::is_booked(version, journal, booked, rival) {
-        return Verdict::Fail(Refusal::NotBooked);
+        return Err(Refusal::NotBooked);
     }
     if !state.signed.has(job) {
-        return Verdict::Fail(Refusal::NotSignedHere);
+        return Err(Refusal::NotSignedHere);
     }
     if is_superseded(state, numbers, sets, version, journal, booked, job, rival) {
-        return Verdict::Pass;
+        return Ok(());
     }
-    Verdict::Fail(Refusal::NotSuperseded)
+    Err(Refusal::NotSuperseded)
 }
 
 fn give_up(
@@ -72,11 +72,11 @@ fn give_up(
 {
     let verdict = supersession(state, numbers, sets, version, journal, booked, job, rival);
     match verdict {
-        Verdict::Pass => Decision {
-            outcome: Outcome::Done(sets::vaults::size(signers)),
+        Ok(()) => Decision {
+            outcome: Ok(sets::vaults::size(signers)),
             change: Change::Release(state.release(job)),
         },
-        Verdict::Fail(why) => decisions::refuse(why),
+        Err(why) => decisions::refuse(why),
     }
 }
 
@@ -97,9 +97,9 @@ pub fn release(
     ensures { result ≡ gated gate (releasing state version journal.now booked signers job rival) }
 {
     match gate {
-        Verdict::Pass => give_up(
+        Ok(()) => give_up(
             state, numbers, sets, version, journal, booked, signers, job, rival,
         ),
-        Verdict::Fail(why) => decisions::refuse(why),
+        Err(why) => decisions::refuse(why),
     }
 }
