@@ -56,7 +56,7 @@ pub fn byte_at(s: &[u8], i: usize) -> u8
 
 // The little-endian number of count bytes from at on.
 pub fn number_at(s: &[u8], at: usize, count: usize) -> u64
-    requires { (at < 65536) × (count ≤ 8) }
+    requires { (at ≤ 65536) × (count ≤ 8) }
     ensures { (result ≡ le_at s.now at count) × (result < 2 ^ (8 * count)) }
 {
     let mut acc: u64 = 0;

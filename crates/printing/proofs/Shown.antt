@@ -3,6 +3,7 @@ use mathlib.Core.Bool.{Bool, cond, false, true}
 use mathlib.Core.List.{List, [], ◌++◌, ◌∷◌, append_assoc}
 use mathlib.Core.Path.{◌∙◌, ◌≡◌, ap, refl, sym}
 use Prim.Native.Nat.{◌%◌, ◌*◌, ◌+◌, ◌-◌, ◌/◌, ◌<◌, ◌^◌, ◌≤◌, suc, zero, ℕ}
+use native.Mathlib.Nat.{add-zero}
 use native.Mathlib.Omega.{arith}
 use lib.Dec.{eqb}
 use lib.ListN.{drop, get_or, length, length-append}
@@ -21,55 +22,23 @@ use Rattle.words.proofs.Copies.{put_none}
 use Rattle.printing.specs.Member.{Shown, member}
 
 -- ---- the value of some bytes
-module _ (s : List ℕ) (at : ℕ) where
-  byte : (i : ℕ) → get_or (drop at s) i 0 ≡ get_or s (at + i) 0
-  byte i = get_or-drop at s i 0
+from_place : (s : List ℕ) (at i k : ℕ) → le_at s (at + i) k ≡ le_at (drop at s) i k
+unfolding le_at
+from_place s at i zero = refl
+from_place s at i (suc k) =
+    let e : at + i + 1 ≡ at + (i + 1) = omega arith in
+    rw (get_or-drop at s i 0) (ap (λ (x : ℕ). get_or s (at + i) 0 + 256 * x) (ap (λ (m : ℕ). le_at s m k) e ∙ from_place s at (i + 1) k))
 
-  pub value_none : (count : ℕ) → count ≡ 0 → (0 ≡ le_at (drop at s) 0 count) × (0 < 256 ^ count)
-  unfolding le_at
-  value_none count e = rw e (refl, omega arith)
+pub behind : (s : List ℕ) (at k : ℕ) → le_at s at k ≡ le_at (drop at s) 0 k
+behind s at k = ap (λ (m : ℕ). le_at s m k) (sym (add-zero at)) ∙ from_place s at 0 k
 
-  module _ (a : ℕ) (is : a ≡ get_or s at 0) (la : a < 256) where
-    first : get_or (drop at s) 0 0 ≡ a
-    first = byte 0 ∙ ap (λ (k : ℕ). get_or s k 0) (omega arith) ∙ sym is
-
-    pub value_one : (count : ℕ) → count ≡ 1 → (a ≡ le_at (drop at s) 0 count) × (a < 256 ^ count)
-    unfolding le_at
-    value_one count e = rw (e, first) (omega arith, la)
-
-    module _ (b : ℕ) (isb : b ≡ get_or s (at + 1) 0) (lb : b < 256) where
-      second : get_or (drop at s) 1 0 ≡ b
-      second = byte 1 ∙ sym isb
-
-      pub value_two : (count : ℕ) → count ≡ 2 → (a + 256 * b ≡ le_at (drop at s) 0 count) × (a + 256 * b < 256 ^ count)
-      unfolding le_at
-      value_two count e = rw (e, first, second) (omega arith, omega arith)
-
-      module _ (c : ℕ) (isc : c ≡ get_or s (at + 2) 0) (lc : c < 256) where
-        third : get_or (drop at s) 2 0 ≡ c
-        third = byte 2 ∙ sym isc
-
-        pub value_three : (count : ℕ) → count ≡ 3 → (a + 256 * (b + 256 * c) ≡ le_at (drop at s) 0 count) × (a + 256 * (b + 256 * c) < 256 ^ count)
-        unfolding le_at
-        value_three count e = rw (e, first, second, third) (omega arith, omega arith)
-
-        module _ (d : ℕ) (isd : d ≡ get_or s (at + 3) 0) (ld : d < 256) where
-          fourth : get_or (drop at s) 3 0 ≡ d
-          fourth = byte 3 ∙ sym isd
-
-          pub value_four : (count : ℕ) → count ≡ 4
-              → (a + 256 * (b + 256 * (c + 256 * d)) ≡ le_at (drop at s) 0 count) × (a + 256 * (b + 256 * (c + 256 * d)) < 256 ^ count)
-          unfolding le_at
-          value_four count e = rw (e, first, second, third, fourth) (omega arith, omega arith)
-
-pub is_four : (n : ℕ) → n ≤ 4 → (n ≡ 0 → ⊥) → (n ≡ 1 → ⊥) → (n ≡ 2 → ⊥) → (n ≡ 3 → ⊥) → n ≡ 4
-is_four zero h a b c d = absurd (a refl)
-is_four (suc zero) h a b c d = absurd (b refl)
-is_four (suc (suc zero)) h a b c d = absurd (c refl)
-is_four (suc (suc (suc zero))) h a b c d = absurd (d refl)
-is_four (suc (suc (suc (suc n)))) h a b c d = let z : n ≡ 0 = omega (arith, h) in ap (λ (k : ℕ). suc (suc (suc (suc k)))) z
-
-pub ruleset values = (value_none, value_one, value_two, value_three, value_four)
+pub bytes_power : (k : ℕ) → k ≤ 4 → (2 ^ (8 * k) ≡ 256 ^ k) × (256 ^ k ≤ 2 ^ 32)
+bytes_power zero h = (refl, omega arith)
+bytes_power (suc zero) h = (refl, omega arith)
+bytes_power (suc (suc zero)) h = (refl, omega arith)
+bytes_power (suc (suc (suc zero))) h = (refl, omega arith)
+bytes_power (suc (suc (suc (suc zero)))) h = (refl, omega arith)
+bytes_power (suc (suc (suc (suc (suc k))))) h = absurd (omega arith)
 
 -- ---- what fits
 pub no_plain : (c : ℕ) → 256 ≤ c → false ≡ is_plain c

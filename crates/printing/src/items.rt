@@ -8,36 +8,17 @@ ghost use Rattle.digits.specs.Digits.{Put};
 pub(crate) fn fits(i: u8, value: u32) -> bool
     ensures { result ≡ fits_as (form_of i) i value }
 {
-    if i < 32 {
-        return value == wide(i);
+    match i {
+        0..=31 => value == i as u32,
+        b'?' => is_plain(value),
+        _ => true,
     }
-    if i == b'?' {
-        return is_plain(value);
-    }
-    true
-}
-
-fn wide(x: u8) -> u32
-    ensures { result ≡ x }
-{
-    x as u32
 }
 
 fn is_plain(c: u32) -> bool
     ensures { result ≡ is_plain c }
 {
-    if c < 256 {
-        return parsing::is_plain(c as u8);
-    }
-    false
-}
-
-fn put_byte(out: &mut [u8], at: usize, b: u8) -> usize
-    requires { at < length out.old }
-    ensures { Put out.old at (b ∷ []) out.new result × (result ≤ at + 1) }
-{
-    out[at] = b;
-    at + 1
+    c < 256 && parsing::is_plain(c as u8)
 }
 
 fn hex_digit(d: u32) -> u8
@@ -45,17 +26,18 @@ fn hex_digit(d: u32) -> u8
     ensures { result ≡ hex_digit d }
 {
     if d < 10 {
-        return 48 + d as u8;
+        b'0' + d as u8
+    } else {
+        b'a' - 10 + d as u8
     }
-    87 + d as u8
 }
 
 fn put_hex(out: &mut [u8], at: usize, v: u32) -> usize
     requires { (v < 256) × (at + 2 ≤ length out.old) }
     ensures { Put out.old at (hex_digit (v / 16) ∷ hex_digit (v % 16) ∷ []) out.new result × (result ≤ at + 2) }
 {
-    let end = put_byte(out, at, hex_digit(v / 16));
-    put_byte(out, end, hex_digit(v % 16))
+    let end = digits::write_byte(out, at, hex_digit(v / 16));
+    digits::write_byte(out, end, hex_digit(v % 16))
 }
 
 // One vault of a set; a comma stands before all but the first.
@@ -64,10 +46,10 @@ pub fn put_member(out: &mut [u8], at: usize, first: bool, vault: u8) -> usize
     ensures { Put out.old at (member first vault) out.new result × (result ≤ at + 11) }
 {
     if first {
-        return digits::write_number(out, at, wide(vault));
+        return digits::write_number(out, at, vault as u32);
     }
-    let end = put_byte(out, at, b',');
-    digits::write_number(out, end, wide(vault))
+    let end = digits::write_byte(out, at, b',');
+    digits::write_number(out, end, vault as u32)
 }
 
 fn put_set(out: &mut [u8], at: usize, set: u16) -> usize
@@ -79,15 +61,11 @@ fn put_set(out: &mut [u8], at: usize, set: u16) -> usize
     }
     let mut end = at;
     let mut first = true;
-    let mut i: u8 = 0;
-    while i < 16 {
+    for i in 0..16 {
         if sets::vaults::has(set, i) {
             end = put_member(out, end, first, i);
             first = false;
-            i += 1;
-            continue;
         }
-        i += 1;
     }
     end
 }
@@ -96,23 +74,13 @@ pub(crate) fn write(i: u8, value: u32, out: &mut [u8], at: usize) -> usize
     requires { (value < 256 ^ width (form_of i)) × (at + item_room ≤ length out.old) }
     ensures { Shown i value out.old at out.new result }
 {
-    if i < 32 {
-        return at;
+    match i {
+        0..=31 => at,
+        b'#' => digits::write_number(out, at, value),
+        b'$' => digits::write_number(out, at, value),
+        b'@' => put_set(out, at, value as u16),
+        b'%' => put_hex(out, at, value),
+        b'?' => digits::write_byte(out, at, value as u8),
+        _ => digits::write_byte(out, at, i),
     }
-    if i == b'#' {
-        return digits::write_number(out, at, value);
-    }
-    if i == b'$' {
-        return digits::write_number(out, at, value);
-    }
-    if i == b'@' {
-        return put_set(out, at, value as u16);
-    }
-    if i == b'%' {
-        return put_hex(out, at, value);
-    }
-    if i == b'?' {
-        return put_byte(out, at, value as u8);
-    }
-    put_byte(out, at, i)
 }

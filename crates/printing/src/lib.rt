@@ -11,42 +11,12 @@ ghost use Rattle.digits.specs.Digits.{Put};
 
 pub use items::put_member;
 
-fn wide(x: u8) -> u32
-    ensures { (result ≡ x) × (result < 256) }
-{
-    x as u32
-}
-
-// Bytes past the end count as 0.
-fn byte_at(step: &[u8], at: usize) -> u32
-    ensures { (result ≡ get_or step.now at 0) × (result < 256) }
-{
-    if at < step.len() {
-        return wide(step[at]);
-    }
-    0
-}
-
 // The number of so many bytes from a place on, the low byte first.
 pub fn value_at(step: &[u8], at: usize, count: usize) -> u32
     requires { (count ≤ 4) × (at ≤ 65536) }
     ensures { (result ≡ le_at (drop at step.now) 0 count) × (result < 256 ^ count) }
 {
-    if count == 0 {
-        return 0;
-    }
-    if count == 1 {
-        return byte_at(step, at);
-    }
-    if count == 2 {
-        return byte_at(step, at) + 256 * byte_at(step, at + 1);
-    }
-    if count == 3 {
-        return byte_at(step, at) + 256 * (byte_at(step, at + 1) + 256 * byte_at(step, at + 2));
-    }
-    byte_at(step, at)
-        + 256
-            * (byte_at(step, at + 1) + 256 * (byte_at(step, at + 2) + 256 * byte_at(step, at + 3)))
+    codec::number_at(step, at, count) as u32
 }
 
 // The row can say the step.
@@ -55,16 +25,12 @@ pub fn fits(row: &[u8], step: &[u8]) -> bool
     ensures { result ≡ fits row.now step.now }
 {
     let mut at = 0;
-    let mut i = 0;
-    while i < row.len() {
-        let c = row[i];
+    for &c in row {
         let width = parsing::width(c);
-        if items::fits(c, value_at(step, at, width)) {
-            at += width;
-            i += 1;
-            continue;
+        if !items::fits(c, value_at(step, at, width)) {
+            return false;
         }
-        return false;
+        at += width;
     }
     true
 }
@@ -77,13 +43,10 @@ pub fn write_row(row: &[u8], step: &[u8], out: &mut [u8], start: usize) -> usize
 {
     let mut end = start;
     let mut at = 0;
-    let mut i = 0;
-    while i < row.len() {
-        let c = row[i];
+    for &c in row {
         let width = parsing::width(c);
         end = items::write(c, value_at(step, at, width), out, end);
         at += width;
-        i += 1;
     }
     end
 }

@@ -14,19 +14,11 @@ fn has_shape(step: &[u8]) -> bool
     if fields::byte_at(step, 4) > 4 {
         return false;
     }
-    if fields::byte_at(step, 1) == 0 {
-        return fields::byte_at(step, 3) == 0;
+    match fields::byte_at(step, 1) {
+        0 => fields::byte_at(step, 3) == 0,
+        1 => fields::byte_at(step, 3) <= 4,
+        _ => false,
     }
-    if fields::byte_at(step, 1) == 1 {
-        return fields::byte_at(step, 3) <= 4;
-    }
-    false
-}
-
-fn wide(x: u8) -> usize
-    ensures { (result ≡ x) × (result < 256) }
-{
-    x as usize
 }
 
 fn shaped_row(version: u16, step: &[u8], buffer: &mut [u8]) -> usize
@@ -36,7 +28,7 @@ fn shaped_row(version: u16, step: &[u8], buffer: &mut [u8]) -> usize
     words::put_shaped(
         buffer,
         version,
-        2 + wide(fields::byte_at(step, 1)),
+        2 + fields::byte_at(step, 1) as usize,
         fields::byte_at(step, 3),
         fields::byte_at(step, 4),
         printing::value_at(step, 101, 4),
@@ -74,5 +66,5 @@ pub fn row_of(version: u16, step: &[u8], buffer: &mut [u8]) -> usize
     if kind == 1 {
         return proposal_row(version, step, buffer);
     }
-    words::put_row(buffer, wide(kind) + 3)
+    words::put_row(buffer, kind as usize + 3)
 }

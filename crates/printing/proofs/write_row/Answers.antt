@@ -1,25 +1,21 @@
 -- Each turn writes an item.
 use Rattle.printing.proofs.Written.{write_turn, written}
-use Prim.Native.Nat.{◌-◌}
 use borrow.Author.Rules.{rules}
 use Rattle.printing.proofs.write_row.Goals as goal
 
 ruleset by = (written, rules)
 
-pub loop-i-preserved : goal.loop-i-preserved
-loop-i-preserved c =
+pub loop-c-preserved : goal.loop-c-preserved
+loop-c-preserved c =
     let put = c in
     let value = put in
     let wide = value in
     let turn = wide in
-    write_turn turn.loop-i.invariant _ _ _ _ turn.loop-i-test.true wide.width-width.ensures.0 wide.width-width.ensures.1 value.value_at.ensures.0
+    write_turn turn.loop-c.invariant _ _ _ _ turn.loop-c-test.true wide.width-width.ensures.0 wide.width-width.ensures.1 value.value_at.ensures.0
     put.write-end.ensures.put put.write-end.ensures.few
 
-pub loop-i-init : goal.loop-i-init
-loop-i-init c = search by
-
-pub bounds-row-i : goal.bounds-row-i
-bounds-row-i c = search by
+pub loop-c-init : goal.loop-c-init
+loop-c-init c = search by
 
 pub width-width-requires : goal.width-width-requires
 width-width-requires c = search by
@@ -32,12 +28,6 @@ write-end-requires c = search by
 
 pub overflow_add-at : goal.overflow_add-at
 overflow_add-at c = search by
-
-pub overflow_add-i : goal.overflow_add-i
-overflow_add-i c = search by
-
-pub loop-i-smaller : goal.loop-i-smaller
-loop-i-smaller c = search by
 
 pub shape_of-out : goal.shape_of-out
 shape_of-out c = search by

@@ -5,11 +5,5 @@ use Rattle.row_choice.proofs.raw_row.Goals as goal
 
 ruleset by = (choices, flag_true, rules)
 
-pub put_raw-requires : goal.put_raw-requires
-put_raw-requires c = search by
-
-pub shape_of-buffer : goal.shape_of-buffer
-shape_of-buffer c = search by
-
 pub returns : goal.returns
 returns c = search by

@@ -4,65 +4,32 @@ use Rattle.printing.proofs.items.write.Goals as goal
 
 ruleset by = (showing, rules)
 
-pub returns-then-i-lt32 : goal.returns-then-i-lt32
-returns-then-i-lt32 c = search by
-
-pub write_number-requires : goal.write_number-requires
-write_number-requires c = search by
-
-pub shape_of-out-then-i-eq35 : goal.shape_of-out-then-i-eq35
-shape_of-out-then-i-eq35 c = search by
-
-pub returns-then-i-eq35 : goal.returns-then-i-eq35
-returns-then-i-eq35 c = search by
-
-pub write_number-requires-then-i-eq36 : goal.write_number-requires-then-i-eq36
-write_number-requires-then-i-eq36 c = search by
-
-pub shape_of-out-then-i-eq36 : goal.shape_of-out-then-i-eq36
-shape_of-out-then-i-eq36 c = search by
-
-pub returns-then-i-eq36 : goal.returns-then-i-eq36
-returns-then-i-eq36 c = search by
-
 pub overflow_cast-value : goal.overflow_cast-value
 overflow_cast-value c = search by
 
-pub put_set-requires : goal.put_set-requires
-put_set-requires c = search by
-
-pub shape_of-out-then-i-eq64 : goal.shape_of-out-then-i-eq64
-shape_of-out-then-i-eq64 c = search by
-
-pub returns-then-i-eq64 : goal.returns-then-i-eq64
-returns-then-i-eq64 c = search by
+pub overflow_cast-value-in-63 : goal.overflow_cast-value-in-63
+overflow_cast-value-in-63 c = search by
 
 pub put_hex-requires : goal.put_hex-requires
 put_hex-requires c = search by
 
-pub shape_of-out-then-i-eq37 : goal.shape_of-out-then-i-eq37
-shape_of-out-then-i-eq37 c = search by
+pub returns-in-0-to-31 : goal.returns-in-0-to-31
+returns-in-0-to-31 c = search by
 
-pub returns-then-i-eq37 : goal.returns-then-i-eq37
-returns-then-i-eq37 c = search by
+pub returns-in-35 : goal.returns-in-35
+returns-in-35 c = search by
 
-pub overflow_cast-value-then-i-eq63 : goal.overflow_cast-value-then-i-eq63
-overflow_cast-value-then-i-eq63 c = search by
+pub returns-in-36 : goal.returns-in-36
+returns-in-36 c = search by
 
-pub put_byte-requires : goal.put_byte-requires
-put_byte-requires c = search by
+pub returns-in-37 : goal.returns-in-37
+returns-in-37 c = search by
 
-pub shape_of-out-then-i-eq63 : goal.shape_of-out-then-i-eq63
-shape_of-out-then-i-eq63 c = search by
+pub returns-in-63 : goal.returns-in-63
+returns-in-63 c = search by
 
-pub returns-then-i-eq63 : goal.returns-then-i-eq63
-returns-then-i-eq63 c = search by
+pub returns-in-64 : goal.returns-in-64
+returns-in-64 c = search by
 
-pub put_byte-requires-2 : goal.put_byte-requires-2
-put_byte-requires-2 c = search by
-
-pub shape_of-out : goal.shape_of-out
-shape_of-out c = search by
-
-pub returns : goal.returns
-returns c = search by
+pub returns-in_default : goal.returns-in_default
+returns-in_default c = search by
