@@ -8,20 +8,21 @@ ghost use Rattle.ranges.specs.Form.{lowest_job, is_bounded, without_balance, for
 use outcome::{Refusal, Verdict};
 use ranges::Estimate;
 use record::{Entry, Job};
+use std::array;
 
 fn lowest_job(e: Estimate) -> Job
     ensures { result ≡ lowest_job e }
 {
-    let mut entries = [Entry {
-        label: 0,
-        frames: 0,
-    }; 8];
-    for i in 0..8 {
-        entries[i] = Entry {
-            label: e.labels[i],
-            frames: e.ranges[i].lowest,
-        };
-    }
+    let entries = array::from_fn(
+        |i|
+            requires { i < 8 }
+        {
+            Entry {
+                label: e.labels[i],
+                frames: e.ranges[i].lowest,
+            }
+        },
+    );
     Job {
         kind: e.kind,
         drive: e.drive,
