@@ -10,6 +10,7 @@ use lib.ListN.{drop, get_or, take}
 use Rattle.outcome.specs.declared.Refusal.TheVariants.{Unreadable}
 use Rattle.outcome.specs.declared.Verdict.{Verdict}
 use Rattle.outcome.specs.declared.Verdict.TheVariants.{Fail, Pass}
+use Rattle.std.specs.Prelude.{unwrap_or}
 use Rattle.job_sets.specs.Jobs.{no_jobs}
 use Rattle.codec.specs.Codec.{record_size}
 use Rattle.journal.specs.Journal.{is_booked, is_whole, job_at}
@@ -45,8 +46,7 @@ use Rattle.kinds.specs.Decided.{booked_or, decided_by}
 use Rattle.questions.specs.Answers.{naming, required, surveyed}
 use Rattle.kind_table.specs.Table.{is_wide}
 use Rattle.reading.specs.Reading.{history_of, job_of, vault_of}
-use Rattle.naming.specs.Kept.{Found}
-use Rattle.naming.specs.declared.Remembered.{Remembered}
+use Rattle.naming.specs.Kept.{Found, Remembered}
 use Rattle.questions.specs.declared.Books.{Books}
 use Rattle.kinds.specs.declared.View.{View}
 
@@ -255,15 +255,15 @@ module _ (l : Ledger) (s : Sane l) (journal : List ℕ) where
 
     -- kind 13: the vaults that were found are those that the rule names
     naming_is : (named : Remembered) → Found l.settings l.votes journal l.booked Equivocating named
-        → naming (version_of l) l.booked journal named.vaults ≡ equivocators_of l journal
+        → naming (version_of l) l.booked journal (unwrap_or named no_jobs) ≡ equivocators_of l journal
     unfolding equivocators_of
     naming_is named h =
-        ap (λ (g : Verdict). gated_listing g (listing named.vaults)) whole_gate_lem
-        ∙ ap (gated_listing (whole_gate l journal)) (listed_by_lem l (job_at (version_of l) journal l.booked) named.vaults _ (h.right.are (h.known refl)) refl)
+        ap (λ (g : Verdict). gated_listing g (listing (unwrap_or named no_jobs))) whole_gate_lem
+        ∙ ap (gated_listing (whole_gate l journal)) (listed_by_lem l (job_at (version_of l) journal l.booked) (unwrap_or named no_jobs) _ (h.right.are (h.known refl)) refl)
 
     abbrev Answers : Kind → Type 0
     Answers k = (kept named : Remembered) → Found l.settings l.votes journal l.booked k named
-        → surveyed (books_of l kept) named.vaults l.order journal k (vault_of (command k)) (job_of (command k)) ≡ answer k
+        → surveyed (books_of l kept) (unwrap_or named no_jobs) l.order journal k (vault_of (command k)) (job_of (command k)) ≡ answer k
 
     pub wide_answer : (k : Kind) → is_wide k ≡ true → Answers k
     unfolding generations_decision dependencies_decision equivocators_decision
