@@ -2,7 +2,7 @@
 use Rattle.std.proofs.Common.{List, ℕ, ◌≡◌, ◌-◌, ◌<◌, length, arith}
 use Rattle.explaining.proofs.Telling.{one_more}
 use Rattle.explaining.specs.Told.{Told}
-use Rattle.naming.specs.declared.Remembered.{Remembered}
+use Rattle.naming.specs.Kept.{Remembered}
 use Rattle.progress.specs.Pieces.{Going}
 use Rattle.progress.specs.Turns.{Holds}
 use Rattle.progress.specs.declared.Progress.{Progress}

@@ -29,7 +29,7 @@ fn carry_out(rt: &HostRuntime, input: &[u8]) -> io::Result<()> {
     let mut records = [0u16; index::RECORDS];
     let mut out = [0u8; telling::PIECE];
     let mut progress = run::start(input, &mut out);
-    let mut named = naming::unknown();
+    let mut named = None;
     while progress.pos < input.len() {
         let t = explaining::next(
             progress,

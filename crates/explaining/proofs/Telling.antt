@@ -18,7 +18,7 @@ use Rattle.progress.specs.declared.Turned.{Turned}
 use Rattle.runfile.specs.Run.{Run, command_of, turn}
 use Rattle.runfile.specs.Steps.{listed_by, reply_of}
 use Rattle.job_sets.specs.declared.job_set.JobSet.{JobSet}
-use Rattle.naming.specs.declared.Remembered.{Remembered}
+use Rattle.naming.specs.Kept.{Remembered}
 use Rattle.telling.specs.Room.{step_long, step_room}
 use Rattle.digits.specs.Digits.{Put}
 use Rattle.text.specs.Text.{longest_text}

@@ -7,7 +7,7 @@ ghost use Rattle.progress.specs.Pieces.{Going};
 ghost use Rattle.progress.specs.Turns.{Holds};
 ghost use Rattle.telling.specs.Room.{step_room};
 
-use naming::Remembered;
+use job_sets::JobSet;
 use progress::{Progress, Turned};
 
 fn at_front(p: Progress, written: usize) -> Progress
@@ -43,7 +43,7 @@ fn said_by(turned: Turned, written: usize) -> Turned
 // Carries out the next step alone, and explains it at the front of `out`. A part of a program that keeps a run.
 pub fn next(
     progress: Progress,
-    named: Remembered,
+    named: Option<JobSet>,
     memo: &mut [u8],
     journal: &mut [u8],
     numbers: &mut [u16],

@@ -24,12 +24,14 @@ use Rattle.ledger.specs.declared.Ledger.{Ledger}
 use Rattle.vaults.specs.Votes.{no_votes}
 use Rattle.vaults.specs.declared.Column.TheVariants.{Acknowledgements}
 use Rattle.vaults.specs.declared.Votes.{Votes}
-use Rattle.naming.specs.Kept.{Still, unknown_yet}
-use Rattle.naming.specs.declared.Remembered.{Remembered}
+use Rattle.std.specs.Prelude.{unwrap_or}
+use Rattle.std.specs.Option.{is_some}
+use Rattle.job_sets.specs.Jobs.{no_jobs}
+use Rattle.naming.specs.Kept.{Still, unknown_yet, Remembered}
 use Rattle.progress.specs.Turns.{Holds}
 
 pub nothing_known : (l : Ledger) (journal : List ℕ) (r : Remembered) → r ≡ unknown_yet → Holds l journal r
-nothing_known l journal r e = record { are = λ t. absurd (true≢false (sym t ∙ ap (λ (x : Remembered). x.known) e)) }
+nothing_known l journal r e = record { are = λ t. absurd (true≢false (sym t ∙ ap (λ (x : Remembered). is_some x) e)) }
 
 -- the votes on other jobs stay
 elsewhere : (l : Ledger) (c : Change) (v job k : ℕ) → k ≢ job → get_or (applied l c v job).votes k no_votes ≡ get_or l.votes k no_votes
@@ -81,8 +83,8 @@ module _ (l : Ledger) (c : Change) (v job : ℕ) where
     are = λ t.
         let q = s.same t in
         let place : job % 128 ≡ job = omega (arith, p) in
-        let known : kept.known ≡ true = ap (λ (x : Remembered). x.known) (sym q.0) ∙ t in
+        let known : is_some kept ≡ true = ap (λ (x : Remembered). is_some x) (sym q.0) ∙ t in
         let recorded = same_recorded (rw place at q.2) in
-        ap (λ (x : Remembered). x.vaults) q.0 ∙ h.are known
+        ap (λ (x : Remembered). unwrap_or x no_jobs) q.0 ∙ h.are known
         ∙ same_named (sym (applied_settings l c v job)) recorded (unbooked l c v job (version_of l) journal bytes q.1) q.1;
   }

@@ -32,8 +32,7 @@ use Rattle.runfile.specs.declared.Kind.{Kind}
 use Rattle.runfile.specs.declared.Kind.TheVariants.{Propose}
 use Rattle.steps.proofs.Quiet.{Bookless, books, writable}
 use Rattle.questions.specs.Answers.{alone}
-use Rattle.naming.specs.Kept.{Still}
-use Rattle.naming.specs.declared.Remembered.{Remembered}
+use Rattle.naming.specs.Kept.{Still, Remembered}
 use Rattle.going.proofs.Naming.{still_right}
 use Rattle.kind_table.specs.Table.{is_wide}
 use Rattle.reading.specs.Reading.{Read, job_of, vault_of}

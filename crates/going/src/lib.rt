@@ -7,9 +7,9 @@ ghost use Rattle.progress.specs.Coming.{CarriedOn, standing};
 ghost use Rattle.progress.specs.Pieces.{Going};
 ghost use Rattle.progress.specs.Turns.{Holds};
 
+use job_sets::JobSet;
 use kinds::View;
 use ledger::Ledger;
-use naming::Remembered;
 use progress::{Cursor, Turned};
 use questions::Books;
 
@@ -17,7 +17,7 @@ use questions::Books;
 pub fn carry_on(
     mut ledger: Ledger,
     mut c: Cursor,
-    mut named: Remembered,
+    mut named: Option<JobSet>,
     last: u32,
     memo: &mut [u8],
     journal: &mut [u8],

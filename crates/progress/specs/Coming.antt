@@ -6,7 +6,7 @@ use Rattle.job_sets.specs.declared.job_set.JobSet.{JobSet}
 use Rattle.ledger.specs.declared.Ledger.{Ledger}
 use Rattle.runfile.specs.Run.{Run, last_from, text_from}
 use Rattle.reading.specs.declared.Step.{Step}
-use Rattle.naming.specs.declared.Remembered.{Remembered}
+use Rattle.naming.specs.Kept.{Remembered}
 use Rattle.digits.specs.Digits.{Put}
 use Rattle.text.specs.Text.{longest_text}
 use Rattle.progress.specs.declared.Progress.{Progress}

@@ -5,8 +5,7 @@ use Rattle.job_sets.specs.declared.job_set.JobSet.{JobSet}
 use Rattle.ledger.specs.declared.Ledger.{Ledger}
 use Rattle.runfile.specs.Run.{Run, command_of, text_of, turn}
 use Rattle.runfile.specs.Steps.{listed_by, reply_of}
-use Rattle.naming.specs.Kept.{Right}
-use Rattle.naming.specs.declared.Remembered.{Remembered}
+use Rattle.naming.specs.Kept.{Right, Remembered}
 use Rattle.digits.specs.Digits.{Put}
 use Rattle.text.specs.Text.{longest_text}
 use Rattle.progress.specs.declared.Progress.{Progress}

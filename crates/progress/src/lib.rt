@@ -7,7 +7,6 @@ ghost use Rattle.progress.specs.Coming.{Goes, cursor_at, moved_to, turned_at};
 
 use job_sets::JobSet;
 use ledger::{Change, Ledger};
-use naming::Remembered;
 use outcome::Outcome;
 use reading::Step;
 
@@ -24,7 +23,7 @@ pub struct Told {
 pub struct Looked {
     pub outcome: Outcome,
     pub members: JobSet,
-    pub named: Remembered,
+    pub named: Option<JobSet>,
     pub at: usize,
 }
 
@@ -43,7 +42,7 @@ pub struct Turned {
     pub progress: Progress,
     pub outcome: Outcome,
     pub members: JobSet,
-    pub named: Remembered,
+    pub named: Option<JobSet>,
 }
 
 // How far it has come, beside its ledger: where it reads, how many steps it has carried out and where its text ends; what the last step answered and
@@ -99,7 +98,7 @@ pub fn carried_out(step: Step, r: Told) -> Cursor
     }
 }
 
-pub fn handed(ledger: Ledger, c: Cursor, named: Remembered) -> Turned
+pub fn handed(ledger: Ledger, c: Cursor, named: Option<JobSet>) -> Turned
     ensures { result ≡ turned_at ledger c named }
 {
     let outcome = c.outcome;

@@ -92,22 +92,7 @@ fn require(
 fn is_listing(kind: Kind) -> bool
     ensures { result ≡ is_listing kind }
 {
-    match kind {
-        Kind::Propose => false,
-        Kind::Preflight => false,
-        Kind::Commit => false,
-        Kind::FaultySign => false,
-        Kind::FaultyAcknowledge => false,
-        Kind::Show => false,
-        Kind::Draw => false,
-        Kind::Generations => false,
-        Kind::Snapshot => false,
-        Kind::Release => false,
-        Kind::Dependencies => true,
-        Kind::ClientPreflight => false,
-        Kind::Equivocating => false,
-        Kind::Unknown => false,
-    }
+    matches!(kind, Kind::Dependencies)
 }
 
 // Kind 13.

@@ -5,7 +5,7 @@ mod asking;
 
 pub use asking::look;
 use federation::Settings;
-use naming::Remembered;
+use job_sets::JobSet;
 use vaults::{Vault, Votes};
 
 // What a step looks at that looks at all vaults, and what is known of those that equivocate.
@@ -16,5 +16,5 @@ pub struct Books {
     pub arrivals: usize,
     pub vaults: [Vault; 16],
     pub votes: [Votes; 128],
-    pub named: Remembered,
+    pub named: Option<JobSet>,
 }

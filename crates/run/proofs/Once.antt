@@ -16,8 +16,7 @@ use Rattle.progress.specs.declared.Progress.{Progress}
 use Rattle.progress.specs.declared.Turned.{Turned}
 use Rattle.progress.specs.declared.Cursor.{Cursor}
 use Rattle.runfile.specs.Run.{Run}
-use Rattle.naming.specs.Kept.{unknown_yet}
-use Rattle.naming.specs.declared.Remembered.{Remembered}
+use Rattle.naming.specs.Kept.{unknown_yet, Remembered}
 use Rattle.text.specs.Text.{longest_text}
 
 module _ {input journal numbers sets records memo : List ℕ} {p : Progress} (g : Going input p journal numbers sets records memo) where

@@ -7,8 +7,8 @@ ghost use Rattle.progress.specs.Turns.{Holds, TurnedOnce};
 ghost use Rattle.text.specs.Text.{longest_text};
 
 use codec::LONGEST;
+use job_sets::JobSet;
 use journal::CAPACITY;
-use naming::Remembered;
 use outcome::{Outcome, Refusal};
 use progress::{Progress, Turned};
 
@@ -65,18 +65,17 @@ pub fn advance(
 {
     let ledger = progress.ledger;
     let c = progress::cursor_at(progress.pos, progress.count, 0);
-    let named = naming::unknown();
     let turned = going::carry_on(
-        ledger, c, named, EVERY, memo, journal, numbers, sets, records, input, out,
+        ledger, c, None, EVERY, memo, journal, numbers, sets, records, input, out,
     );
     turned.progress
 }
 
 // Carries out the next step alone, and writes its text after what the progress says is written. What is kept of kind 13 is handed on from one step to the
-// next; before the first it is `naming::unknown()`.
+// next; before the first nothing is.
 pub fn turn(
     progress: Progress,
-    named: Remembered,
+    named: Option<JobSet>,
     memo: &mut [u8],
     journal: &mut [u8],
     numbers: &mut [u16],

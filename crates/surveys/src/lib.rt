@@ -8,6 +8,7 @@ ghost use Rattle.naming.specs.Kept.{Right};
 ghost use Rattle.surveys.specs.Surveyed.{Surveyed};
 ghost use Rattle.text.specs.Text.{longest_text};
 
+use job_sets::JobSet;
 use progress::Looked;
 use questions::Books;
 use reading::Step;
@@ -38,7 +39,7 @@ pub fn survey(
     let kept = books.named;
     let booked = books.booked;
     let named = naming::named(kept, kind, settings, votes, numbers, sets, journal, booked);
-    let vaults = named.vaults;
+    let vaults = named.unwrap_or(JobSet::empty());
     let listing = questions::look(step, books, vaults, order, numbers, sets, journal, memo);
     let outcome = listing.outcome;
     let members = listing.members;

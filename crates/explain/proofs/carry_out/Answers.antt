@@ -1,5 +1,5 @@
 -- A run that has more to read and all that it keeps are right, and each step is one more, so the loop ends.
-use Rattle.std.proofs.Common.{rules}
+use Rattle.std.proofs.Common.{refl, rules}
 use Rattle.explain.proofs.Turning.{to_next, counts_on}
 use Rattle.going.proofs.Naming.{nothing_known}
 use Rattle.explain.proofs.carry_out.Goals as goal
@@ -9,7 +9,7 @@ ruleset by = (to_next, counts_on, rules)
 pub loop-progress-init : goal.loop-progress-init
 loop-progress-init c = record {
   going = λ more. let s = c.start-progress.ensures in s.going (s.passed more);
-  right = nothing_known c.start-progress.result.ledger _ _ c.unknown-named.ensures;
+  right = nothing_known c.start-progress.result.ledger _ _ refl;
   memo_size = search rules;
   journal_sized = search rules;
   numbers_sized = search rules;

@@ -1,4 +1,5 @@
 -- The run is carried on from the front of the buffer, with nothing kept of kind 13 yet; no file has more steps than 65,536.
+use mathlib.Core.Path.{refl}
 use Rattle.run.proofs.Once.{advanced, to_advance}
 use Rattle.run.proofs.advance.Goals as goal
 
@@ -6,7 +7,7 @@ pub carry_on-turned-requires : goal.carry_on-turned-requires
 carry_on-turned-requires c =
     let u = c in
     let p = u.requires in
-    to_advance p _ u.cursor_at-c.ensures _ u.unknown-named.ensures
+    to_advance p _ u.cursor_at-c.ensures _ refl
 
 pub returns : goal.returns
 returns c =
