@@ -8,9 +8,8 @@ use Prim.Native.Nat.{◌*◌, ◌%◌, ◌+◌, ◌<◌, ℕ}
 use native.Mathlib.Omega.{arith}
 use lib.ListN.{drop, get_or, take}
 use Rattle.outcome.specs.declared.Refusal.TheVariants.{Unreadable}
-use Rattle.outcome.specs.declared.Verdict.{Verdict}
-use Rattle.outcome.specs.declared.Verdict.TheVariants.{Fail, Pass}
-use Rattle.std.specs.Prelude.{unwrap_or}
+use Rattle.outcome.specs.Figures.{Verdict}
+use Rattle.std.specs.Prelude.{unwrap_or, Ok, Err}
 use Rattle.job_sets.specs.Jobs.{no_jobs}
 use Rattle.codec.specs.Codec.{record_size}
 use Rattle.journal.specs.Journal.{is_booked, is_whole, job_at}
@@ -88,12 +87,12 @@ books_of l named =
 
 -- ---- behind a gate
 quiet_behind : (g : Verdict) (d : Decision) → d.change ≡ Nothing → (gated g d).change ≡ Nothing
-quiet_behind Pass d e = e
-quiet_behind (Fail why) d e = refl
+quiet_behind (Ok _) d e = e
+quiet_behind (Err why) d e = refl
 
-loud_behind : (g : Verdict) (d : Decision) → is_nothing (gated g d).change ≡ false → g ≡ Pass
-loud_behind Pass d e = refl
-loud_behind (Fail why) d e = absurd (true≢false e)
+loud_behind : (g : Verdict) (d : Decision) → is_nothing (gated g d).change ≡ false → g ≡ Ok (tt {0})
+loud_behind (Ok _) d e = refl
+loud_behind (Err why) d e = absurd (true≢false e)
 
 abbrev is_hold : Change → Bool
 is_hold Nothing = false
@@ -107,22 +106,22 @@ is_hold (Count history) = false
 is_hold (Grant grant) = false
 
 unheld_behind : (g : Verdict) (d : Decision) → is_hold d.change ≡ false → is_hold (gated g d).change ≡ false
-unheld_behind Pass d e = e
-unheld_behind (Fail why) d e = refl
+unheld_behind (Ok _) d e = e
+unheld_behind (Err why) d e = refl
 
 -- what is decided behind a gate may be read elsewhere where the gate is shut
-same_behind : (g : Verdict) (d e : Decision) → (g ≡ Pass → d ≡ e) → gated g d ≡ gated g e
-same_behind Pass d e h = h refl
-same_behind (Fail why) d e h = refl
+same_behind : (g : Verdict) (d e : Decision) → (g ≡ Ok (tt {0}) → d ≡ e) → gated g d ≡ gated g e
+same_behind (Ok _) d e h = h refl
+same_behind (Err why) d e h = refl
 
 ageing_quiet : (b : Bool) (age : ℕ) → (ageing b age).change ≡ Nothing
 unfolding ageing
 ageing_quiet true age = refl
 ageing_quiet false age = refl
 
-same_listed : (g : Verdict) (r q : Listing) → (g ≡ Pass → r ≡ q) → gated_listing g r ≡ gated_listing g q
-same_listed Pass r q h = h refl
-same_listed (Fail why) r q h = refl
+same_listed : (g : Verdict) (r q : Listing) → (g ≡ Ok (tt {0}) → r ≡ q) → gated_listing g r ≡ gated_listing g q
+same_listed (Ok _) r q h = h refl
+same_listed (Err why) r q h = refl
 
 -- three kinds look at all vaults
 by_wide : (P : Kind → Type 0) → P Generations → P Dependencies → P Equivocating → (k : Kind) → is_wide k ≡ true → P k
@@ -162,7 +161,7 @@ module _ (l : Ledger) (s : Sane l) (journal : List ℕ) where
       ap (λ (g : Verdict). gated g (P (v % 16) (job % 128))) (vault_gate_lem v job faulty)
       ∙ same_behind (vault_gate l journal v job faulty) _ _ placed
     where
-      placed : vault_gate l journal v job faulty ≡ Pass → P (v % 16) (job % 128) ≡ P v job
+      placed : vault_gate l journal v job faulty ≡ Ok (tt {0}) → P (v % 16) (job % 128) ≡ P v job
       placed e =
           let p = in_place l journal v job faulty (entered l journal v job faulty e) in
           let a : v % 16 ≡ v = omega (arith, p.vault) in
@@ -173,7 +172,7 @@ module _ (l : Ledger) (s : Sane l) (journal : List ℕ) where
       → gated (booked_or (is_booked (version_of l) journal l.booked job)) (P (job % 128)) ≡ gated (booked_gate l journal job) (P job)
   at_job job P = ap (λ (g : Verdict). gated g (P (job % 128))) (booked_gate_lem job) ∙ same_behind (booked_gate l journal job) _ _ placed
     where
-      placed : booked_gate l journal job ≡ Pass → P (job % 128) ≡ P job
+      placed : booked_gate l journal job ≡ Ok (tt {0}) → P (job % 128) ≡ P job
       placed e =
           let h = booked_entered l journal job e in
           let b : job % 128 ≡ job = omega (arith, h.1.below, h.0.booked) in
@@ -247,7 +246,7 @@ module _ (l : Ledger) (s : Sane l) (journal : List ℕ) where
         ap (λ (g : Verdict). gated_listing g (required_at (first % 16))) (vault_gate_lem first second false)
         ∙ same_listed (vault_gate l journal first second false) _ _ placed
       where
-        placed : vault_gate l journal first second false ≡ Pass → required_at (first % 16) ≡ required_at first
+        placed : vault_gate l journal first second false ≡ Ok (tt {0}) → required_at (first % 16) ≡ required_at first
         placed e =
             let p = in_place l journal first second false (entered l journal first second false e) in
             let a : first % 16 ≡ first = omega (arith, p.vault) in
