@@ -1,29 +1,6 @@
-use borrow.Author.Rules.{rules}
-use Rattle.job_states.proofs.States.{states}
+-- A job that is not held there is committed where enough vaults signed it.
+use Rattle.job_states.proofs.States.{commit_by_lem}
 use Rattle.job_states.proofs.may_commit.Goals as goal
 
-ruleset by = (states, rules)
-
-pub offset_bounds-ledger-v : goal.offset_bounds-ledger-v
-offset_bounds-ledger-v c = search by
-
-pub bounds-ledger-v : goal.bounds-ledger-v
-bounds-ledger-v c = search by
-
-pub offset_bounds-ledger-k : goal.offset_bounds-ledger-k
-offset_bounds-ledger-k c = search by
-
-pub bounds-ledger-k : goal.bounds-ledger-k
-bounds-ledger-k c = search by
-
-pub has-requires : goal.has-requires
-has-requires c = search by
-
-pub returns-then-has : goal.returns-then-has
-returns-then-has c = search by depth 8
-
-pub enough-requires : goal.enough-requires
-enough-requires c = search by
-
-pub returns : goal.returns
-returns c = search by depth 8
+pub returns-then-not-has : goal.returns-then-not-has
+returns-then-not-has c = commit_by_lem _ _ _ _ _ c.has.ensures c.if-not-has.true _ c.enough.ensures

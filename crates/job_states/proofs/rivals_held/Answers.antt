@@ -19,8 +19,8 @@ rivals_of-rivals-requires c = search by
 pub common-requires : goal.common-requires
 common-requires c = search by
 
-pub returns-then-has : goal.returns-then-has
-returns-then-has c = search by depth 8
+pub returns-then-not-has : goal.returns-then-not-has
+returns-then-not-has c = search by depth 8
 
 pub empty-requires : goal.empty-requires
 empty-requires c = search by
