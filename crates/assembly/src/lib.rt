@@ -86,19 +86,16 @@ fn make(text: &[u8], buffer: &mut [u8], bytes: &mut [u8], out: &mut [u8]) -> Mad
     requires { (row_room ≤ length buffer.old) × (line_room ≤ length bytes.old) × (longest ≤ length out.old) }
     ensures { Assembles (assembled text.now) out.old out.new result }
 {
-    let mut left = text.len();
     let mut at = 0;
     let mut end = 0;
-    let mut line: u64 = 1;
-    while 0 < left {
+    for passed in 0..text.len() {
+        let line = passed as u64 + 1;
         if text.len() <= at {
             return finish(line, end);
         }
-        left -= 1;
         let start = places::skip_blanks(text, at);
         if places::is_over(text, start) {
             at = places::after_line(text, start);
-            line += 1;
             continue;
         }
         let p = line_read(text, start, buffer, bytes, parts::front(out, end));
@@ -108,9 +105,8 @@ fn make(text: &[u8], buffer: &mut [u8], bytes: &mut [u8], out: &mut [u8]) -> Mad
         }
         end = words::put(out, end, parts::front(bytes, p.end));
         at = places::after_line(text, p.next);
-        line += 1;
     }
-    finish(line, end)
+    finish(text.len() as u64 + 1, end)
 }
 
 // The run file that a text says stands at the front of `out` afterwards; or the lines before the first that is wrong, whose number is handed

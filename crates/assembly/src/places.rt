@@ -5,28 +5,19 @@ ghost use Rattle.notation.specs.Files.{after_line, is_blank, line_over, skip_bla
 fn is_blank(c: u8) -> bool
     ensures { result ≡ is_blank c }
 {
-    if c == b' ' {
-        return true;
-    }
-    if c == b'\t' {
-        return true;
-    }
-    c == b'\r'
+    c == b' ' || c == b'\t' || c == b'\r'
 }
 
 pub(crate) fn skip_blanks(text: &[u8], from: usize) -> usize
     requires { from ≤ length text.now }
     ensures { (drop result text.now ≡ skip_blanks (drop from text.now)) × (result ≤ length text.now) }
 {
-    let mut at = from;
-    while at < text.len() {
-        if is_blank(text[at]) {
-            at += 1;
-            continue;
+    for at in from..text.len() {
+        if !is_blank(text[at]) {
+            return at;
         }
-        return at;
     }
-    at
+    text.len()
 }
 
 // Nothing more stands on the line but a comment.
@@ -34,22 +25,17 @@ pub(crate) fn is_over(text: &[u8], at: usize) -> bool
     requires { at ≤ length text.now }
     ensures { result ≡ line_over (drop at text.now) }
 {
-    if at < text.len() {
-        return lines::closes(text[at]);
-    }
-    true
+    at >= text.len() || lines::closes(text[at])
 }
 
 pub(crate) fn after_line(text: &[u8], from: usize) -> usize
     requires { from ≤ length text.now }
     ensures { (drop result text.now ≡ after_line (drop from text.now)) × (result ≤ length text.now) }
 {
-    let mut at = from;
-    while at < text.len() {
+    for at in from..text.len() {
         if text[at] == b'\n' {
             return at + 1;
         }
-        at += 1;
     }
-    at
+    text.len()
 }

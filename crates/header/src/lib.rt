@@ -21,16 +21,10 @@ pub fn input_buffer() -> [u8; INPUT]
 fn is_header(input: &[u8]) -> bool
     ensures { result ≡ is_header input.now }
 {
-    if input.len() < 9 {
+    if input.len() < SIZE {
         return false;
     }
-    if input[0] != b'V' {
-        return false;
-    }
-    if input[1] != b'L' {
-        return false;
-    }
-    input[2] == b'T'
+    input[0] == b'V' && input[1] == b'L' && input[2] == b'T'
 }
 
 // The settings that it names; bytes past the end count as 0.
@@ -52,8 +46,5 @@ pub fn opens(input: &[u8]) -> bool
     if input.len() > 65536 {
         return false;
     }
-    if !is_header(input) {
-        return false;
-    }
-    settings_in(input).is_lawful()
+    is_header(input) && settings_in(input).is_lawful()
 }

@@ -6,10 +6,7 @@ fn word_ends(text: &[u8], at: usize) -> bool
     requires { at ≤ length text.now }
     ensures { result ≡ word_ends (drop at text.now) }
 {
-    if at < text.len() {
-        return text[at] <= 35;
-    }
-    true
+    at >= text.len() || text[at] <= 35
 }
 
 // The line begins with the row's word.
@@ -18,25 +15,17 @@ fn begins(row: &[u8], text: &[u8], from: usize) -> bool
     ensures { result ≡ begins row.now (drop from text.now) }
 {
     let mut at = from;
-    let mut i = 0;
-    while i < row.len() {
-        let c = row[i];
+    for &c in row {
         if c < 32 {
-            i += 1;
             continue;
         }
         if c == b' ' {
             return word_ends(text, at);
         }
-        if at < text.len() {
-            if text[at] == c {
-                at += 1;
-                i += 1;
-                continue;
-            }
+        if at >= text.len() || text[at] != c {
             return false;
         }
-        return false;
+        at += 1;
     }
     word_ends(text, at)
 }
@@ -45,12 +34,10 @@ pub(crate) fn row_for(text: &[u8], at: usize) -> usize
     requires { at ≤ length text.now }
     ensures { result ≡ row_for (drop at text.now) }
 {
-    let mut k = 0;
-    while k < words::ROWS {
+    for k in 0..words::ROWS {
         if begins(words::row_of(&words::TABLE, &words::STARTS, k), text, at) {
             return k;
         }
-        k += 1;
     }
     words::ROWS
 }

@@ -25,12 +25,6 @@ fn wrong(reason: u8, next: usize, end: usize) -> Parsed
     Parsed { reason, next, end }
 }
 
-fn wide(x: u8) -> u32
-    ensures { result ≡ x }
-{
-    x as u32
-}
-
 fn proposal_read(
     version: u16,
     k: usize,
@@ -44,13 +38,10 @@ fn proposal_read(
     requires { (at ≤ length text.now) × (row_room ≤ length buffer.old) × (end + 4 * longest_row ≤ length out.old) }
     ensures { ReadTo (proposal_read version k s (drop at text.now)) text.now end out.old out.new result }
 {
-    if s.inputs > 4 {
+    if s.inputs > 4 || s.outputs > 4 {
         return wrong(9, at, end);
     }
-    if s.outputs > 4 {
-        return wrong(9, at, end);
-    }
-    let n = words::put_shaped(buffer, version, k, s.inputs, s.outputs, wide(s.trimmed));
+    let n = words::put_shaped(buffer, version, k, s.inputs, s.outputs, s.trimmed as u32);
     parsing::read_row(parts::front(buffer, n), text, at, out, end)
 }
 

@@ -7,69 +7,30 @@ use notation::Shape;
 pub fn closes(c: u8) -> bool
     ensures { result ≡ closes c }
 {
-    if c == b'\n' {
-        return true;
-    }
-    c == b'#'
-}
-
-fn both(a: bool, b: bool) -> bool
-    ensures { result ≡ (a && b) }
-{
-    if a {
-        return b;
-    }
-    false
-}
-
-fn either(a: bool, b: bool) -> bool
-    ensures { result ≡ (a || b) }
-{
-    if a {
-        return true;
-    }
-    b
-}
-
-fn other(a: bool) -> bool
-    ensures { result ≡ cond a false true }
-{
-    if a {
-        return false;
-    }
-    true
+    c == b'\n' || c == b'#'
 }
 
 // One entry more, if it is one; no more than five are told apart.
 fn count(hit: bool, n: u8) -> u8
     ensures { result ≡ cond hit (counted n) n }
 {
-    if hit {
-        if n < 5 {
-            return n + 1;
-        }
-        return n;
-    }
-    n
+    if hit && n < 5 { n + 1 } else { n }
 }
 
 fn said(hit: bool, trimmed: u8) -> u8
     ensures { result ≡ cond hit 1 trimmed }
 {
-    if hit {
-        return 1;
-    }
-    trimmed
+    if hit { 1 } else { trimmed }
 }
 
 fn mark(s: Shape, c: u8) -> Shape
     ensures { result ≡ mark s c }
 {
     Shape {
-        inputs: count(both(c == b':', other(s.right)), s.inputs),
-        outputs: count(both(c == b':', s.right), s.outputs),
-        trimmed: said(both(c == b't', s.gap), s.trimmed),
-        right: either(c == b'>', s.right),
+        inputs: count(c == b':' && !s.right, s.inputs),
+        outputs: count(c == b':' && s.right, s.outputs),
+        trimmed: said(c == b't' && s.gap, s.trimmed),
+        right: c == b'>' || s.right,
         gap: c == b' ',
     }
 }
@@ -91,14 +52,12 @@ pub(crate) fn shape_at(k: usize, text: &[u8], from: usize) -> Shape
     ensures { result ≡ scan (unseen k) (drop from text.now) }
 {
     let mut s = unseen(k);
-    let mut at = from;
-    while at < text.len() {
+    for at in from..text.len() {
         let c = text[at];
         if closes(c) {
             return s;
         }
         s = mark(s, c);
-        at += 1;
     }
     s
 }

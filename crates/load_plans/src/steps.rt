@@ -11,18 +11,18 @@ fn asking(plan: Plan, main: u8, k: u8, draw: u32) -> Step
     requires { Fair plan × (main ≤ 30) × (k < 29) }
     ensures { result ≡ asking plan main k draw }
 {
-    if k < 10 {
-        return Step::Propose(main + k);
+    match k {
+        0..=9 => Step::Propose(main + k),
+        10..=25 => {
+            let v = plans::correct_from(plan, plan.turn as u32 + k as u32);
+            Step::Preflight(v, main)
+        }
+        26..=27 => Step::FaultySign(plan.start, main + (k - 26)),
+        _ => {
+            let v = plans::correct_from(plan, draw);
+            Step::Preflight(v, main + 1)
+        }
     }
-    if k < 26 {
-        let v = plans::correct_from(plan, plan.turn as u32 + k as u32);
-        return Step::Preflight(v, main);
-    }
-    if k < 28 {
-        return Step::FaultySign(plan.start, main + (k - 26));
-    }
-    let v = plans::correct_from(plan, draw);
-    Step::Preflight(v, main + 1)
 }
 
 // The commits and what follows them.
@@ -30,29 +30,33 @@ fn delivering(plan: Plan, main: u8, k: u8, draw: u32) -> Step
     requires { Fair plan × (main ≤ 30) }
     ensures { result ≡ delivering plan main k draw }
 {
-    if k < 30 {
-        let v = plans::correct_from(plan, draw);
-        return Step::Commit(v, main, (draw / 65536) as u16);
+    match k {
+        0..=29 => {
+            let v = plans::correct_from(plan, draw);
+            Step::Commit(v, main, (draw / 65536) as u16)
+        }
+        30..=45 => {
+            let v = plans::correct_from(plan, plan.turn as u32 + k as u32);
+            let signers = plans::correct(plan);
+            Step::Commit(v, main, signers)
+        }
+        46 => {
+            let past = plans::modulo(draw, plan.b as u32 + 1);
+            Step::FaultyAcknowledge(plan.start + past, main)
+        }
+        47 => {
+            let job = plans::modulo(draw, main as u32 + 10);
+            Step::Show(job)
+        }
+        48 => {
+            let absent = plans::modulo(draw, plan.n as u32 + 2);
+            Step::Draw(absent)
+        }
+        _ => {
+            let round = plans::modulo(draw, main as u32 / 10 + 1);
+            Step::Generations(10 * round)
+        }
     }
-    if k < 46 {
-        let v = plans::correct_from(plan, plan.turn as u32 + k as u32);
-        let signers = plans::correct(plan);
-        return Step::Commit(v, main, signers);
-    }
-    if k < 47 {
-        let past = plans::modulo(draw, plan.b as u32 + 1);
-        return Step::FaultyAcknowledge(plan.start + past, main);
-    }
-    if k < 48 {
-        let job = plans::modulo(draw, main as u32 + 10);
-        return Step::Show(job);
-    }
-    if k < 49 {
-        let absent = plans::modulo(draw, plan.n as u32 + 2);
-        return Step::Draw(absent);
-    }
-    let round = plans::modulo(draw, main as u32 / 10 + 1);
-    Step::Generations(10 * round)
 }
 
 // Step i of the load.

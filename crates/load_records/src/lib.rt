@@ -11,30 +11,21 @@ const NONE: Entry = Entry {
     frames: 0,
 };
 
-pub fn wide(x: u8) -> u64
-    ensures { (result ≡ x) × (result < 256) }
-{
-    x as u64
-}
-
 // `TL`, a letter, `0`, two digits, `L` and the medium, the first character lowest.
 fn label(letter: u8, job: u8, medium: u8) -> u64
     requires { medium < 100 }
     ensures { result ≡ label_for letter job medium }
 {
-    84 + 256
-        * (76
-            + 256
-                * (wide(letter)
-                    + 256
-                        * (48
-                            + 256
-                                * (48
-                                    + wide(job / 10)
-                                    + 256
-                                        * (48
-                                            + wide(job % 10)
-                                            + 256 * (76 + 256 * (48 + wide(medium))))))))
+    u64::from_le_bytes([
+        b'T',
+        b'L',
+        letter,
+        b'0',
+        b'0' + job / 10,
+        b'0' + job % 10,
+        b'L',
+        b'0' + medium,
+    ])
 }
 
 fn tape(letter: u8, job: u8, medium: u8, frames: u32) -> Entry
@@ -129,11 +120,9 @@ pub fn job(first: u32, job: u8) -> Job
 {
     let f = first % 65536 + 1;
     let g = first / 65536 + 1;
-    if job % 10 == 0 {
-        return main_job(f, g, job / 10);
+    match job % 10 {
+        0 => main_job(f, g, job / 10),
+        1 => rival_job(f, job / 10),
+        _ => side_job(job),
     }
-    if job % 10 == 1 {
-        return rival_job(f, job / 10);
-    }
-    side_job(job)
 }

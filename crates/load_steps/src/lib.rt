@@ -9,23 +9,13 @@ ghost use Rattle.digits.specs.Digits.{Put};
 
 use load::Step;
 
-fn put_two(out: &mut [u8], at: usize, a: u8, b: u8) -> usize
-    requires { at + 2 ≤ length out.old }
-    ensures { Put out.old at (a ∷ b ∷ []) out.new result × (result ≡ at + 2) }
+fn put_bytes(out: &mut [u8], at: usize, bytes: &[u8]) -> usize
+    requires { at + length bytes.now ≤ length out.old }
+    ensures { Put out.old at bytes.now out.new result × (result ≡ at + length bytes.now) }
 {
-    out[at] = a;
-    out[at + 1] = b;
-    at + 2
-}
-
-fn put_three(out: &mut [u8], at: usize, a: u8, b: u8, c: u8) -> usize
-    requires { at + 3 ≤ length out.old }
-    ensures { Put out.old at (a ∷ b ∷ c ∷ []) out.new result × (result ≡ at + 3) }
-{
-    out[at] = a;
-    out[at + 1] = b;
-    out[at + 2] = c;
-    at + 3
+    let end = at + bytes.len();
+    out[at..end].copy_from_slice(bytes);
+    end
 }
 
 // 16 bits, the low byte first.
@@ -33,23 +23,15 @@ fn put_word(out: &mut [u8], at: usize, word: u16) -> usize
     requires { at + 2 ≤ length out.old }
     ensures { Put out.old at (le_bytes 2 word) out.new result × (result ≡ at + 2) }
 {
-    put_two(out, at, (word % 256) as u8, (word / 256 % 256) as u8)
+    put_bytes(out, at, &[(word % 256) as u8, (word / 256 % 256) as u8])
 }
 
 fn put_commit(out: &mut [u8], at: usize, vault: u8, job: u8, signers: u16) -> usize
     requires { at + 5 ≤ length out.old }
     ensures { Put out.old at (3 ∷ vault ∷ job ∷ le_bytes 2 signers) out.new result × (result ≡ at + 5) }
 {
-    let next = put_three(out, at, 3, vault, job);
+    let next = put_bytes(out, at, &[3, vault, job]);
     put_word(out, next, signers)
-}
-
-fn put_byte(out: &mut [u8], at: usize, a: u8) -> usize
-    requires { at < length out.old }
-    ensures { Put out.old at (a ∷ []) out.new result × (result ≡ at + 1) }
-{
-    out[at] = a;
-    at + 1
 }
 
 fn put_record(out: &mut [u8], at: usize, first: u32, job: u8) -> usize
@@ -65,7 +47,7 @@ fn put_proposal(out: &mut [u8], at: usize, first: u32, job: u8) -> usize
     requires { at + 101 ≤ length out.old }
     ensures { Put out.old at (1 ∷ bytes_of 1 (job_for first job)) out.new result × (result ≡ at + 101) }
 {
-    let next = put_byte(out, at, 1);
+    let next = put_bytes(out, at, &[1]);
     put_record(out, next, first, job)
 }
 
@@ -76,13 +58,13 @@ pub fn put(out: &mut [u8], at: usize, first: u32, step: Step) -> usize
 {
     match step {
         Step::Propose(job) => put_proposal(out, at, first, job),
-        Step::Preflight(vault, job) => put_three(out, at, 2, vault, job),
+        Step::Preflight(vault, job) => put_bytes(out, at, &[2, vault, job]),
         Step::Commit(vault, job, signers) => put_commit(out, at, vault, job, signers),
-        Step::FaultySign(vault, job) => put_three(out, at, 4, vault, job),
-        Step::FaultyAcknowledge(vault, job) => put_three(out, at, 5, vault, job),
-        Step::Show(job) => put_two(out, at, 6, job),
-        Step::Draw(absent) => put_two(out, at, 7, absent),
-        Step::Generations(job) => put_two(out, at, 8, job),
+        Step::FaultySign(vault, job) => put_bytes(out, at, &[4, vault, job]),
+        Step::FaultyAcknowledge(vault, job) => put_bytes(out, at, &[5, vault, job]),
+        Step::Show(job) => put_bytes(out, at, &[6, job]),
+        Step::Draw(absent) => put_bytes(out, at, &[7, absent]),
+        Step::Generations(job) => put_bytes(out, at, &[8, job]),
     }
 }
 
@@ -91,8 +73,8 @@ pub fn put_header(out: &mut [u8], n: u8, b: u8, faulty: u16) -> usize
     requires { 9 ≤ length out.old }
     ensures { Put out.old 0 (header_bytes n b faulty) out.new result × (result ≡ 9) }
 {
-    let magic = put_three(out, 0, b'V', b'L', b'T');
+    let magic = put_bytes(out, 0, b"VLT");
     let version = put_word(out, magic, 1);
-    let settings = put_two(out, version, n, b);
+    let settings = put_bytes(out, version, &[n, b]);
     put_word(out, settings, faulty)
 }

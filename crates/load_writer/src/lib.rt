@@ -9,7 +9,6 @@ ghost use Rattle.digits.specs.Digits.{Put};
 
 use federation::Settings;
 use load::Plan;
-use load_records::wide;
 use outcome::{Outcome, Refusal};
 
 // How many bytes are read: a seed of eight, n and b.
@@ -25,34 +24,23 @@ fn seed_of(input: &[u8]) -> u64
     requires { length input.now ≡ 10 }
     ensures { result ≡ le_at input.now 0 8 }
 {
-    wide(input[0])
-        + 256
-            * (wide(input[1])
-                + 256
-                    * (wide(input[2])
-                        + 256
-                            * (wide(input[3])
-                                + 256
-                                    * (wide(input[4])
-                                        + 256
-                                            * (wide(input[5])
-                                                + 256 * (wide(input[6]) + 256 * wide(input[7])))))))
+    codec::number_at(input, 0, 8)
 }
 
 // Ten bytes, of which the last two are settings that a run file may have.
 fn is_request(input: &[u8]) -> bool
     ensures { result ≡ is_request input.now }
 {
-    if input.len() == REQUEST {
-        let settings = Settings {
-            n: input[8],
-            b: input[9],
-            faulty: 0,
-            version: 1,
-        };
-        return settings.is_lawful();
+    if input.len() != REQUEST {
+        return false;
     }
-    false
+    let settings = Settings {
+        n: input[8],
+        b: input[9],
+        faulty: 0,
+        version: 1,
+    };
+    settings.is_lawful()
 }
 
 // All steps from the state after the third draw on, each with a draw of its own.

@@ -1,30 +1,28 @@
 -- Each return is one way through the tests.
-use mathlib.Core.Bool.{Bool, ◌&&◌, true}
-use mathlib.Core.Path.{◌≡◌, sym}
-use borrow.Author.Tests.{eq-eqb, le-leb}
-use Rattle.base.proofs.Tests.{chain}
+use mathlib.Core.Bool.{true≢false}
+use mathlib.Core.Path.{◌∙◌, sym}
+use borrow.Author.Tests.{eq-eqb, le-leb, lt-leb, ne_eqb}
 use Rattle.runfile.specs.Run.{is_header}
 use Rattle.header.proofs.is_header.Goals as goal
+use Rattle.header.proofs.is_header.Goals.{else-input-eq86, then-input-eq86}
 
--- three tests that pass leave the last
-behind : (a b c d : Bool) → a ≡ true → b ≡ true → c ≡ true → (a && (b && (c && d))) ≡ d
-behind a b c d p q r = rw (p, q, r)
-
-pub returns : goal.returns
+pub returns-then-input-lt-SIZE : goal.returns-then-input-lt-SIZE
 unfolding is_header
-returns c =
-    let l = c in
-    let v = l in
-    sym (behind _ _ _ _ (le-leb _ _ v.if-input-lt9.false) (eq-eqb _ _ v.if-input-ne86.false) (eq-eqb _ _ l.if-input-ne76.false))
+returns-then-input-lt-SIZE c = simp (lt-leb _ _ c.if-input-lt-SIZE.true)
 
-pub returns-then-input-lt9 : goal.returns-then-input-lt9
+pub returns-else-input-eq76 : goal.returns-else-input-eq76
 unfolding is_header
-returns-then-input-lt9 c = search chain depth 8
+returns-else-input-eq76 c =
+    elim c.if-input-eq86.branch [
+      | then-input-eq86 w ↦
+          simp (le-leb _ _ c.if-input-lt-SIZE.false, eq-eqb _ _ w.if-input-eq86.true, sym w.value-is ∙ c.if-input-eq76.false) c.if-input-eq76.false
+      | else-input-eq86 w ↦ simp (le-leb _ _ c.if-input-lt-SIZE.false, ne_eqb _ _ w.if-input-eq86.false) c.if-input-eq76.false
+    ]
 
-pub returns-then-input-ne86 : goal.returns-then-input-ne86
+pub returns-then-input-eq76 : goal.returns-then-input-eq76
 unfolding is_header
-returns-then-input-ne86 c = search chain depth 8
-
-pub returns-then-input-ne76 : goal.returns-then-input-ne76
-unfolding is_header
-returns-then-input-ne76 c = search chain depth 8
+returns-then-input-eq76 c =
+    elim c.if-input-eq86.branch [
+      | then-input-eq86 w ↦ simp (le-leb _ _ c.if-input-lt-SIZE.false, eq-eqb _ _ w.if-input-eq86.true, sym w.value-is ∙ c.if-input-eq76.true)
+      | else-input-eq86 w ↦ absurd (true≢false (sym c.if-input-eq76.true ∙ w.value-is ∙ ne_eqb _ _ w.if-input-eq86.false))
+    ]

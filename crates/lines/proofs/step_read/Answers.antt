@@ -19,47 +19,11 @@ returns-then-k-lt2 c =
     second_header_lem _ _ _ _ _ start.requires.0 (omega (arith, start.requires.2)) _ _ chosen.row_for-k.ensures c.if-k-ge-ROWS.false
     c.if-k-lt2.true c.wrong-then-k-lt2.ensures
 
-pub row_for-k-requires : goal.row_for-k-requires
-row_for-k-requires c = search by
-
-pub wrong-requires : goal.wrong-requires
-wrong-requires c = search by
-
-pub wrong-requires-then-k-lt2 : goal.wrong-requires-then-k-lt2
-wrong-requires-then-k-lt2 c = search by
-
-pub shape_at-requires : goal.shape_at-requires
-shape_at-requires c = search by
-
-pub proposal_read-requires : goal.proposal_read-requires
-proposal_read-requires c = search by
-
-pub shape_of-buffer-then-k-le3 : goal.shape_of-buffer-then-k-le3
-shape_of-buffer-then-k-le3 c = search by
-
-pub shape_of-out-then-k-le3 : goal.shape_of-out-then-k-le3
-shape_of-out-then-k-le3 c = search by
-
 pub returns-then-k-le3 : goal.returns-then-k-le3
 returns-then-k-le3 c = search by
 
-pub raw_read-requires : goal.raw_read-requires
-raw_read-requires c = search by
-
-pub shape_of-buffer-then-k-eq4 : goal.shape_of-buffer-then-k-eq4
-shape_of-buffer-then-k-eq4 c = search by
-
-pub shape_of-out-then-k-eq4 : goal.shape_of-out-then-k-eq4
-shape_of-out-then-k-eq4 c = search by
-
 pub returns-then-k-eq4 : goal.returns-then-k-eq4
 returns-then-k-eq4 c = search by
-
-pub own_read-requires : goal.own_read-requires
-own_read-requires c = search by
-
-pub shape_of-out : goal.shape_of-out
-shape_of-out c = search by
 
 pub returns : goal.returns
 returns c = search by

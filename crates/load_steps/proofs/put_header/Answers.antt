@@ -8,7 +8,7 @@ use Rattle.load_steps.proofs.put_header.Goals as goal
 pub returns : goal.returns
 unfolding header_bytes le_bytes
 returns c = (
-  then c.put_three-magic.ensures.0 (then c.put_word-version.ensures.0 (then
-      c.put_two-settings.ensures.0 c.put_word.ensures.0)),
+  then c.put_bytes-magic.ensures.0 (then c.put_word-version.ensures.0 (then
+      c.put_bytes-settings.ensures.0 c.put_word.ensures.0)),
   omega arith,
 )

@@ -4,4 +4,4 @@ use Rattle.load_steps.proofs.put_word.Goals as goal
 
 pub returns : goal.returns
 unfolding le_bytes
-returns c = c.put_two.ensures
+returns c = c.put_bytes.ensures

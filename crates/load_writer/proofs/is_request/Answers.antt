@@ -3,10 +3,10 @@ use borrow.Author.Tests.{eq-eqb, ne_eqb}
 use Rattle.load.specs.Loads.{is_request}
 use Rattle.load_writer.proofs.is_request.Goals as goal
 
-pub returns-then-input-eq-REQUEST : goal.returns-then-input-eq-REQUEST
-unfolding is_request
-returns-then-input-eq-REQUEST c = simp (eq-eqb _ _ c.if-input-eq-REQUEST.true) c.is_lawful.ensures
-
 pub returns : goal.returns
 unfolding is_request
-returns c = simp (ne_eqb _ _ c.if-input-eq-REQUEST.false)
+returns c = simp (eq-eqb _ _ c.if-input-ne-REQUEST.false) c.is_lawful.ensures
+
+pub returns-then-input-ne-REQUEST : goal.returns-then-input-ne-REQUEST
+unfolding is_request
+returns-then-input-ne-REQUEST c = simp (ne_eqb _ _ c.if-input-ne-REQUEST.true)

@@ -1,6 +1,5 @@
 -- What is written, with what remains to be written, is always all the steps.
 use mathlib.Core.Path.{◌∙◌, refl}
-use Prim.Native.Nat.{◌-◌}
 use native.Mathlib.Omega.{arith}
 use Rattle.load.proofs.Writes.{no_bytes, rest_none, rest_on}
 use Rattle.load_writer.proofs.put_steps.Goals as goal

@@ -1,30 +1,14 @@
 use Rattle.assembly.proofs.Passing.{passes}
-use Prim.Native.Nat.{◌-◌}
 use borrow.Author.Rules.{rules}
 use Rattle.assembly.proofs.places.skip_blanks.Goals as goal
 
 ruleset by = (passes, rules)
 
-pub loop-at-init : goal.loop-at-init
-loop-at-init c = search by
-
-pub bounds-text-at : goal.bounds-text-at
-bounds-text-at c = search by
-
-pub is_blank-requires : goal.is_blank-requires
-is_blank-requires c = search by
-
-pub overflow_add-at : goal.overflow_add-at
-overflow_add-at c = search by
-
-pub loop-at-smaller : goal.loop-at-smaller
-loop-at-smaller c = search by
-
 pub loop-at-preserved : goal.loop-at-preserved
 loop-at-preserved c = search by
 
-pub returns-in-loop-at : goal.returns-in-loop-at
-returns-in-loop-at c = search by
-
 pub returns : goal.returns
 returns c = search by
+
+pub returns-then-not-is_blank : goal.returns-then-not-is_blank
+returns-then-not-is_blank c = search by

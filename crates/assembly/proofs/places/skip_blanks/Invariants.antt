@@ -1,11 +1,6 @@
 use Rattle.assembly.proofs.Passing.{Passing}
 use Rattle.notation.specs.Files.{skip_blanks}
-use Prim.Native.Nat.{◌-◌}
-use lib.ListN.{length}
 use Rattle.assembly.proofs.places.skip_blanks.Given as goal
 
 abbrev pub invariant-loop-at : goal.invariant-loop-at
 invariant-loop-at l = Passing skip_blanks l.text l.from l.at
-
-abbrev pub decreases-loop-at : goal.decreases-loop-at
-decreases-loop-at l = length l.text - l.at

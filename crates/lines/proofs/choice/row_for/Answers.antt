@@ -12,22 +12,10 @@ ruleset by = (lookups, rules)
 pub loop-k-init : goal.loop-k-init
 loop-k-init c = search by
 
-pub row_of-requires : goal.row_of-requires
-row_of-requires c = search by
-
-pub begins-requires : goal.begins-requires
-begins-requires c = search by
-
 pub returns-then-begins : goal.returns-then-begins
 unfolding part rows_in row
 returns-then-begins c =
     look_found c.loop-k.invariant _ _ c.loop-k-test.true (found_in table _ _ _ c.row_of.ensures refl).is c.begins.ensures c.if-begins.true
-
-pub overflow_add-k : goal.overflow_add-k
-overflow_add-k c = search by
-
-pub loop-k-smaller : goal.loop-k-smaller
-loop-k-smaller c = search by
 
 pub loop-k-preserved : goal.loop-k-preserved
 unfolding part rows_in row

@@ -5,11 +5,8 @@ use Rattle.lines.proofs.choice.word_ends.Goals as goal
 
 ruleset by = (word_ends_rules, tests, rules)
 
-pub bounds-text-at : goal.bounds-text-at
-bounds-text-at c = search by
-
 pub returns-then-at-text : goal.returns-then-at-text
 returns-then-at-text c = search by
 
-pub returns : goal.returns
-returns c = search by
+pub returns-else-at-text : goal.returns-else-at-text
+returns-else-at-text c = search by

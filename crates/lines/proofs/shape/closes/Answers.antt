@@ -6,6 +6,6 @@ pub returns-then-c-eq10 : goal.returns-then-c-eq10
 unfolding closes
 returns-then-c-eq10 c = search chain
 
-pub returns : goal.returns
+pub returns-else-c-eq10 : goal.returns-else-c-eq10
 unfolding closes
-returns c = search chain
+returns-else-c-eq10 c = search chain

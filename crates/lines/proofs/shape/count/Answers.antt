@@ -4,14 +4,8 @@ use Rattle.lines.proofs.shape.count.Goals as goal
 
 ruleset by = (count_more, count_full, rules)
 
-pub overflow_add-result : goal.overflow_add-result
-overflow_add-result c = search by
-
 pub returns-then-n-lt5 : goal.returns-then-n-lt5
 returns-then-n-lt5 c = search by
 
-pub returns-then-hit : goal.returns-then-hit
-returns-then-hit c = search by
-
-pub returns : goal.returns
-returns c = search by
+pub returns-else-hit : goal.returns-else-hit
+returns-else-hit c = search by

@@ -1,25 +1,21 @@
--- Each return is one way through the tests of `asking`.
-use borrow.Author.Tests.{le-ltb, lt-ltb}
+-- Each arm is one way through the tests of `asking`.
+use Rattle.std.proofs.Common.{arith}
+use Rattle.std.proofs.lemmas.Grind.{common_steps}
 use Rattle.load.specs.Steps.{asking}
 use Rattle.load_plans.proofs.steps.asking.Goals as goal
 
-pub returns-then-k-lt10 : goal.returns-then-k-lt10
+pub returns-in-0-to-9 : goal.returns-in-0-to-9
 unfolding asking
-returns-then-k-lt10 c = simp (lt-ltb _ _ c.if-k-lt10.true)
+returns-in-0-to-9 c = grind (arith, common_steps)
 
-pub returns-then-k-lt26 : goal.returns-then-k-lt26
+pub returns-in-10-to-25 : goal.returns-in-10-to-25
 unfolding asking
-returns-then-k-lt26 c = simp (le-ltb _ _ c.if-k-lt10.false, lt-ltb _ _ c.if-k-lt26.true, c.correct_from-v.ensures)
+returns-in-10-to-25 c = grind (arith, common_steps)
 
-pub returns-then-k-lt28 : goal.returns-then-k-lt28
+pub returns-in-26-to-27 : goal.returns-in-26-to-27
 unfolding asking
-returns-then-k-lt28 c = simp (le-ltb _ _ c.if-k-lt10.false, le-ltb _ _ c.if-k-lt26.false, lt-ltb _ _ c.if-k-lt28.true)
+returns-in-26-to-27 c = grind (arith, common_steps)
 
-pub returns : goal.returns
+pub returns-in_default : goal.returns-in_default
 unfolding asking
-returns c = simp (
-  le-ltb _ _ c.if-k-lt10.false,
-  le-ltb _ _ c.if-k-lt26.false,
-  le-ltb _ _ c.if-k-lt28.false,
-  c.correct_from-v-2.ensures,
-)
+returns-in_default c = grind (arith, common_steps)

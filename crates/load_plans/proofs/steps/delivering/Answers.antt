@@ -1,58 +1,29 @@
--- Each return is one way through the tests of `delivering`.
-use borrow.Author.Tests.{le-ltb, lt-ltb}
+-- Each arm is one way through the tests of `delivering`.
+use Rattle.std.proofs.Common.{arith}
+use Rattle.std.proofs.lemmas.Grind.{common_steps}
 use Rattle.load.specs.Steps.{delivering}
 use Rattle.load_plans.proofs.steps.delivering.Goals as goal
 
-pub returns-then-k-lt30 : goal.returns-then-k-lt30
+pub returns-in-0-to-29 : goal.returns-in-0-to-29
 unfolding delivering
-returns-then-k-lt30 c = simp (lt-ltb _ _ c.if-k-lt30.true, c.correct_from-v.ensures)
+returns-in-0-to-29 c = grind (arith, common_steps)
 
-pub returns-then-k-lt46 : goal.returns-then-k-lt46
+pub returns-in-30-to-45 : goal.returns-in-30-to-45
 unfolding delivering
-returns-then-k-lt46 c = simp (
-  le-ltb _ _ c.if-k-lt30.false,
-  lt-ltb _ _ c.if-k-lt46.true,
-  c.correct-signers.ensures,
-  c.correct_from-v-then-k-lt46.ensures,
-)
+returns-in-30-to-45 c = grind (arith, common_steps)
 
-pub returns-then-k-lt47 : goal.returns-then-k-lt47
+pub returns-in-46 : goal.returns-in-46
 unfolding delivering
-returns-then-k-lt47 c = simp (
-  le-ltb _ _ c.if-k-lt30.false,
-  le-ltb _ _ c.if-k-lt46.false,
-  lt-ltb _ _ c.if-k-lt47.true,
-  c.modulo-past.ensures.0,
-)
+returns-in-46 c = grind (arith, common_steps)
 
-pub returns-then-k-lt48 : goal.returns-then-k-lt48
+pub returns-in-47 : goal.returns-in-47
 unfolding delivering
-returns-then-k-lt48 c = simp (
-  le-ltb _ _ c.if-k-lt30.false,
-  le-ltb _ _ c.if-k-lt46.false,
-  le-ltb _ _ c.if-k-lt47.false,
-  lt-ltb _ _ c.if-k-lt48.true,
-  c.modulo-job.ensures.0,
-)
+returns-in-47 c = grind (arith, common_steps)
 
-pub returns-then-k-lt49 : goal.returns-then-k-lt49
+pub returns-in-48 : goal.returns-in-48
 unfolding delivering
-returns-then-k-lt49 c = simp (
-  le-ltb _ _ c.if-k-lt30.false,
-  le-ltb _ _ c.if-k-lt46.false,
-  le-ltb _ _ c.if-k-lt47.false,
-  le-ltb _ _ c.if-k-lt48.false,
-  lt-ltb _ _ c.if-k-lt49.true,
-  c.modulo-absent.ensures.0,
-)
+returns-in-48 c = grind (arith, common_steps)
 
-pub returns : goal.returns
+pub returns-in_default : goal.returns-in_default
 unfolding delivering
-returns c = simp (
-  le-ltb _ _ c.if-k-lt30.false,
-  le-ltb _ _ c.if-k-lt46.false,
-  le-ltb _ _ c.if-k-lt47.false,
-  le-ltb _ _ c.if-k-lt48.false,
-  le-ltb _ _ c.if-k-lt49.false,
-  c.modulo-round.ensures.0,
-)
+returns-in_default c = grind (arith, common_steps)
