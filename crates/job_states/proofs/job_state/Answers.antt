@@ -10,17 +10,17 @@ offset_bounds-ledger-k c = search by
 pub bounds-ledger-k : goal.bounds-ledger-k
 bounds-ledger-k c = search by
 
-pub enough-requires : goal.enough-requires
-enough-requires c = search by
+pub is_quorum-requires : goal.is_quorum-requires
+is_quorum-requires c = search by
 
-pub returns-then-enough : goal.returns-then-enough
-returns-then-enough c = search by depth 8
+pub returns-then-is_quorum : goal.returns-then-is_quorum
+returns-then-is_quorum c = search by depth 8
 
-pub enough-requires-2 : goal.enough-requires-2
-enough-requires-2 c = search by
+pub is_quorum-requires-2 : goal.is_quorum-requires-2
+is_quorum-requires-2 c = search by
 
-pub returns-then-enough-2 : goal.returns-then-enough-2
-returns-then-enough-2 c = search by depth 8
+pub returns-then-is_quorum-2 : goal.returns-then-is_quorum-2
+returns-then-is_quorum-2 c = search by depth 8
 
 pub rivals_of-rivals-requires : goal.rivals_of-rivals-requires
 rivals_of-rivals-requires c = search by

@@ -22,8 +22,5 @@ without-requires c = search by
 pub admission-verdict-requires : goal.admission-verdict-requires
 admission-verdict-requires c = search by
 
-pub is_pass-requires : goal.is_pass-requires
-is_pass-requires c = search by
-
 pub returns : goal.returns
 returns c = search by depth 8
