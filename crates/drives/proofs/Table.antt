@@ -103,3 +103,6 @@ none_supported writing d m h =
     by_cases (λ _. false ≡ supports writing d m) (is_drive d)
     (λ t. let r = at_5_to_9 d t in supports_none writing d m r.0 r.1 h)
     (no_drive writing d m)
+
+-- what the code's tests leave: a cell of the table, or no medium
+pub ruleset cells = (supports_cell, supports_none)

@@ -32,7 +32,7 @@ pub fn is_drive(drive: u8) -> bool
 }
 
 // Whether the drive writes the medium, or reads it.
-#[tactic(auto, using(crate::proofs::Table::supports_cell, crate::proofs::Table::supports_none), unfolding(crate::specs::Drives::supports, crate::specs::Drives::is_drive, record::specs::Labels::is_between))]
+#[tactic(auto, using(crate::proofs::Table::cells), unfolding(crate::specs::Drives::supports, crate::specs::Drives::is_drive, record::specs::Labels::is_between))]
 pub fn supports(writing: bool, drive: u8, medium: usize) -> bool
     ensures { result ≡ supports writing drive medium }
 {
