@@ -23,14 +23,12 @@ pub fn after_line(text: &[u8], from: usize) -> usize
     requires { from < length text.now }
     ensures { (from < result) × (result ≤ length text.now) }
 {
-    let mut at = from;
-    while at < text.len() {
+    for at in from..text.len() {
         if text[at] == b'\n' {
             return at + 1;
         }
-        at += 1;
     }
-    at
+    text.len()
 }
 
 // A comment is passed over.
@@ -40,20 +38,12 @@ pub fn is_comment(text: &[u8], at: usize) -> bool
     fields::byte_at(text, at) == b'#'
 }
 
-fn shows(first: u8) -> bool
-    ensures { result ≡ is_shown first }
-{
-    if first == b'\n' {
-        return true;
-    }
-    first == b'='
-}
-
 // A heading and an empty line are printed as they stand. Any other line is a case.
 pub fn is_shown(text: &[u8], at: usize) -> bool
     ensures { result ≡ is_shown (get_or text.now at 0) }
 {
-    shows(fields::byte_at(text, at))
+    let first = fields::byte_at(text, at);
+    first == b'\n' || first == b'='
 }
 
 // What may stand before a case, read by its row: the number that it says, below 65,536, or the reason why it does not stand there and the

@@ -1,8 +1,10 @@
--- The byte that was read is the one at the place.
-use mathlib.Core.Path.{◌∙◌, ap}
-use Prim.Native.Nat.{ℕ}
-use Rattle.scripts.specs.Lines.{is_shown}
+-- A chain of two tests of the byte at the place.
+use Rattle.std.proofs.Common.{arith}
+use Rattle.std.proofs.lemmas.Grind.{common_steps}
 use Rattle.scripts.proofs.is_shown.Goals as goal
 
-pub returns : goal.returns
-returns c = c.shows.ensures ∙ ap (λ (b : ℕ). is_shown b) c.byte_at.ensures
+pub returns-then-first-eq10 : goal.returns-then-first-eq10
+returns-then-first-eq10 c = grind (arith, common_steps)
+
+pub returns-else-first-eq10 : goal.returns-else-first-eq10
+returns-else-first-eq10 c = grind (arith, common_steps)
