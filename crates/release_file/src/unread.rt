@@ -1,12 +1,13 @@
 // The first step that can't be read.
 ghost use Rattle.std.specs.Prelude.{true, ◌≡◌, ◌<◌};
+ghost use Rattle.std.specs.Option.{MatchOption};
 ghost use Rattle.release_file.specs.Releases.{unread_in};
 ghost use Rattle.runfile.specs.Run.{opens};
 
-// Its number, or 0 where all can be read.
-pub(crate) fn first(input: &[u8]) -> u32
+// Its number, where there is one.
+pub(crate) fn first(input: &[u8]) -> Option<u32>
     requires { opens input.now ≡ true }
-    ensures { (result ≡ unread_in input.now) × (result < 1000000) }
+    ensures { MatchOption result (unread_in input.now ≡ 0) (λ n. (n ≡ unread_in input.now) × (0 < n) × (n < 1000000)) }
 {
     let version = fields::word_at(input, 3);
     let mut pos: usize = 9;
@@ -16,9 +17,9 @@ pub(crate) fn first(input: &[u8]) -> u32
         let step = reading::step_at(version, input, pos, count);
         let kind = step.kind;
         if kind_table::is_unknown(kind) {
-            return count;
+            return Some(count);
         }
         pos = step.end;
     }
-    0
+    None
 }

@@ -21,7 +21,7 @@ returns-then-is_unknown c =
     let kind = c.step_at-step.ensures.kind_is in
     let unknown = sym c.is_unknown.ensures ∙ c.if-is_unknown.true in
     let is = first_unread _ _ l.pos l.count t l.invariant.0 _ kind unknown in
-    (sym (l.invariant.1.1.1 ∙ is), omega (arith, l.invariant.0, l.invariant.1.0, l.invariant.1.1.0))
+    (sym (l.invariant.1.1.1 ∙ is), omega arith, omega (arith, l.invariant.0, l.invariant.1.0, l.invariant.1.1.0))
 
 pub loop-pos-smaller : goal.loop-pos-smaller
 loop-pos-smaller c =
@@ -40,4 +40,4 @@ loop-pos-preserved c =
 pub returns : goal.returns
 returns c =
     let l = c.loop-pos in
-    (sym (l.invariant.1.1.1 ∙ none_unread _ _ l.pos l.count _ c.loop-pos-test.false), omega arith)
+    l.invariant.1.1.1 ∙ none_unread _ _ l.pos l.count _ c.loop-pos-test.false
