@@ -30,7 +30,13 @@ pub fn write_line(out: &mut [u8], at: usize, step: u32, outcome: Outcome) -> usi
     requires { (step < 1000000) × (at + longest_line ≤ length out.old) }
     ensures { Put out.old at (line_for step outcome) out.new result × (result ≤ at + longest_line) }
 {
-    write_figures(out, at, step, u32::from(outcome::number(outcome)), outcome::value(outcome))
+    write_figures(
+        out,
+        at,
+        step,
+        u32::from(outcome::number(outcome)),
+        outcome::value(outcome),
+    )
 }
 
 // The text of a step: its line, and the numbers that it lists.
