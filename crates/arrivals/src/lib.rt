@@ -16,12 +16,15 @@ fn has_arrived(order: &[u8], n: usize, job: u8) -> bool
 }
 
 // The job goes to the end of the arrival order, unless it is there or the order is full.
-#[tactic(auto, unfolding(ledger::specs::State::arriving, ledger::specs::State::enqueued))]
+// Two tests, since one by `||` has the ledger copied once more.
 pub fn arrive(mut ledger: Ledger, job: u8) -> Ledger
     ensures { result ≡ arriving ledger job }
 {
     let n = ledger.arrivals;
-    if n >= CAPACITY || has_arrived(&ledger.order, n, job) {
+    if n >= CAPACITY {
+        return ledger;
+    }
+    if has_arrived(&ledger.order, n, job) {
         return ledger;
     }
     ledger.order[n] = job;

@@ -20,7 +20,7 @@ pub fn apply(mut ledger: Ledger, change: Change, vault: u8, job: u8) -> Ledger
     match change {
         Change::Nothing => ledger,
         Change::Book => {
-            ledger.booked += 1;
+            ledger.booked = ledger.booked + 1;
             ledger
         }
         Change::Sign(state) => {
