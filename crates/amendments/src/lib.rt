@@ -1,11 +1,10 @@
 // Operations: document 02's steps at a vault, kinds 10 and 12. Each takes any arguments and any journal, as those of `voting` do, and promises the same.
 #![tactic(auto)]
 
-mod indexed;
-
 ghost use Rattle.std.specs.Prelude.{◌≡◌};
 ghost use Rattle.ledger.specs.Steps.{client_preflight_of, release_of};
 
+use gates::Tables;
 use ledger::{Ledger, Reply};
 use outcome::Verdict;
 
@@ -21,8 +20,12 @@ pub fn release(ledger: Ledger, journal: &[u8], vault: u8, job: u8, rival: u8) ->
             let state = ledger.vaults[v];
             let votes = ledger.votes[j];
             let settings = ledger.settings;
-            let decision = indexed::release(
+            let tables = Tables::of(settings.version, journal, ledger.booked);
+            let decision = supersession::release(
+                gate,
                 state,
+                &tables.numbers,
+                &tables.sets,
                 settings.version,
                 journal,
                 ledger.booked,
@@ -51,8 +54,12 @@ pub fn client_preflight(ledger: Ledger, journal: &[u8], vault: u8, job: u8, clie
             let place = quota::place(vault, client);
             let history = ledger.histories[place];
             let settings = ledger.settings;
-            let decision = indexed::client_preflight(
+            let tables = Tables::of(settings.version, journal, ledger.booked);
+            let decision = preflights::client_preflight(
+                gate,
                 state,
+                &tables.numbers,
+                &tables.sets,
                 settings.version,
                 journal,
                 ledger.booked,

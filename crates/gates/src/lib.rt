@@ -1,5 +1,8 @@
-// What the operations share: the checks before a step, and the two ways of a step, carried out or turned back. Parts of the operations, which ask nothing.
+// What the operations share: the checks before a step, the index of a lent journal, and the two ways of a step, carried out or turned back. Parts of the
+// operations, which ask nothing.
 #![tactic(auto)]
+
+mod tables;
 
 ghost use Rattle.std.specs.Prelude.{◌≡◌};
 ghost use Rattle.ledger.specs.Given.{Placed, Writable};
@@ -7,6 +10,7 @@ ghost use Rattle.ledger.specs.Steps.{booked_gate, carried, journal_with, turned,
 
 use ledger::{Change, Decision, Ledger, Reply};
 use outcome::{Outcome, Refusal, Verdict};
+pub use tables::Tables;
 
 // Checks 1 and 4.
 pub fn booked_gate(ledger: Ledger, journal: &[u8], job: u8) -> Verdict

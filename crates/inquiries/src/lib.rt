@@ -1,11 +1,10 @@
 // Operations that change nothing: a record shown, kinds 6, 8, 11 and 13. Each takes any arguments and any journal, and promises its whole answer.
 #![tactic(auto)]
 
-mod indexed;
-
 ghost use Rattle.std.specs.Prelude.{◌≡◌};
 ghost use Rattle.ledger.specs.Steps.{dependencies_of, equivocators_of, generations_of, show_of, shown_of};
 
+use gates::Tables;
 use ledger::{Ledger, Listing};
 use outcome::{Outcome, Verdict};
 
@@ -47,13 +46,18 @@ pub fn generations(ledger: Ledger, journal: &[u8], job: u8) -> Outcome
             let vaults = ledger.vaults;
             let order = ledger.order;
             let j = job as usize;
-            indexed::generations(
+            let tables = Tables::of(settings.version, journal, ledger.booked);
+            let mut memo = [0u8; journal::CAPACITY];
+            dependencies::generations(
                 settings,
                 vaults,
                 &order,
                 ledger.arrivals,
+                &tables.numbers,
+                &tables.sets,
                 journal,
                 ledger.booked,
+                &mut memo,
                 j,
             )
             .outcome
@@ -74,10 +78,14 @@ pub fn dependencies(ledger: Ledger, journal: &[u8], vault: u8, job: u8) -> Listi
             let vaults = ledger.vaults;
             let state = ledger.vaults[v];
             let j = job as usize;
-            indexed::dependencies(
+            let tables = Tables::of(settings.version, journal, ledger.booked);
+            dependencies::dependencies(
+                Ok(()),
                 settings,
                 vaults,
                 state,
+                &tables.numbers,
+                &tables.sets,
                 settings.version,
                 journal,
                 ledger.booked,
@@ -97,7 +105,16 @@ pub fn equivocating(ledger: Ledger, journal: &[u8]) -> Listing
         Ok(()) => {
             let settings = ledger.settings;
             let votes = ledger.votes;
-            decisions::list(indexed::equivocating(settings, votes, journal, ledger.booked))
+            let tables = Tables::of(settings.version, journal, ledger.booked);
+            let found = equivocation::equivocating(
+                settings,
+                votes,
+                &tables.numbers,
+                &tables.sets,
+                journal,
+                ledger.booked,
+            );
+            decisions::list(found)
         }
         Err(why) => decisions::unlist(why),
     }

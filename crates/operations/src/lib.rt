@@ -3,12 +3,11 @@
 // from the crates below, which a check goes through one by one.
 #![tactic(auto)]
 
-mod indexed;
-
 ghost use Rattle.std.specs.Prelude.{◌≡◌};
 ghost use Rattle.ledger.specs.Steps.{journal_after, propose_of, snapshot_of};
 
 pub use amendments::{client_preflight, release};
+use gates::Tables;
 pub use inquiries::{dependencies, equivocating, generations, lookup, show};
 use ledger::{Ledger, Reply};
 use outcome::Refusal;
@@ -22,7 +21,9 @@ pub fn propose(ledger: Ledger, journal: &mut [u8], bytes: &[u8]) -> Reply
     if books::is_sane(ledger) {
         let version = ledger.settings.version;
         let booked = ledger.booked;
-        let decision = indexed::propose(version, &journal[..], booked, bytes);
+        let inside = journal::inside(version, &journal[..], booked);
+        let tables = Tables::of(version, &journal[..], inside);
+        let decision = proposals::propose(&tables.records, version, &journal[..], booked, bytes);
         let change = decision.change;
         gates::write(change, version, journal, booked, bytes);
         return gates::carry(ledger, decision, 0, 0);

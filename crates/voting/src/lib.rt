@@ -2,11 +2,10 @@
 // specs/Steps.antt, refused steps included. It is the row of checks, the decision that the run makes too, and what that changes applied.
 #![tactic(auto)]
 
-mod indexed;
-
 ghost use Rattle.std.specs.Prelude.{◌≡◌};
 ghost use Rattle.ledger.specs.Steps.{commit_of, faulty_vote_of, preflight_of};
 
+use gates::Tables;
 use ledger::{Ledger, Reply};
 use outcome::Verdict;
 use vaults::Column;
@@ -23,8 +22,12 @@ pub fn preflight(ledger: Ledger, journal: &[u8], vault: u8, job: u8) -> Reply
             let state = ledger.vaults[v];
             let votes = ledger.votes[j];
             let settings = ledger.settings;
-            let decision = indexed::preflight(
+            let tables = Tables::of(settings.version, journal, ledger.booked);
+            let decision = preflights::preflight(
+                gate,
                 state,
+                &tables.numbers,
+                &tables.sets,
                 settings.version,
                 journal,
                 ledger.booked,

@@ -38,6 +38,9 @@ bounds-ledger-j c = search by
 pub place-place-requires : goal.place-place-requires
 place-place-requires c = search by
 
+pub of-tables-requires : goal.of-tables-requires
+of-tables-requires c = search by
+
 pub client_preflight-decision-requires : goal.client_preflight-decision-requires
 client_preflight-decision-requires c = search by
 

@@ -1,3 +1,4 @@
+-- Through the open gate what was decided is carried; through the shut one the step is turned back.
 use Rattle.ledger.proofs.Gates.{ways}
 use Rattle.ledger.specs.State.{votes_in}
 use Rattle.ledger.specs.Steps.{release_decision, release_of}
@@ -19,6 +20,9 @@ bounds-ledger-v c = search by
 
 pub bounds-ledger-j : goal.bounds-ledger-j
 bounds-ledger-j c = search by
+
+pub of-tables-requires : goal.of-tables-requires
+of-tables-requires c = search by
 
 pub release-decision-requires : goal.release-decision-requires
 release-decision-requires c = search by

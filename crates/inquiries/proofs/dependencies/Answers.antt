@@ -1,3 +1,4 @@
+-- Through the open gate the jobs are those that the rule names; through the shut one nothing is listed.
 use Rattle.ledger.proofs.Gates.{ways}
 use Rattle.ledger.specs.Steps.{dependencies_of}
 use borrow.Author.Rules.{rules}
@@ -18,3 +19,6 @@ bounds-ledger-v c = search by
 
 pub dependencies-requires : goal.dependencies-requires
 dependencies-requires c = search by
+
+pub of-tables-requires : goal.of-tables-requires
+of-tables-requires c = search by

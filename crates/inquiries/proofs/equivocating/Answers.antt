@@ -15,5 +15,8 @@ pub returns-in-Err : goal.returns-in-Err
 unfolding equivocators_of
 returns-in-Err c = search by depth 8
 
-pub equivocating-requires : goal.equivocating-requires
-equivocating-requires c = search by depth 8
+pub equivocating-found-requires : goal.equivocating-found-requires
+equivocating-found-requires c = search by depth 8
+
+pub of-tables-requires : goal.of-tables-requires
+of-tables-requires c = search by

@@ -1,4 +1,4 @@
-use Rattle.ledger.proofs.Writes.{writes}
+use Rattle.ledger.proofs.Writes.{buildable, searchable, writes}
 use Rattle.ledger.proofs.Gates.{entering}
 use Rattle.ledger.specs.State.{applied}
 use Rattle.ledger.specs.Steps.{journal_after, propose_decision, propose_of, sane_gate}
@@ -6,7 +6,7 @@ use borrow.Author.Rules.{rules}
 use mathlib.Core.Path.{◌∙◌, sym}
 use Rattle.operations.proofs.propose.Goals as goal
 
-ruleset by = (entering, rules)
+ruleset by = (entering, buildable, searchable, rules)
 
 pub write-requires : goal.write-requires
 write-requires c = writes _ _ _ _ _ c.propose-decision.ensures
@@ -27,6 +27,9 @@ returns c =
       value = simp s c.turn_back.ensures;
       journal_after = simp s;
     }
+
+pub of-tables-requires : goal.of-tables-requires
+of-tables-requires c = search by
 
 pub propose-decision-requires : goal.propose-decision-requires
 propose-decision-requires c = search by
