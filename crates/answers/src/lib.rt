@@ -15,6 +15,7 @@ use outcome::Outcome;
 pub use values::{put_names, put_status};
 
 // The answer to a step of a kind; the bytes are those of the record that the step is about.
+#[tactic(auto, unfolding(explanations::specs::Answers::answer_text))]
 pub fn put_answer(
     out: &mut [u8],
     at: usize,
@@ -28,11 +29,17 @@ pub fn put_answer(
     ensures { Put out.old at (answer_text kind outcome members threshold bytes.now) out.new result
         × (result ≤ at + answer_long) }
 {
-    let number = outcome::number(outcome);
-    if number == 0 {
-        return values::put_done(out, at, kind, outcome::value(outcome), members);
+    match outcome {
+        Ok(value) => values::put_done(out, at, kind, value, members),
+        Err(why) => reasons::put_refused(
+            out,
+            at,
+            why.number(),
+            why.value() as u32,
+            threshold,
+            bytes,
+        ),
     }
-    reasons::put_refused(out, at, number, outcome::value(outcome), threshold, bytes)
 }
 
 // What is said of a file that check 1 turns back, at the front of `out`.

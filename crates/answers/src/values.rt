@@ -64,15 +64,11 @@ pub fn put_names(out: &mut [u8], at: usize, set: JobSet) -> usize
 {
     let mut end = at;
     let mut first = true;
-    let mut i: u8 = 0;
-    while i < 128 {
+    for i in 0..128 {
         if set.has(i as usize) {
             end = printing::put_member(out, end, first, i);
             first = false;
-            i += 1;
-            continue;
         }
-        i += 1;
     }
     if first {
         return words::put(out, end, b"none");
@@ -81,20 +77,16 @@ pub fn put_names(out: &mut [u8], at: usize, set: JobSet) -> usize
 }
 
 // The value of a step that was carried out.
+#[tactic(auto, unfolding(explanations::specs::Answers::figure))]
 fn put_figure(out: &mut [u8], at: usize, kind: u8, value: u32, members: JobSet) -> usize
     requires { at + 1412 ≤ length out.old }
     ensures { Put out.old at (figure kind value members) out.new result × (result ≤ at + 1412) }
 {
-    if kind == 6 {
-        return put_status(out, at, value);
+    match kind {
+        6 => put_status(out, at, value),
+        11 | 13 => put_names(out, at, members),
+        _ => digits::write_number(out, at, value),
     }
-    if kind == 11 {
-        return put_names(out, at, members);
-    }
-    if kind == 13 {
-        return put_names(out, at, members);
-    }
-    digits::write_number(out, at, value)
 }
 
 // What a step that was carried out answers: the value, after what it means.

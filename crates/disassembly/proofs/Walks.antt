@@ -1,8 +1,8 @@
 -- The steps of a file one after another: each can be read.
 use mathlib.Core.Bool.{Bool, false, true}
 use mathlib.Core.List.{List}
-use mathlib.Core.Path.{◌∙◌, ◌≡◌, ap, refl, sym}
-use Prim.Native.Nat.{◌-◌, ◌<◌, ◌≤◌, suc, ℕ}
+use mathlib.Core.Path.{◌∙◌, ◌≡◌, ap, sym}
+use Prim.Native.Nat.{◌+◌, ◌-◌, ◌<◌, ◌≤◌, suc, ℕ}
 use native.Mathlib.Omega.{arith}
 use lib.Dec.{leb}
 use lib.ListN.{length}
@@ -14,21 +14,21 @@ use Rattle.reading.specs.declared.Step.{Step}
 use Rattle.notation.proofs.Views.{opened_of}
 use Rattle.notation.specs.Files.{sayable, whole_from}
 
-pub record Walking (version : ℕ) (input : List ℕ) (left pos : ℕ) : Type 0 where
-  pub same : whole_from left version input pos ≡ whole_from (length input) version input 9
+pub record Walking (version : ℕ) (input : List ℕ) (passed pos : ℕ) : Type 0 where
+  pub same : whole_from (length input - passed) version input pos ≡ whole_from (length input) version input 9
   pub inside : pos ≤ length input
 
 module _ {version : ℕ} {input : List ℕ} where
-  pub walk_begun : 9 ≤ length input → Walking version input (length input) 9
-  walk_begun h = record { same = refl; inside = h }
+  pub walk_begun : 9 ≤ length input → Walking version input 0 9
+  walk_begun h = record { same = ap (λ (k : ℕ). whole_from k version input 9) (omega arith); inside = h }
 
-  module _ {left pos : ℕ} (now : Walking version input left pos) where
-    pub walk_none : (b : Bool) → left ≤ 0 → b ≡ leb (length input) pos → b ≡ whole_from (length input) version input 9
+  module _ {passed pos : ℕ} (now : Walking version input passed pos) where
+    pub walk_none : (b : Bool) → length input ≤ passed → b ≡ leb (length input) pos → b ≡ whole_from (length input) version input 9
     unfolding whole_from
-    walk_none b h e = let z : left ≡ 0 = omega arith in e ∙ sym (rw z) ∙ now.same
+    walk_none b h e = let z : length input - passed ≡ 0 = omega arith in e ∙ sym (rw z) ∙ now.same
 
-    module _ (some : 0 < left) where
-      lead : whole_from left version input pos ≡ whole_from (suc (left - 1)) version input pos
+    module _ (some : passed < length input) where
+      lead : whole_from (length input - passed) version input pos ≡ whole_from (suc (length input - (passed + 1))) version input pos
       lead = ap (λ (k : ℕ). whole_from k version input pos) (omega arith)
 
       pub walk_over : length input ≤ pos → true ≡ whole_from (length input) version input 9
@@ -39,7 +39,7 @@ module _ {version : ℕ} {input : List ℕ} where
         unknown : is_unknown (kind_at version input pos) ≡ b
         unknown = sym (is ∙ ap is_unknown read.kind_is)
 
-        pub walk_turn : b ≡ false → Walking version input (left - 1) s.end
+        pub walk_turn : b ≡ false → Walking version input (passed + 1) s.end
         unfolding whole_from
         walk_turn f = record {
           same = sym (lead ∙ rw (lt-leb (length input) pos here, unknown ∙ f, sym read.end_is)) ∙ now.same;

@@ -62,8 +62,7 @@ fn put_lines(version: u16, input: &[u8], out: &mut [u8], start: usize) -> usize
     let mut end = start;
     let mut pos = 9;
     while pos < input.len() {
-        let step = reading::step_at(version, input, pos, 0);
-        let next = step.end;
+        let next = reading::step_at(version, input, pos, 0).end;
         end = put_line(version, part(input, pos, next), out, end);
         pos = next;
     }
@@ -75,16 +74,13 @@ fn is_whole(input: &[u8], version: u16) -> bool
     requires { (9 ≤ length input.now) × (length input.now ≤ longest) }
     ensures { result ≡ whole_from (length input.now) version input.now 9 }
 {
-    let mut left = input.len();
     let mut pos = 9;
-    while 0 < left {
+    for _ in 0..input.len() {
         if input.len() <= pos {
             return true;
         }
-        left -= 1;
         let step = reading::step_at(version, input, pos, 0);
-        let kind = step.kind;
-        if kind_table::is_unknown(kind) {
+        if kind_table::is_unknown(step.kind) {
             return false;
         }
         pos = step.end;
@@ -96,10 +92,7 @@ fn is_whole(input: &[u8], version: u16) -> bool
 pub fn is_sayable(input: &[u8]) -> bool
     ensures { result ≡ sayable input.now }
 {
-    if header::opens(input) {
-        return is_whole(input, fields::word_at(input, 3));
-    }
-    false
+    header::opens(input) && is_whole(input, fields::word_at(input, 3))
 }
 
 // The text of a file stands at the front of `out` afterwards; or, where a text can't say the file, a comment that says so.

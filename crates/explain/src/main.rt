@@ -12,11 +12,9 @@ use std::io::Print;
 fn print_sheet(rt: &HostRuntime, ledger: Ledger, out: &mut [u8]) -> io::Result<()>
     requires { step_room ≤ length out.old }
 {
-    let mut job = 0;
-    while job < ledger.booked {
+    for job in 0..ledger.booked {
         let n = sheet::job_line(ledger, job, out);
         rt.write_all(parts::front(out, n))?;
-        job += 1;
     }
     Ok(())
 }

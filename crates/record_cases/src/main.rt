@@ -5,36 +5,18 @@
 
 ghost use Rattle.std.specs.Prelude.{◌≤◌, length};
 
-use outcome::{Outcome, Verdict};
-use scripts::ROOM;
+use scripts::{Figures, ROOM};
 use std::io;
 use std::io::Print;
 
-// The two figures of an answer.
-fn print_figures(rt: &HostRuntime, outcome: Outcome) -> io::Result<()> {
-    let number = outcome::number(outcome);
-    let value = outcome::value(outcome);
-    print!(rt; " {number} {value}")
-}
-
-// These, and the end of the line.
-fn print_answer(rt: &HostRuntime, outcome: Outcome) -> io::Result<()> {
-    print_figures(rt, outcome)?;
-    println!(rt)
-}
-
 // The answer of checks 6 to 9: that of a step with the value 0 where all pass.
-fn examine(version: u16, bytes: &[u8]) -> Outcome {
-    let verdict = examination::examine(version, bytes);
-    match verdict {
-        Ok(()) => Ok(0),
-        Err(why) => Err(why),
-    }
+fn examine(version: u16, bytes: &[u8]) -> Figures {
+    Figures(examination::examine(version, bytes).map(|()| 0))
 }
 
 fn move_by(bytes: &mut [u8; ROOM], at: usize, step: u8) {
-    if at < ROOM {
-        bytes[at] = std::num::wrapping_add_u8(bytes[at], step);
+    if let Some(byte) = bytes.get_mut(at) {
+        *byte = byte.wrapping_add(step);
     }
 }
 
@@ -46,14 +28,12 @@ fn move_byte(
     end: usize,
     at: usize,
 ) -> io::Result<()> {
-    print!(rt; " up")?;
     move_by(bytes, at, 1);
-    print_figures(rt, examine(version, scripts::body(bytes, end)))?;
-    print!(rt; " down")?;
+    let up = examine(version, scripts::body(bytes, end));
     move_by(bytes, at, 254);
-    print_answer(rt, examine(version, scripts::body(bytes, end)))?;
+    let down = examine(version, scripts::body(bytes, end));
     move_by(bytes, at, 1);
-    Ok(())
+    println!(rt; " up {up} down {down}")
 }
 
 fn sweep(rt: &HostRuntime, version: u16, bytes: &mut [u8; ROOM], end: usize) -> io::Result<()> {
@@ -72,7 +52,8 @@ fn answer(
     end: usize,
     swept: u8,
 ) -> io::Result<()> {
-    print_answer(rt, examine(version, scripts::body(bytes, end)))?;
+    let figures = examine(version, scripts::body(bytes, end));
+    println!(rt; " {figures}")?;
     if swept == 0 {
         sweep(rt, version, bytes, end)?;
     }

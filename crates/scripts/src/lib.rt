@@ -6,10 +6,24 @@ ghost use Rattle.notation.specs.Lines.{step_read};
 ghost use Rattle.parsing.specs.Took.{ReadTo};
 ghost use Rattle.scripts.specs.Lines.{end_of, is_comment, is_shown};
 
+use outcome::Outcome;
 use parsing::{Parsed, Token};
+use std::fmt;
 
 // Room for the bytes of a step, whose row has at most 180 characters.
 pub const ROOM: usize = 1024;
+
+// An answer as the cases print it: its two figures.
+#[derive(Clone, Copy)]
+pub struct Figures(pub Outcome);
+
+impl fmt::Display for Figures {
+    fn fmt<W: fmt::Write>(&self, f: &mut fmt::Formatter<W>) -> fmt::Result {
+        let number = outcome::number(self.0);
+        let value = outcome::value(self.0);
+        write!(f, "{number} {value}")
+    }
+}
 
 // The bytes from a place up to another; none where these are not inside.
 pub fn part(bytes: &[u8], from: usize, to: usize) -> &[u8]

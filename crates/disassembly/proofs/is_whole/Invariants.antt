@@ -1,9 +1,6 @@
--- Each turn passes over a step.
+-- Each turn passes over a step, and a file has no more steps than bytes.
 use Rattle.disassembly.proofs.Walks.{Walking}
 use Rattle.disassembly.proofs.is_whole.Given as goal
 
-abbrev pub invariant-loop-left : goal.invariant-loop-left
-invariant-loop-left l = Walking l.version l.input l.left l.pos
-
-abbrev pub decreases-loop-left : goal.decreases-loop-left
-decreases-loop-left l = l.left
+abbrev pub invariant-loop : goal.invariant-loop
+invariant-loop l = Walking l.version l.input l.counter l.pos

@@ -10,20 +10,5 @@ pub returns : goal.returns
 unfolding line_of
 returns c = search by
 
-pub slice_bounds-row_of-end : goal.slice_bounds-row_of-end
-slice_bounds-row_of-end c = search by
-
-pub row_of-n-requires : goal.row_of-n-requires
-row_of-n-requires c = search by
-
-pub slice_bounds-front-end : goal.slice_bounds-front-end
-slice_bounds-front-end c = search by
-
-pub front-requires : goal.front-requires
-front-requires c = search by
-
 pub write_row-requires : goal.write_row-requires
 write_row-requires c = search by
-
-pub shape_of-out : goal.shape_of-out
-shape_of-out c = search by

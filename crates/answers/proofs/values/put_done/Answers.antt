@@ -1,17 +1,9 @@
-use Rattle.answers.proofs.Parts.{done_put}
-use borrow.Author.Rules.{rules}
+-- The value stands after what it means.
+use Rattle.digits.proofs.Writing.{then}
+use Rattle.explanations.specs.Answers.{done_text}
+use native.Mathlib.Omega.{arith}
 use Rattle.answers.proofs.values.put_done.Goals as goal
 
-ruleset by = (done_put, rules)
-
-pub put_meaning-end-requires : goal.put_meaning-end-requires
-put_meaning-end-requires c = search by
-
-pub put_figure-requires : goal.put_figure-requires
-put_figure-requires c = search by
-
-pub shape_of-out : goal.shape_of-out
-shape_of-out c = search by
-
 pub returns : goal.returns
-returns c = search by
+unfolding done_text
+returns c = (then c.put_meaning-end.ensures.0 c.put_figure.ensures.0, omega (arith, c.put_meaning-end.ensures.1, c.put_figure.ensures.1))

@@ -1,20 +1,20 @@
--- Each turn writes a member.
+-- Each turn writes a member, or passes a number over.
 use Rattle.answers.proofs.Names.{name_begun, name_end, name_none, name_pass, name_turn}
 use native.Mathlib.Omega.{arith}
-use borrow.Author.Rules.{rules}
 use Rattle.answers.proofs.values.put_names.Goals as goal
-
-ruleset by = (name_begun, name_pass, rules)
+use Rattle.answers.proofs.values.put_names.Goals.{else-has, then-has}
 
 pub loop-i-init : goal.loop-i-init
-loop-i-init c = search by
-
-pub loop-i-preserved-then-has : goal.loop-i-preserved-then-has
-loop-i-preserved-then-has c =
-    name_turn c.loop-i.invariant _ _ _ c.loop-i-test.true c.has.ensures c.if-has.true c.put_member-end.ensures.0 c.put_member-end.ensures.1
+loop-i-init c = name_begun _ _ _
 
 pub loop-i-preserved : goal.loop-i-preserved
-loop-i-preserved c = search by
+loop-i-preserved c =
+    let l = c.loop-i.invariant in
+    elim c.if-has.branch [
+      | then-has w ↦ rw (w.out-is, w.end-is, w.first-is)
+          (name_turn l _ _ _ c.loop-i-test.true c.has.ensures w.if-has.true w.put_member-end.ensures.0 w.put_member-end.ensures.1)
+      | else-has w ↦ rw (w.out-is, w.end-is, w.first-is) (name_pass l _ c.loop-i-test.true c.has.ensures w.if-has.false)
+    ]
 
 pub returns-then-first : goal.returns-then-first
 returns-then-first c =
