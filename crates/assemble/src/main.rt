@@ -5,22 +5,22 @@ use std::io;
 use std::io::Print;
 
 // The reasons in words, by their numbers.
-fn print_reason(rt: &HostRuntime, reason: u8) -> io::Result<()> {
+fn words_of(reason: u8) -> &'static str {
     match reason {
-        1 => print!(rt; "a number is missing"),
-        2 => print!(rt; "the number is too large"),
-        3 => print!(rt; "the set names a vault above 15"),
-        4 => print!(rt; "the label is not eight characters of A to Z and 0 to 9"),
-        5 => print!(rt; "two hexadecimal digits are missing"),
-        6 => print!(rt; "the line does not go on as its first word asks"),
-        7 => print!(rt; "unknown word"),
-        8 => print!(rt; "more stands on the line than it should"),
-        9 => print!(rt; "too many entries: four at most on either side"),
-        10 => print!(rt; "a second header"),
-        11 => print!(rt; "the header is missing: vaults N tolerate B faulty SET"),
-        12 => print!(rt; "the settings are wrong"),
-        13 => print!(rt; "the file would be longer than 65536 bytes"),
-        _ => print!(rt; "unknown reason"),
+        1 => "a number is missing",
+        2 => "the number is too large",
+        3 => "the set names a vault above 15",
+        4 => "the label is not eight characters of A to Z and 0 to 9",
+        5 => "two hexadecimal digits are missing",
+        6 => "the line does not go on as its first word asks",
+        7 => "unknown word",
+        8 => "more stands on the line than it should",
+        9 => "too many entries: four at most on either side",
+        10 => "a second header",
+        11 => "the header is missing: vaults N tolerate B faulty SET",
+        12 => "the settings are wrong",
+        13 => "the file would be longer than 65536 bytes",
+        _ => "unknown reason",
     }
 }
 
@@ -31,9 +31,8 @@ fn assemble(rt: &HostRuntime, text: &[u8]) -> io::Result<()> {
         return rt.write_all(parts::front(&out, made.end));
     }
     let line = made.line;
-    print!(rt; "line {line}: ")?;
-    print_reason(rt, made.reason)?;
-    println!(rt)
+    let reason = words_of(made.reason);
+    println!(rt; "line {line}: {reason}")
 }
 
 fn main(rt: HostRuntime) -> io::Result<()> {

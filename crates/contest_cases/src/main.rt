@@ -7,16 +7,16 @@ use outcome::Refusal;
 use std::io;
 
 fn say_prospect(rt: &HostRuntime, prospect: Prospect) -> io::Result<()> {
-    match prospect {
-        Prospect::First => print!(rt; "first"),
-        Prospect::Second => print!(rt; "second"),
-        Prospect::Neither => print!(rt; "neither"),
-    }
+    let winner = match prospect {
+        Prospect::First => "first",
+        Prospect::Second => "second",
+        Prospect::Neither => "neither",
+    };
+    print!(rt; "{winner}")
 }
 
 fn say_outlook(rt: &HostRuntime, outlook: Outlook) -> io::Result<()> {
-    let prospect = outlook.prospect;
-    say_prospect(rt, prospect)?;
+    say_prospect(rt, outlook.prospect)?;
     if outlook.both {
         print!(rt; " both")?;
     }

@@ -9,40 +9,31 @@ ghost use Rattle.std.specs.Prelude.{◌≤◌};
 
 use ledger::{Ledger, Listing, Reply};
 use outcome::Outcome;
-use scripts::ROOM;
+use scripts::{Figures, ROOM};
 use std::io;
 use vaults::Column;
 
 // Room for 128 records of either version.
 const JOURNAL: usize = 13312;
 
-// The two figures of an answer.
-fn print_figures(rt: &HostRuntime, outcome: Outcome) -> io::Result<()> {
-    let number = outcome::number(outcome);
-    let value = outcome::value(outcome);
-    print!(rt; " {number} {value}")
-}
-
-// These, and the end of the line.
+// The two figures of an answer, and the end of the line.
 fn print_answer(rt: &HostRuntime, outcome: Outcome) -> io::Result<()> {
-    print_figures(rt, outcome)?;
-    println!(rt)
+    let figures = Figures(outcome);
+    println!(rt; " {figures}")
 }
 
 // The figures of a step, and the ledger that it left.
 fn report(rt: &HostRuntime, reply: Reply) -> io::Result<Ledger> {
-    let outcome = reply.outcome;
-    print_answer(rt, outcome)?;
+    print_answer(rt, reply.outcome)?;
     Ok(reply.ledger)
 }
 
 // The figures of a step, and the jobs or the vaults that it lists.
 fn list(rt: &HostRuntime, listing: Listing) -> io::Result<()> {
-    let outcome = listing.outcome;
-    let members = listing.members;
-    print_figures(rt, outcome)?;
+    let figures = Figures(listing.outcome);
+    print!(rt; " {figures}")?;
     for k in 0..128 {
-        if members.has(k) {
+        if listing.members.has(k) {
             print!(rt; " {k}")?;
         }
     }
@@ -125,15 +116,6 @@ fn step(
     }
 }
 
-fn least(a: usize, b: usize) -> usize
-    ensures { result ≤ b }
-{
-    if a < b {
-        return a;
-    }
-    b
-}
-
 // Before the first line of settings the ledger is one that turns every step back.
 fn carry_out(rt: &HostRuntime, text: &[u8], journal: &mut [u8]) -> io::Result<()> {
     let mut ledger = books::new(0, 0, 0, 0).ledger;
@@ -143,7 +125,7 @@ fn carry_out(rt: &HostRuntime, text: &[u8], journal: &mut [u8]) -> io::Result<()
         let mut bytes = [0u8; ROOM];
         let settings = ledger.settings;
         let case = case_lines::read_line(rt, settings.version, text, at, next, &mut bytes)?;
-        let n = least(case.lent, journal.len());
+        let n = case.lent.min(journal.len());
         ledger = step(
             rt,
             ledger,
