@@ -2,21 +2,34 @@
 #![tactic(auto)]
 
 ghost use Rattle.std.specs.Prelude.{◌≡◌, ◌<◌, ◌≤◌, length};
+ghost use Rattle.generations.specs.Generations.{is_at};
 ghost use Rattle.ledger.specs.State.{arriving, has_arrived};
 
 use journal::CAPACITY;
 use ledger::Ledger;
 
-// Whether the job is among the first n of the arrival order.
+fn is_arrival(order: &[u8], job: u8, i: usize) -> bool
+    requires { i < length order.now }
+    ensures { result ≡ is_at order.now job i }
+{
+    order[i] == job
+}
+
+// Whether the job is among the first n of the arrival order. A loop by hand: by `contains`
+// each step that changes the ledger has it cleared once more in memory.
 fn has_arrived(order: &[u8], n: usize, job: u8) -> bool
     requires { n ≤ length order.now }
     ensures { result ≡ has_arrived order.now n job }
 {
-    order[..n].contains(&job)
+    for i in 0..n {
+        if is_arrival(order, job, i) {
+            return true;
+        }
+    }
+    false
 }
 
 // The job goes to the end of the arrival order, unless it is there or the order is full.
-// Two tests, since one by `||` has the ledger copied once more.
 pub fn arrive(mut ledger: Ledger, job: u8) -> Ledger
     ensures { result ≡ arriving ledger job }
 {
