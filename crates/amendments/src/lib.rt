@@ -20,7 +20,8 @@ pub fn release(ledger: Ledger, journal: &[u8], vault: u8, job: u8, rival: u8) ->
             let state = ledger.vaults[v];
             let votes = ledger.votes[j];
             let settings = ledger.settings;
-            let tables = Tables::of(settings.version, journal, ledger.booked);
+            let mut tables = Tables::blank();
+            tables.enter(settings.version, journal, ledger.booked);
             let decision = supersession::release(
                 gate,
                 state,
@@ -54,7 +55,8 @@ pub fn client_preflight(ledger: Ledger, journal: &[u8], vault: u8, job: u8, clie
             let place = quota::place(vault, client);
             let history = ledger.histories[place];
             let settings = ledger.settings;
-            let tables = Tables::of(settings.version, journal, ledger.booked);
+            let mut tables = Tables::blank();
+            tables.enter(settings.version, journal, ledger.booked);
             let decision = preflights::client_preflight(
                 gate,
                 state,

@@ -2,19 +2,26 @@
 #![tactic(auto)]
 
 ghost use Rattle.std.specs.Prelude.{◌≡◌};
-ghost use Rattle.ranges.specs.Tighten.{checks_of, tighten_of};
+ghost use Rattle.ranges.specs.Tighten.{first_failing, checks_of, tighten_of};
 
 use outcome::Verdict;
 use ranges::{Estimate, Tightened};
 
+fn first_failing(earlier: Verdict, later: Verdict) -> Verdict
+    ensures { result ≡ first_failing earlier later }
+{
+    earlier?;
+    later
+}
+
 // The first of checks 6 to 8, 24 and 25 that the estimate fails.
-#[tactic(auto, unfolding(ranges::specs::Tighten::checks_of))]
 fn check(e: Estimate) -> Verdict
     ensures { result ≡ checks_of e }
 {
-    estimate_forms::check(e)?;
-    spans::check_order(e)?;
-    spans::check_balance(e)
+    let form = estimate_forms::check(e);
+    let order = spans::check_order(e);
+    let balance = spans::check_balance(e);
+    first_failing(form, first_failing(order, balance))
 }
 
 pub fn tighten(e: Estimate) -> Tightened

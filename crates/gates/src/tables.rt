@@ -1,7 +1,7 @@
 // The index of a lent journal, for the decisions that look into one.
 ghost use Rattle.std.specs.Prelude.{◌*◌, ◌≤◌, length};
 ghost use Rattle.codec.specs.Codec.{place_of};
-ghost use Rattle.index.specs.Index.{Indexed};
+ghost use Rattle.index.specs.Index.{Blank, Indexed};
 ghost use Rattle.journal.specs.Journal.{capacity};
 
 #[derive(Drop)]
@@ -12,24 +12,29 @@ pub struct Tables {
 }
 
 impl Tables {
-    // The index of the first n records.
-    pub fn of(version: u16, journal: &[u8], n: usize) -> Tables
-        requires { (n ≤ capacity) × (place_of version n ≤ length journal.now) }
-        ensures { Indexed version journal.now n result.numbers result.sets result.records }
+    // Those of no records.
+    pub fn blank() -> Tables
+        ensures { Blank result.numbers result.sets result.records }
     {
-        let mut tables = Tables {
+        Tables {
             numbers: [0; index::NUMBERS],
             sets: [0; index::SETS],
             records: [0; index::RECORDS],
-        };
+        }
+    }
+
+    // Enters the first n records. In place, since a table that is handed back by value is copied.
+    pub fn enter(&mut self, version: u16, journal: &[u8], n: usize)
+        requires { (n ≤ capacity) × (place_of version n ≤ length journal.now) × Blank self.old.numbers self.old.sets self.old.records }
+        ensures { Indexed version journal.now n self.new.numbers self.new.sets self.new.records }
+    {
         indexing::build(
-            &mut tables.numbers,
-            &mut tables.sets,
-            &mut tables.records,
+            &mut self.numbers,
+            &mut self.sets,
+            &mut self.records,
             version,
             journal,
             n,
         );
-        tables
     }
 }

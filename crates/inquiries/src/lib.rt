@@ -46,7 +46,8 @@ pub fn generations(ledger: Ledger, journal: &[u8], job: u8) -> Outcome
             let vaults = ledger.vaults;
             let order = ledger.order;
             let j = job as usize;
-            let tables = Tables::of(settings.version, journal, ledger.booked);
+            let mut tables = Tables::blank();
+            tables.enter(settings.version, journal, ledger.booked);
             let mut memo = [0u8; journal::CAPACITY];
             dependencies::generations(
                 settings,
@@ -78,7 +79,8 @@ pub fn dependencies(ledger: Ledger, journal: &[u8], vault: u8, job: u8) -> Listi
             let vaults = ledger.vaults;
             let state = ledger.vaults[v];
             let j = job as usize;
-            let tables = Tables::of(settings.version, journal, ledger.booked);
+            let mut tables = Tables::blank();
+            tables.enter(settings.version, journal, ledger.booked);
             dependencies::dependencies(
                 Ok(()),
                 settings,
@@ -105,7 +107,8 @@ pub fn equivocating(ledger: Ledger, journal: &[u8]) -> Listing
         Ok(()) => {
             let settings = ledger.settings;
             let votes = ledger.votes;
-            let tables = Tables::of(settings.version, journal, ledger.booked);
+            let mut tables = Tables::blank();
+            tables.enter(settings.version, journal, ledger.booked);
             let found = equivocation::equivocating(
                 settings,
                 votes,

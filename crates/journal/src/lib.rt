@@ -29,7 +29,7 @@ pub fn lookup(version: u16, journal: &[u8], booked: usize, job: usize) -> &[u8]
     if is_booked(version, journal, booked, job) {
         return slot(version, journal, job);
     }
-    &[]
+    &journal[..0]
 }
 
 // The bytes in place k. A helper for whoever keeps a journal, not a step: the place lies inside. The index reads entries by it, and a test

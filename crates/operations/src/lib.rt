@@ -22,7 +22,8 @@ pub fn propose(ledger: Ledger, journal: &mut [u8], bytes: &[u8]) -> Reply
         let version = ledger.settings.version;
         let booked = ledger.booked;
         let inside = journal::inside(version, &journal[..], booked);
-        let tables = Tables::of(version, &journal[..], inside);
+        let mut tables = Tables::blank();
+        tables.enter(version, &journal[..], inside);
         let decision = proposals::propose(&tables.records, version, &journal[..], booked, bytes);
         let change = decision.change;
         gates::write(change, version, journal, booked, bytes);

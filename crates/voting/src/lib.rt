@@ -22,7 +22,8 @@ pub fn preflight(ledger: Ledger, journal: &[u8], vault: u8, job: u8) -> Reply
             let state = ledger.vaults[v];
             let votes = ledger.votes[j];
             let settings = ledger.settings;
-            let tables = Tables::of(settings.version, journal, ledger.booked);
+            let mut tables = Tables::blank();
+            tables.enter(settings.version, journal, ledger.booked);
             let decision = preflights::preflight(
                 gate,
                 state,

@@ -1,7 +1,7 @@
 -- As for a preflight; the history that is read is the one at the place of this client and vault.
 use Prim.Native.Nat.{ℕ}
 use lib.ListN.{get_or}
-use Rattle.ledger.proofs.Gates.{ways}
+use Rattle.ledger.proofs.Gates.{placed_few, placed_known, ways}
 use Rattle.ledger.specs.Decisions.{client_preflighting}
 use Rattle.ledger.specs.State.{history_at, votes_in}
 use Rattle.ledger.specs.Steps.{client_preflight_decision, client_preflight_of}
@@ -38,8 +38,12 @@ bounds-ledger-j c = search by
 pub place-place-requires : goal.place-place-requires
 place-place-requires c = search by
 
-pub of-tables-requires : goal.of-tables-requires
-of-tables-requires c = search by
+pub enter-requires : goal.enter-requires
+enter-requires c = (
+  placed_few _ _ _ _ _ _ c.vault_gate-gate.ensures c.in-Ok.is,
+  (placed_known _ _ _ _ _ _ c.vault_gate-gate.ensures c.in-Ok.is).inside,
+  c.blank-tables.ensures,
+)
 
 pub client_preflight-decision-requires : goal.client_preflight-decision-requires
 client_preflight-decision-requires c = search by

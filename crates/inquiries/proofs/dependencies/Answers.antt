@@ -1,6 +1,7 @@
 -- Through the open gate the jobs are those that the rule names; through the shut one nothing is listed.
-use Rattle.ledger.proofs.Gates.{ways}
+use Rattle.ledger.proofs.Gates.{placed_few, placed_known, placed_vaults, ways}
 use Rattle.ledger.specs.Steps.{dependencies_of}
+use Rattle.index.proofs.Tables.{entries_part}
 use borrow.Author.Rules.{rules}
 use Rattle.inquiries.proofs.dependencies.Goals as goal
 
@@ -18,7 +19,16 @@ pub bounds-ledger-v : goal.bounds-ledger-v
 bounds-ledger-v c = search by
 
 pub dependencies-requires : goal.dependencies-requires
-dependencies-requires c = search by
+dependencies-requires c =
+    let k = placed_known _ _ _ _ _ _ c.vault_gate-gate.ensures c.in-Ok.is in (
+      placed_vaults _ _ _ _ _ _ c.vault_gate-gate.ensures c.in-Ok.is,
+      record { below = λ e. k.below },
+      entries_part _ _ _ _ _ _ c.enter.ensures,
+    )
 
-pub of-tables-requires : goal.of-tables-requires
-of-tables-requires c = search by
+pub enter-requires : goal.enter-requires
+enter-requires c = (
+  placed_few _ _ _ _ _ _ c.vault_gate-gate.ensures c.in-Ok.is,
+  (placed_known _ _ _ _ _ _ c.vault_gate-gate.ensures c.in-Ok.is).inside,
+  c.blank-tables.ensures,
+)

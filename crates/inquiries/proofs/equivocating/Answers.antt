@@ -1,7 +1,7 @@
 -- Through the open gate the vaults are those that the rule names; through the shut one nothing is listed.
 use borrow.Author.Rules.{rules}
 use Rattle.equivocation.proofs.Partners.{listed_by_lem}
-use Rattle.ledger.proofs.Gates.{ways}
+use Rattle.ledger.proofs.Gates.{ways, whole_few, whole_inside}
 use Rattle.ledger.specs.Steps.{equivocators_of}
 use Rattle.inquiries.proofs.equivocating.Goals as goal
 
@@ -18,5 +18,9 @@ returns-in-Err c = search by depth 8
 pub equivocating-found-requires : goal.equivocating-found-requires
 equivocating-found-requires c = search by depth 8
 
-pub of-tables-requires : goal.of-tables-requires
-of-tables-requires c = search by
+pub enter-requires : goal.enter-requires
+enter-requires c = (
+  whole_few _ _ _ c.whole_gate-gate.ensures c.in-Ok.is,
+  whole_inside _ _ _ c.whole_gate-gate.ensures c.in-Ok.is,
+  c.blank-tables.ensures,
+)

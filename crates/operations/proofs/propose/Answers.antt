@@ -1,5 +1,5 @@
 use Rattle.ledger.proofs.Writes.{buildable, searchable, writes}
-use Rattle.ledger.proofs.Gates.{entering}
+use Rattle.ledger.proofs.Gates.{entering, sane_booked}
 use Rattle.ledger.specs.State.{applied}
 use Rattle.ledger.specs.Steps.{journal_after, propose_decision, propose_of, sane_gate}
 use borrow.Author.Rules.{rules}
@@ -28,8 +28,10 @@ returns c =
       journal_after = simp s;
     }
 
-pub of-tables-requires : goal.of-tables-requires
-of-tables-requires c = search by
+pub enter-requires : goal.enter-requires
+enter-requires c =
+    let b = buildable _ _ _ _ (sane_booked _ _ c.is_sane.ensures c.if-is_sane.true) c.inside-inside.ensures in
+    (b.0, b.1, c.blank-tables.ensures)
 
 pub propose-decision-requires : goal.propose-decision-requires
 propose-decision-requires c = search by

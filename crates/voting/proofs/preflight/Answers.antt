@@ -21,8 +21,8 @@ bounds-ledger-v c = search by
 pub bounds-ledger-j : goal.bounds-ledger-j
 bounds-ledger-j c = search by
 
-pub of-tables-requires : goal.of-tables-requires
-of-tables-requires c = search by
+pub enter-requires : goal.enter-requires
+enter-requires c = (search by, search by, c.blank-tables.ensures)
 
 pub preflight-decision-requires : goal.preflight-decision-requires
 preflight-decision-requires c = search by
