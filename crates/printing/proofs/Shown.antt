@@ -5,7 +5,7 @@ use mathlib.Core.Path.{◌∙◌, ◌≡◌, ap, refl, sym}
 use Prim.Native.Nat.{◌%◌, ◌*◌, ◌+◌, ◌-◌, ◌/◌, ◌<◌, ◌^◌, ◌≤◌, suc, zero, ℕ}
 use native.Mathlib.Nat.{add-zero}
 use native.Mathlib.Omega.{arith}
-use lib.Dec.{eqb}
+use lib.Dec.{eqb, ltb}
 use lib.ListN.{drop, get_or, length, length-append}
 use lib.Seq.{get_or-drop, length-sets, sets}
 use borrow.Author.Tests.{eq-eqb, le-ltb, lt-ltb, ne_eqb}
@@ -13,8 +13,9 @@ use Rattle.codec.proofs.Numbers.{sets_append}
 use Rattle.codec.specs.Codec.{le_at}
 use Rattle.rows.proofs.Lengths.{item_few}
 use Rattle.rows.proofs.Numbers.{above}
-use Rattle.rows.specs.Items.{fits_as, form_of, hexadecimal, literal, members, number, hex_digit, is_plain, listed, set_text, text_as, width}
+use Rattle.rows.specs.Items.{Form, constant, fits_as, form_of, hexadecimal, literal, members, number, plain, hex_digit, is_plain, listed, set_text, text_as, width}
 use Rattle.rows.specs.Table.{letters}
+use Rattle.rows.specs.Writing.{longest_as}
 use Rattle.sets.specs.Bits.{has_bit}
 use Rattle.digits.proofs.Writing.{then}
 use Rattle.digits.specs.Digits.{Put, decimal}
@@ -101,6 +102,28 @@ module _ (i v : ℕ) {o p : List ℕ} {at r : ℕ} (fit : v < 256 ^ width (form_
 pub shows_nothing : (i v : ℕ) (o : List ℕ) (at : ℕ) → i < 32 → Shown i v o at o at
 unfolding form_of
 shows_nothing i v o at h = record { put = rw (lt-ltb i 32 h) (put_none o at); few = omega arith }
+
+-- a character that stands for no bytes stands for itself
+unfoldable tested : (a b c d e f : Bool) → Form
+tested a b c d e f = cond a constant (cond b (number 1) (cond c (number 4) (cond d members (cond e hexadecimal (cond f plain literal)))))
+
+itself : (a b c d e f : Bool) (i v : ℕ) {o p : List ℕ} {at r : ℕ} → width (tested a b c d e f) ≡ 0 → Put o at (i ∷ []) p r → r ≤ at + 1
+    → Put o at (text_as (tested a b c d e f) i v) p r × (r ≤ at + longest_as (tested a b c d e f))
+unfolding tested
+itself true b c d e f i v n w k = absurd (omega (arith, n))
+itself false true c d e f i v n w k = absurd (omega (arith, n))
+itself false false true d e f i v n w k = absurd (omega (arith, n))
+itself false false false true e f i v n w k = absurd (omega (arith, n))
+itself false false false false true f i v n w k = absurd (omega (arith, n))
+itself false false false false false true i v n w k = absurd (omega (arith, n))
+itself false false false false false false i v n w k = (w, k)
+
+pub shows_itself : (i v : ℕ) {w : ℕ} {o p : List ℕ} {at r : ℕ} → w ≡ width (form_of i) → w ≡ 0 → Put o at (i ∷ []) p r → r ≤ at + 1
+    → Shown i v o at p r
+unfolding form_of tested
+shows_itself i v wide e w k =
+    let both = itself (ltb i 32) (eqb i 35) (eqb i 36) (eqb i 64) (eqb i 37) (eqb i 63) i v (sym wide ∙ e) w k in
+    record { put = both.0; few = both.1 }
 
 -- a value fits its width
 pub set_below : (i v : ℕ) → i ≡ 64 → v < 256 ^ width (form_of i) → v < 65536

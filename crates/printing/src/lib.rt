@@ -45,7 +45,12 @@ pub fn write_row(row: &[u8], step: &[u8], out: &mut [u8], start: usize) -> usize
     let mut at = 0;
     for &c in row {
         let width = parsing::width(c);
-        end = items::write(c, value_at(step, at, width), out, end);
+        // A character that stands for no bytes stands for itself.
+        end = if width == 0 {
+            digits::write_byte(out, end, c)
+        } else {
+            items::write(c, value_at(step, at, width), out, end)
+        };
         at += width;
     }
     end
