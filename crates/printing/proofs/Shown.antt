@@ -13,7 +13,23 @@ use Rattle.codec.proofs.Numbers.{sets_append}
 use Rattle.codec.specs.Codec.{le_at}
 use Rattle.rows.proofs.Lengths.{item_few}
 use Rattle.rows.proofs.Numbers.{above}
-use Rattle.rows.specs.Items.{Form, constant, fits_as, form_of, hexadecimal, literal, members, number, plain, hex_digit, is_plain, listed, set_text, text_as, width}
+use Rattle.rows.specs.Items.{
+  Form,
+  constant,
+  fits_as,
+  form_of,
+  hexadecimal,
+  literal,
+  members,
+  number,
+  plain,
+  hex_digit,
+  is_plain,
+  listed,
+  set_text,
+  text_as,
+  width,
+}
 use Rattle.rows.specs.Table.{letters}
 use Rattle.rows.specs.Writing.{longest_as}
 use Rattle.sets.specs.Bits.{has_bit}
